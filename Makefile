@@ -1,0 +1,17 @@
+# `make help` lists the targets.
+KIT := rattle-kit-5b logic 064da1ca440f63e7
+LOGIC := $(lastword $(KIT))
+
+.PHONY: help kit test
+
+help:
+	@echo 'make test    prove every crate, try the must-fail edits, run the programs'
+	@echo 'make help    this list'
+
+# one clear line where the toolchain is missing or proves by another logic
+kit:
+	@have=$$(rt version 2>/dev/null) || have='no rt on the PATH'; \
+	case "$$have" in *' $(LOGIC)') ;; *) echo "toruxeng is proved with '$(KIT)'; found: $$have" >&2; exit 1 ;; esac
+
+test: kit
+	@rt ci
