@@ -1,0 +1,9 @@
+pub mod Lists
+pub mod Table
+pub mod Store
+pub mod Seeing
+pub mod Verdict
+pub mod Steps
+pub mod Refusals
+pub mod Shape
+pub mod Machine

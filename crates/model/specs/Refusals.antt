@@ -1,0 +1,128 @@
+-- The refusals: each with its number, when it is given, and in which order.
+use Prim.Native.Nat.{ℕ, zero, suc, _+_, min}
+use mathlib.Core.Bool.{Bool, true, false, cond, not, _&&_, _||_}
+use mathlib.Core.Option.{Option, none, some}
+use mathlib.Core.List.{List, [], _∷_, _++_}
+use lib.Dec.{eqb, ltb, leb}
+use lib.ListN.{length}
+use Rattle.limits.specs.Limits.{mostRows, mostVersions, mostBuckets, mostLive, mostIndexReads, mostRecords, mostWrites, lastNumber}
+use Rattle.model.specs.Lists.{pick, first, some-of}
+use Rattle.model.specs.Store.{Sizes, Txn, Store, rank, bucketOf}
+use Rattle.model.specs.Seeing.{live}
+use Rattle.model.specs.Verdict.{verdict, verdictNumber}
+use Rattle.model.specs.Steps.{hasRead, foundRows, recordsAfter, pendingRows, readBuckets, neededBuckets}
+
+pub data Refusal : Type 0 where
+  WrongSize NoNumbers Full NoSuch WrongPhase NoRow Taken Stale Marked ManyReads NoRoom ManyRecords ManyWrites NoVersions Conflict Malformed WrongShape : Refusal
+
+-- document 01's number for each refusal
+abbrev pub refusalNumber : Refusal → ℕ
+refusalNumber WrongSize = 1
+refusalNumber NoNumbers = 2
+refusalNumber Full = 3
+refusalNumber NoSuch = 4
+refusalNumber WrongPhase = 5
+refusalNumber NoRow = 6
+refusalNumber Taken = 7
+refusalNumber Stale = 8
+refusalNumber Marked = 8
+refusalNumber ManyReads = 9
+refusalNumber NoRoom = 10
+refusalNumber ManyRecords = 11
+refusalNumber ManyWrites = 12
+refusalNumber NoVersions = 13
+refusalNumber Conflict = 14
+refusalNumber Malformed = 15
+refusalNumber WrongShape = 16
+
+-- the steps that a store is asked for; T is a transaction number
+pub data Step : Type 0 where
+  begin : Step
+  capture : ℕ → ℕ → Step
+  collect : ℕ → Step
+  rows : ℕ → ℕ → Step
+  put : ℕ → ℕ → ℕ → ℕ → Step
+  erase : ℕ → ℕ → Step
+  prepare : ℕ → Step
+  install : ℕ → Step
+  end : ℕ → Step
+  publish : ℕ → Step
+  validate : ℕ → Step
+  abort : ℕ → Step
+
+-- the first place whose transaction has this number, 8 where there is none; 0 is the number of a free place
+unfoldable pub placeOf : (ℕ → Txn) → ℕ → ℕ
+placeOf txns n = first (λ i. eqb (txns i .number) n) 0 mostLive
+
+abbrev pub txnOf : Store → ℕ → Txn
+txnOf s t = s .txns (placeOf (s .txns) t)
+
+-- how many are live
+unfoldable pub liveCount : (ℕ → Txn) → ℕ
+liveCount txns = length (pick (λ i. live (txns i)) 0 mostLive)
+
+-- held, or claimed, by another: neither free nor the own number's
+unfoldable pub byAnother : (ℕ → ℕ) → ℕ → ℕ → Bool
+byAnother f n j = not (eqb (f j) 0) && not (eqb (f j) n)
+
+-- versions reserved by the others Prepared: their distinct pending rows
+unfoldable pub reservedBy : Sizes → Txn → ℕ
+reservedBy z x = cond (live x && eqb (rank (x .phase)) 4) (length (pendingRows z (x .writes))) 0
+
+unfoldable pub reserved : Sizes → (ℕ → Txn) → ℕ → ℕ
+reserved z txns zero = 0
+reserved z txns (suc n) = reserved z txns n + reservedBy z (txns n)
+
+-- put, erase: a row below the row count, and not a 17th pending write
+abbrev pub writeChecks : Store → ℕ → ℕ → List (Bool × Refusal)
+writeChecks s t r = (not (ltb r (s .sizes .rows)), NoRow) ∷ (leb mostWrites (length (txnOf s t .writes)), ManyWrites) ∷ []
+
+-- 4, and then 5 where the phase is not the one that the step needs
+abbrev pub found : Store → ℕ → Bool → List (Bool × Refusal) → List (Bool × Refusal)
+found s t phase more = (eqb t 0 || not (ltb (placeOf (s .txns) t) mostLive), NoSuch) ∷ (not phase, WrongPhase) ∷ more
+
+abbrev pub inPhase : Store → ℕ → ℕ → Bool
+inPhase s t n = eqb (rank (txnOf s t .phase)) n
+
+-- a needed bucket is held by another
+abbrev pub bucketsTaken : Store → ℕ → List ℕ → Bool
+bucketsTaken s t bs = some-of (byAnother (s .held .holder) (txnOf s t .number)) bs
+
+-- a pending row is claimed by another
+abbrev pub rowsClaimed : Store → ℕ → Bool
+rowsClaimed s t = some-of (byAnother (s .held .claim) (txnOf s t .number)) (pendingRows (s .sizes) (txnOf s t .writes))
+
+-- the tests of each step in the order of document 01, each with the refusal that it gives
+unfoldable pub checks : Store → Step → List (Bool × Refusal)
+checks s begin =
+    (leb mostLive (liveCount (s .txns)), Full)
+    ∷ (ltb lastNumber (s .clock + liveCount (s .txns) + 2), NoNumbers)
+    ∷ []
+checks s (capture t k) = found s t (inPhase s t 1)
+    ((txnOf s t .marked, Marked)
+    ∷ (byAnother (s .held .holder) (txnOf s t .number) (bucketOf (s .sizes) k), Taken)
+    ∷ (not (ltb (s .index .stamp (bucketOf (s .sizes) k)) (txnOf s t .number)), Stale)
+    ∷ (not (hasRead (txnOf s t .reads) (bucketOf (s .sizes) k)) && leb mostIndexReads (length (txnOf s t .reads)), ManyReads)
+    ∷ [])
+checks s (collect t) = found s t (inPhase s t 2) []
+checks s (rows t room) = found s t (inPhase s t 3)
+    ((ltb (min room mostRows) (length (foundRows s (txnOf s t))), NoRoom)
+    ∷ (ltb mostRecords (length (recordsAfter s (txnOf s t))), ManyRecords)
+    ∷ [])
+checks s (put t r k payload) = found s t (inPhase s t 1) (writeChecks s t r)
+checks s (erase t r) = found s t (inPhase s t 1) (writeChecks s t r)
+checks s (prepare t) = found s t (inPhase s t 1)
+    ((bucketsTaken s t (neededBuckets s (txnOf s t)) || rowsClaimed s t, Taken)
+    ∷ (not (eqb (verdictNumber (verdict (s .chains) (s .index) (txnOf s t))) 0), Conflict)
+    ∷ (ltb (s .sizes .versions) (s .chains .used + reserved (s .sizes) (s .txns) mostLive + length (pendingRows (s .sizes) (txnOf s t .writes))), NoVersions)
+    ∷ [])
+checks s (install t) = found s t (inPhase s t 4) []
+checks s (end t) = found s t (inPhase s t 5) []
+checks s (publish t) = found s t (inPhase s t 6) []
+checks s (validate t) = found s t (inPhase s t 1) ((bucketsTaken s t (readBuckets (txnOf s t)), Taken) ∷ [])
+checks s (abort t) = found s t (ltb (rank (txnOf s t .phase)) 5) []
+
+-- the first refusal whose test holds
+unfoldable pub refusal : List (Bool × Refusal) → Option Refusal
+refusal [] = none
+refusal (c ∷ cs) = cond (c .0) (some (c .1)) (refusal cs)
