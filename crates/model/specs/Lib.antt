@@ -7,3 +7,6 @@ pub mod Steps
 pub mod Refusals
 pub mod Shape
 pub mod Machine
+pub mod Log
+pub mod Report
+pub mod Replay
