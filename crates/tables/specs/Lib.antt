@@ -1,0 +1,5 @@
+pub mod Words
+pub mod Fields
+pub mod Table
+pub mod Regions
+pub mod Lists
