@@ -1,0 +1,5 @@
+pub mod Laws
+pub mod Marks
+pub mod Sorted
+pub mod Inserts
+pub mod Answers

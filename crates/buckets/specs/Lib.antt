@@ -1,0 +1,3 @@
+pub mod Buckets
+pub mod Steps
+pub mod Upstream
