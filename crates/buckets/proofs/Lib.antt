@@ -1,5 +1,9 @@
 pub mod Laws
-pub mod Marks
 pub mod Sorted
 pub mod Inserts
+pub mod Marks
+pub mod Checks
 pub mod Answers
+pub mod Indexed
+pub mod Upstream
+pub mod Edges
