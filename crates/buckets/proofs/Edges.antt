@@ -4,36 +4,37 @@ use Prim.Native.Nat.{ℕ}
 use mathlib.Core.Path.{_≡_, refl}
 use mathlib.Core.List.{List, [], _∷_, map}
 use mathlib.Core.Bool.{Bool, true, false}
-use Rattle.buckets.specs.declared.Canonical.the-variants.{Sorted, Bad}
-use Rattle.buckets.specs.Buckets.{precedes, Made, canonicalOf}
+use Rattle.buckets.specs.Buckets.{precedes, Told, listed, error, told, canonicalOf}
 
--- an answer of this module
+-- an answer of this module: of a stamp, or of a bucket list
 pub data Said : Type 0 where
   accepted : Bool → Said
-  made : Made → Said
+  buckets : Told → Said
 
--- what the definitions say of an edge, and what document 01 does
+-- what the definitions say of an edge, and what document 01 says
 pub record Edge : Type 0 where
-  pub says : Said
-  pub told : Said
+  pub here : Said
+  pub paper : Said
 
 abbrev stamp : ℕ → ℕ → Bool → Edge
-stamp s number told = record { says = accepted (precedes s number); told = accepted told }
+stamp s number paper = record { here = accepted (precedes s number); paper = accepted paper }
 
--- a bucket list of a count, into as many words as the answer has at most
-abbrev list : List ℕ → ℕ → List ℕ → Made → Edge
-list input count old told = record { says = made (canonicalOf input count old); told = made told }
+-- a bucket list of a count, in a place as long as the list
+abbrev list : List ℕ → ℕ → Told → Edge
+list input count paper =
+    let m = canonicalOf input count input in
+    record { here = buckets (told (m .answer) (m .out)); paper = buckets paper }
 
 abbrev pub edges : List Edge
 edges =
-    stamp 4 5 true
-    ∷ stamp 5 5 false
-    ∷ list (3 ∷ 1 ∷ 3 ∷ []) 4 (0 ∷ 0 ∷ 0 ∷ []) (record { answer = Sorted 2; out = 1 ∷ 3 ∷ 0 ∷ [] })
-    ∷ list (1 ∷ 9 ∷ 4 ∷ []) 4 (0 ∷ 0 ∷ 0 ∷ []) (record { answer = Bad 9; out = 0 ∷ 0 ∷ 0 ∷ [] })
-    ∷ list (4095 ∷ []) 4096 (0 ∷ []) (record { answer = Sorted 1; out = 4095 ∷ [] })
-    ∷ list (4096 ∷ []) 4096 (0 ∷ []) (record { answer = Bad 4096; out = 0 ∷ [] })
+    stamp 4 5 true  -- P1
+    ∷ stamp 5 5 false  -- P2
+    ∷ list (3 ∷ 1 ∷ 3 ∷ []) 4 (listed (1 ∷ 3 ∷ []))  -- P3
+    ∷ list (1 ∷ 9 ∷ 4 ∷ []) 4 (error 9)  -- P4
+    ∷ list (4095 ∷ []) 4096 (listed (4095 ∷ []))  -- P5
+    ∷ list (4096 ∷ []) 4096 (error 4096)  -- P6
     ∷ []
 
-pub edges-hold : map (λ (e : Edge). e .says) edges ≡ map (λ (e : Edge). e .told) edges
+pub edges-hold : map (λ (e : Edge). e .here) edges ≡ map (λ (e : Edge). e .paper) edges
 unfolding canonicalOf
 edges-hold = refl
