@@ -3,7 +3,7 @@
 use Prim.Native.Nat.{ℕ, zero, suc, _+_, _*_, _≤_, _<_}
 use mathlib.Core.Path.{_≡_, refl, _∙_}
 use mathlib.Core.Logic.{_⊎_, inl, inr, ⊎-elim}
-use mathlib.Core.List.{List, [], _∷_, _++_, append-assoc}
+use mathlib.Core.List.{List, [], _∷_, _++_, map, append-assoc, map-append}
 use native.Mathlib.Nat.{mul-suc}
 use native.Mathlib.Numerals.{add-one}
 use native.Mathlib.Decide.{ℕ-discrete}
@@ -72,3 +72,9 @@ module _ {A : Type 0} (f : List ℕ → A) (w b : ℕ) (xs : List ℕ) where
   pub list-stored : (n : ℕ) (vs : List ℕ) → length vs ≡ w → b + w * n + w ≤ length xs → listOf f w b (sets xs (b + w * n) vs) (n + 1) ≡ listOf f w b xs n ++ (f vs ∷ [])
   unfolding listOf
   list-stored n vs e h = rw (add-one, list-kept n (b + w * n) vs (inl (omega arith)), words-stored w (b + w * n) xs vs e h)
+
+-- a field of every entry, as a list of its own
+pub list-map : {A B : Type 0} (g : A → B) (f : List ℕ → A) (w b : ℕ) (xs : List ℕ) (n : ℕ) → map g (listOf f w b xs n) ≡ listOf (λ ws. g (f ws)) w b xs n
+unfolding listOf
+list-map g f w b xs zero = refl
+list-map g f w b xs (suc n) = rw (map-append, list-map g f w b xs n)

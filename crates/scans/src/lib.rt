@@ -1,0 +1,95 @@
+// Scans of a snapshot's active numbers and of a transaction's lists.
+ghost use mathlib.Core.Path.{_≡_};
+ghost use Prim.Native.Nat.{min};
+ghost use Rattle.scans.specs.Scans.{isActive, latestPending, recordPlace, alreadyRecorded, readPrefix};
+use limits::MOST_INDEX_READS;
+use limits::MOST_RECORDS;
+use limits::MOST_WRITES;
+use tables::lists::read_bucket_at;
+use tables::lists::record_ptr_at;
+use tables::lists::write_row_at;
+
+// A place in a list, counted from 0, or none.
+pub enum Found {
+    At(u32),
+    Nothing,
+}
+
+// Whether id is one of the first `count` active numbers.
+pub fn active_contains(active: &[u64], count: usize, id: u64) -> bool
+    ensures { λ r. ⌜ r ≡ isActive (now (active .entry)) count id ⌝ }
+{
+    let mut i = 0;
+    while i < active.len() {
+        if count <= i {
+            return false;
+        }
+        if active[i] == id {
+            return true;
+        }
+        i += 1;
+    }
+    false
+}
+
+// A count, or the room of its list where that is less.
+fn clip(count: u32, room: u32) -> u32
+    ensures { λ r. ⌜ r ≡ min count room ⌝ }
+{
+    if count < room { count } else { room }
+}
+
+// The place of the last of the first `count` pending writes with this row.
+pub fn latest_pending(lists: &[u64], slot: u32, count: u32, row: u64) -> Found
+    ensures { λ r. ⌜ r ≡ latestPending (now (lists .entry)) slot count row ⌝ }
+{
+    let mut i = clip(count, MOST_WRITES);
+    while i > 0 {
+        i -= 1;
+        if write_row_at(lists, slot, i) == row {
+            return Found::At(i);
+        }
+    }
+    Found::Nothing
+}
+
+// The place of the first of the first `count` read records with this pointer.
+fn record_place(lists: &[u64], slot: u32, count: u32, ptr: u64) -> Found
+    ensures { λ r. ⌜ r ≡ recordPlace (now (lists .entry)) slot count ptr ⌝ }
+{
+    let n = clip(count, MOST_RECORDS);
+    let mut i = 0;
+    while i < n {
+        if record_ptr_at(lists, slot, i) == ptr {
+            return Found::At(i);
+        }
+        i += 1;
+    }
+    Found::Nothing
+}
+
+// Whether one of the first `count` read records has this pointer.
+pub fn read_already_recorded(lists: &[u64], slot: u32, count: u32, ptr: u64) -> bool
+    ensures { λ r. ⌜ r ≡ alreadyRecorded (now (lists .entry)) slot count ptr ⌝ }
+{
+    let place = record_place(lists, slot, count, ptr);
+    match place {
+        Found::At(_) => true,
+        Found::Nothing => false,
+    }
+}
+
+// The place of the first of the first `prior_len` index reads with this bucket.
+pub fn find_read_prefix(lists: &[u64], slot: u32, prior_len: u32, bucket: u64) -> Found
+    ensures { λ r. ⌜ r ≡ readPrefix (now (lists .entry)) slot «prior_len» bucket ⌝ }
+{
+    let n = clip(prior_len, MOST_INDEX_READS);
+    let mut i = 0;
+    while i < n {
+        if read_bucket_at(lists, slot, i) == bucket {
+            return Found::At(i);
+        }
+        i += 1;
+    }
+    Found::Nothing
+}
