@@ -1,9 +1,9 @@
 -- What an answered place says of the list: it is the first, or the last, at which the number stands; and what none says.
 -- Assumes nothing.
 use Prim.Native.Nat.{ℕ, zero, suc, _+_, _<_}
-use mathlib.Core.Path.{_≡_, refl}
+use mathlib.Core.Path.{_≡_, refl, sym, _∙_}
 use mathlib.Core.List.{List, [], _∷_}
-use mathlib.Core.Bool.{Bool, true, false, cond, _||_}
+use mathlib.Core.Bool.{Bool, true, false, cond, _||_, false≢true}
 use mathlib.Core.Logic.{_≢_}
 use native.Mathlib.Decide.{ℕ-discrete}
 use native.Mathlib.Omega.{arith}
@@ -113,3 +113,33 @@ member-from k (y ∷ ys) x = member-cons k (eqb y x) (member x ys) (firstFrom (s
 
 pub member-place : (l : List ℕ) (x : ℕ) → member x l ≡ isPlace (firstPlace l x)
 member-place l x = member-from 0 l x
+
+-- a member stands at some place, and what stands at some place is a member
+module _ (l : List ℕ) (x : ℕ) where
+  pub member-present : member x l ≡ true → Present l x (length l)
+  member-present m = go (firstPlace l x) refl
+    where
+      go : (f : Found) → firstPlace l x ≡ f → Present l x (length l)
+      go (At i) e = let f = first-at l x i e in (i, f .below, f .holds)
+      go Nothing e = absurd (false≢true (sym (rw e at (member-place l x)) ∙ m))
+
+  pub present-member : Present l x (length l) → member x l ≡ true
+  present-member p = go (firstPlace l x) refl
+    where
+      go : (f : Found) → firstPlace l x ≡ f → member x l ≡ true
+      go (At i) e = rw (member-place, e)
+      go Nothing e = absurd (first-none l x e (p .0) (p .1) (p .2))
+
+  pub absent-none : Absent l x (length l) → firstPlace l x ≡ Nothing
+  absent-none a = go (firstPlace l x) refl
+    where
+      go : (f : Found) → firstPlace l x ≡ f → f ≡ Nothing
+      go (At i) e = let f = first-at l x i e in absurd (a i (f .below) (f .holds))
+      go Nothing e = refl
+
+pub absent-last : (l : List ℕ) (x n : ℕ) → Absent l x n → lastBelow l x n ≡ Nothing
+absent-last l x n a = go (lastBelow l x n) refl
+  where
+    go : (f : Found) → lastBelow l x n ≡ f → f ≡ Nothing
+    go (At i) e = let f = last-at l x n i e in absurd (a i (f .below) (f .holds))
+    go Nothing e = refl
