@@ -1,3 +1,5 @@
 pub mod Worked
 pub mod ListLaws
 pub mod Move
+pub mod Chained
+pub mod Numbers

@@ -188,6 +188,19 @@ unfolding pick
 pick-few test k zero = omega arith
 pick-few test k (suc n) = let ih = pick-few test (suc k) n in cond-elim (λ l. length l ≤ suc n) (test k) (k ∷ pick test (suc k) n) (pick test (suc k) n) (λ t. omega arith) (λ t. omega arith)
 
+-- a test that holds less often picks fewer
+pub pick-fewer : (test also : ℕ → Bool) (k n : ℕ) → ((r : ℕ) → test r ≡ true → also r ≡ true) → length (pick test k n) ≤ length (pick also k n)
+unfolding pick
+pick-fewer test also k zero h = omega arith
+pick-fewer test also k (suc n) h = go (test k) refl (also k) refl (pick-fewer test also (suc k) n h)
+  where
+    go : (a : Bool) → test k ≡ a → (b : Bool) → also k ≡ b → length (pick test (suc k) n) ≤ length (pick also (suc k) n)
+        → length (cond a (k ∷ pick test (suc k) n) (pick test (suc k) n)) ≤ length (cond b (k ∷ pick also (suc k) n) (pick also (suc k) n))
+    go true p true q ih = omega arith
+    go true p false q ih = absurd (true≢false (sym (h k p) ∙ q))
+    go false p true q ih = omega arith
+    go false p false q ih = ih
+
 -- two maps agree on what is picked
 pub map-pick : {B : Type 0} (f g : ℕ → B) (test also : ℕ → Bool) (k n : ℕ) → ((r : ℕ) → k ≤ r → r < k + n → test r ≡ also r)
     → ((r : ℕ) → k ≤ r → r < k + n → also r ≡ true → f r ≡ g r) → map f (pick test k n) ≡ map g (pick also k n)

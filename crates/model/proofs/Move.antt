@@ -8,7 +8,7 @@ use Prim.Native.Nat.{ℕ, zero, suc, _+_, _≤_, _<_, min}
 use native.Mathlib.Omega.{arith}
 use lib.Dec.{eqb, ltb, leb}
 use lib.ListN.{length}
-use borrow.Author.Tests.{eqb-true, eqb-false, ltb-true, ltb-false, leb-true, leb-false, not-true, not-false}
+use borrow.Author.Tests.{eqb-true, eqb-false, ne-eqb, ltb-true, ltb-false, leb-true, leb-false, not-true, not-false}
 use Rattle.limits.specs.Limits.{mostRows, mostLive, mostIndexReads, mostRecords, mostWrites, lastNumber}
 use Rattle.model.specs.Lists.{first, pick, some-of, all-of}
 use Rattle.model.specs.Table.{cond-elim}
@@ -24,6 +24,16 @@ use Rattle.model.proofs.ListLaws.{and-l, and-r, or-l, or-r, is-false, f
 -- a transaction whose number is not 0
 abbrev pub Live : Txn → Type 0
 Live x = 1 ≤ x .number
+
+-- the test of a live transaction, and its fact
+pub test-live : (x : Txn) → live x ≡ true → Live x
+test-live x e = pos (eqb-false (x .number) 0 (not-true _ e))
+  where
+    pos : (x .number ≡ 0 → ⊥) → Live x
+    pos z = omega arith
+
+pub live-test : (x : Txn) → Live x → live x ≡ true
+live-test x l = rw (ne-eqb (x .number) 0 (λ e. omega arith))
 
 -- what capture tests after the phase
 pub record CanCapture (s : Store) (i k : ℕ) : Type 0 where
