@@ -1,0 +1,137 @@
+-- Room is kept: the clock with a publish for each live transaction fits, and so do the versions with those reserved. Assumes nothing.
+use mathlib.Core.Path.{_≡_, refl, sym, ap, _∙_}
+use mathlib.Core.Bool.{Bool, true, false, cond, not, _&&_}
+use mathlib.Core.List.{List, [], _∷_}
+use mathlib.Core.Logic.{_≢_}
+use Prim.Native.Nat.{ℕ, zero, suc, _+_, _≤_, _<_}
+use native.Mathlib.Omega.{arith}
+use native.Mathlib.Decide.{ℕ-discrete}
+use lib.Dec.{eqb}
+use lib.ListN.{length}
+use borrow.Author.Tests.{eq-eqb, ne-eqb}
+use Rattle.limits.specs.Limits.{mostLive, lastNumber}
+use Rattle.model.specs.Lists.{pick}
+use Rattle.model.specs.Table.{update, update-same, update-other}
+use Rattle.model.specs.Store.{Sizes, Chains, Txn, Store, noTxn, fresh, rank}
+use Rattle.model.specs.Seeing.{live, lastWrite}
+use Rattle.model.specs.Steps.{newTxn, begun, push, pushAll, pendingRows, newKey, writtenPayload, withPhase, captured, collected, prepared}
+use Rattle.model.specs.Refusals.{liveCount, reservedBy, reserved}
+use Rattle.model.proofs.ListLaws.{pick-same}
+use Rattle.model.proofs.Move.{Live, live-test, Move, stay, did-begin, did-mark, did-capture, did-collect, did-rows, did-write, did-prepare, did-install, did-end, did-publish, did-abort}
+use Rattle.model.proofs.Numbers.{Numbers, in-place}
+
+pub record Room (z : Sizes) (clock used : ℕ) (t : ℕ → Txn) : Type 0 where
+  pub numbers-left : clock + liveCount t ≤ lastNumber
+  pub versions-left : used + reserved z t mostLive ≤ z .versions
+
+abbrev pub RoomAt : Store → Type 0
+RoomAt s = Room (s .sizes) (s .clock) (s .chains .used) (s .txns)
+
+-- a test as 0 or 1
+abbrev one-if : Bool → ℕ
+one-if true = 1
+one-if false = 0
+
+-- two tests that differ at one number only
+pick-at : (test also : ℕ → Bool) (i k n : ℕ) → k ≤ i → i < k + n → ((j : ℕ) → j ≢ i → test j ≡ also j) → length (pick test k n) + one-if (also i) ≡ length (pick also k n) + one-if (test i)
+unfolding pick
+pick-at test also i k zero l u h = absurd (omega arith)
+pick-at test also i k (suc n) l u h = elim (ℕ-discrete k i) [
+  | yes e ↦ rw (pick-same test also (suc k) n (λ r a b. h r (λ f. omega arith))) (rw e (here (test i) (also i) i (pick also (suc i) n)))
+  | no d ↦ rw (h k d) (there (also k) k (pick test (suc k) n) (pick also (suc k) n) (one-if (also i)) (one-if (test i)) (pick-at test also i (suc k) n (omega arith) (omega arith) h))
+]
+  where
+    here : (a b : Bool) (m : ℕ) (rest : List ℕ) → length (cond a (m ∷ rest) rest) + one-if b ≡ length (cond b (m ∷ rest) rest) + one-if a
+    here true true m rest = refl
+    here true false m rest = omega arith
+    here false true m rest = omega arith
+    here false false m rest = refl
+
+    there : (a : Bool) (m : ℕ) (ps qs : List ℕ) (p q : ℕ) → length ps + p ≡ length qs + q → length (cond a (m ∷ ps) ps) + p ≡ length (cond a (m ∷ qs) qs) + q
+    there true m ps qs p q e = omega arith
+    there false m ps qs p q e = e
+
+live-set : (t : ℕ → Txn) (i : ℕ) (x : Txn) → i < mostLive → liveCount (update t i x) + one-if (live (t i)) ≡ liveCount t + one-if (live x)
+unfolding liveCount
+live-set t i x l = pick-at (λ j. live (update t i x j)) (λ j. live (t j)) i 0 mostLive (omega arith) (omega arith) (λ j d. rw (update-other t i x j d)) ∙ rw (update-same t i x)
+
+reserved-below : (z : Sizes) (t : ℕ → Txn) (i : ℕ) (x : Txn) (n : ℕ) → n ≤ i → reserved z (update t i x) n ≡ reserved z t n
+unfolding reserved
+reserved-below z t i x zero l = refl
+reserved-below z t i x (suc n) l = rw (reserved-below z t i x n (omega arith), update-other t i x n (λ e. omega arith))
+
+reserved-set : (z : Sizes) (t : ℕ → Txn) (i : ℕ) (x : Txn) (n : ℕ) → i < n → reserved z (update t i x) n + reservedBy z (t i) ≡ reserved z t n + reservedBy z x
+unfolding reserved
+reserved-set z t i x zero l = absurd (omega arith)
+reserved-set z t i x (suc n) l = elim (ℕ-discrete n i) [
+  | yes e ↦ rw (e, reserved-below z t i x i (omega arith), update-same t i x) (omega arith)
+  | no d ↦ rw (update-other t i x n d) (omega (arith, reserved-set z t i x n (omega arith)))
+]
+
+reserves-none : (z : Sizes) (x : Txn) → rank (x .phase) ≢ 4 → reservedBy z x ≡ 0
+unfolding reservedBy
+reserves-none z x d = rw (ne-eqb (rank (x .phase)) 4 d) (go (live x))
+  where
+    go : (b : Bool) → cond (b && false) (length (pendingRows z (x .writes))) 0 ≡ 0
+    go true = refl
+    go false = refl
+
+pub reserves : (z : Sizes) (x : Txn) → Live x → rank (x .phase) ≡ 4 → reservedBy z x ≡ length (pendingRows z (x .writes))
+unfolding reservedBy
+reserves z x l e = rw (live-test x l, eq-eqb (rank (x .phase)) 4 e)
+
+pub used-pushAll : (x : Txn) (rs : List ℕ) (c : Chains) → pushAll x rs c .used ≡ c .used + length rs
+unfolding pushAll
+used-pushAll x [] c = omega arith
+used-pushAll x (r ∷ rs) c = omega (arith, used-pushAll x rs (push (x .number) r (newKey x r) (writtenPayload (lastWrite (x .writes) r)) c))
+
+-- one place changes, and takes no more than it had
+room-set : (z : Sizes) (clock clock′ used used′ : ℕ) (t : ℕ → Txn) (i : ℕ) (x : Txn) → i < mostLive → clock′ + one-if (live x) ≤ clock + one-if (live (t i)) → used′ + reservedBy z x ≤ used + reservedBy z (t i)
+    → Room z clock used t → Room z clock′ used′ (update t i x)
+room-set z clock clock′ used used′ t i x l a b g = record {
+  numbers-left = omega (arith, g .numbers-left, live-set t i x l);
+  versions-left = omega (arith, g .versions-left, reserved-set z t i x mostLive l);
+}
+
+module _ (s : Store) (i : ℕ) (n : Numbers (s .clock) (s .txns)) (g : RoomAt s) (a : Live (s .txns i)) where
+  here : i < mostLive
+  here = in-place (s .clock) (s .txns) n i a
+
+  -- neither before nor after Prepared
+  room-quiet : (x : Txn) → x .number ≡ s .txns i .number → rank (s .txns i .phase) ≢ 4 → rank (x .phase) ≢ 4 → Room (s .sizes) (s .clock) (s .chains .used) (update (s .txns) i x)
+  room-quiet x e p q = room-set _ _ _ _ _ (s .txns) i x here (rw e (omega arith)) (omega (arith, reserves-none (s .sizes) x q, reserves-none (s .sizes) (s .txns i) p)) g
+
+  -- the record ends
+  room-free : (clock′ : ℕ) → clock′ ≤ suc (s .clock) → Room (s .sizes) clock′ (s .chains .used) (update (s .txns) i noTxn)
+  room-free clock′ h = room-set _ _ _ _ _ (s .txns) i noTxn here (omega (arith, ap one-if (live-test (s .txns i) a))) (omega (arith, reserves-none (s .sizes) noTxn (λ e. omega arith))) g
+
+  room-prepare : rank (s .txns i .phase) ≡ 1 → s .chains .used + reserved (s .sizes) (s .txns) mostLive + length (pendingRows (s .sizes) (s .txns i .writes)) ≤ s .sizes .versions → RoomAt (prepared s i)
+  room-prepare r h = let x = withPhase (s .txns i) Rattle.model.specs.Store.Prepared in record {
+    numbers-left = omega (arith, g .numbers-left, live-set (s .txns) i x here);
+    versions-left = omega (arith, reserved-set (s .sizes) (s .txns) i x mostLive here, reserves (s .sizes) x a refl, reserves-none (s .sizes) (s .txns i) (λ e. omega arith));
+  }
+
+  room-install : rank (s .txns i .phase) ≡ 4 → RoomAt (Rattle.model.specs.Steps.installed s i)
+  room-install r = let x = withPhase (s .txns i) Rattle.model.specs.Store.Installed in
+      room-set _ _ _ _ _ (s .txns) i x here (omega arith) (omega (arith, reserves-none (s .sizes) x (λ e. omega arith), reserves (s .sizes) (s .txns i) a r, used-pushAll (s .txns i) (pendingRows (s .sizes) (s .txns i .writes)) (s .chains))) g
+
+pub room-move : (s s′ : Store) {a : ℕ} → Numbers (s .clock) (s .txns) → RoomAt s → Move s a s′ → RoomAt s′
+room-move s s′ n g (stay i) = g
+room-move s s′ n g (did-begin i a b c d) = record {
+  numbers-left = omega (arith, live-set (s .txns) i (newTxn s) a, ap one-if (live-test (newTxn s) (n .clock-pos)));
+  versions-left = omega (arith, g .versions-left, reserved-set (s .sizes) (s .txns) i (newTxn s) mostLive a, reserves-none (s .sizes) (newTxn s) (λ e. omega arith));
+}
+room-move s s′ n g (did-mark i a b) = room-quiet s i n g a _ refl (λ e. omega arith) (λ e. omega arith)
+room-move s s′ n g (did-capture i k a b c) = room-quiet s i n g a _ refl (λ e. omega arith) (λ e. omega arith)
+room-move s s′ n g (did-collect i a b) = room-quiet s i n g a _ refl (λ e. omega arith) (λ e. omega arith)
+room-move s s′ n g (did-rows i a b c) = room-quiet s i n g a _ refl (λ e. omega arith) (λ e. omega arith)
+room-move s s′ n g (did-write i w a b c d) = room-quiet s i n g a _ refl (λ e. omega arith) (λ e. omega arith)
+room-move s s′ n g (did-prepare i a b c) = room-prepare s i n g a b (c .room)
+room-move s s′ n g (did-install i a b) = room-install s i n g a b
+room-move s s′ n g (did-end i a b) = room-quiet s i n g a _ refl (λ e. omega arith) (λ e. omega arith)
+room-move s s′ n g (did-publish i a b) = room-free s i n g a (suc (s .clock)) (omega arith)
+room-move s s′ n g (did-abort i a b) = room-free s i n g a (s .clock) (omega arith)
+
+pub room-fresh : (z : Sizes) (clock : ℕ) → clock ≤ lastNumber → RoomAt (fresh z clock)
+unfolding liveCount reserved reservedBy pick
+room-fresh z clock h = record { numbers-left = omega arith; versions-left = omega arith }
