@@ -6,3 +6,4 @@ pub mod Numbers
 pub mod Room
 pub mod SeeingLaws
 pub mod Walk
+pub mod Ranges

@@ -12,9 +12,9 @@ use borrow.Author.Tests.{eq-eqb, ne-eqb}
 use Rattle.limits.specs.Limits.{mostLive, lastNumber}
 use Rattle.model.specs.Lists.{pick}
 use Rattle.model.specs.Table.{update, update-same, update-other}
-use Rattle.model.specs.Store.{Sizes, Chains, Txn, Store, noTxn, fresh, rank}
+use Rattle.model.specs.Store.{Sizes, Chains, Prepared, Installed, Txn, Store, noTxn, fresh, rank}
 use Rattle.model.specs.Seeing.{live, lastWrite}
-use Rattle.model.specs.Steps.{newTxn, begun, push, pushAll, pendingRows, newKey, writtenPayload, withPhase, captured, collected, prepared}
+use Rattle.model.specs.Steps.{newTxn, begun, push, pushAll, pendingRows, newKey, writtenPayload, withPhase, prepared, installed}
 use Rattle.model.specs.Refusals.{liveCount, reservedBy, reserved}
 use Rattle.model.proofs.ListLaws.{pick-same}
 use Rattle.model.proofs.Move.{Live, live-test, Move, stay, did-begin, did-mark, did-capture, did-collect, did-rows, did-write, did-prepare, did-install, did-end, did-publish, did-abort}
@@ -106,13 +106,13 @@ module _ (s : Store) (i : ℕ) (n : Numbers (s .clock) (s .txns)) (g : RoomAt s)
   room-free clock′ h = room-set _ _ _ _ _ (s .txns) i noTxn here (omega (arith, ap one-if (live-test (s .txns i) a))) (omega (arith, reserves-none (s .sizes) noTxn (λ e. omega arith))) g
 
   room-prepare : rank (s .txns i .phase) ≡ 1 → s .chains .used + reserved (s .sizes) (s .txns) mostLive + length (pendingRows (s .sizes) (s .txns i .writes)) ≤ s .sizes .versions → RoomAt (prepared s i)
-  room-prepare r h = let x = withPhase (s .txns i) Rattle.model.specs.Store.Prepared in record {
+  room-prepare r h = let x = withPhase (s .txns i) Prepared in record {
     numbers-left = omega (arith, g .numbers-left, live-set (s .txns) i x here);
     versions-left = omega (arith, reserved-set (s .sizes) (s .txns) i x mostLive here, reserves (s .sizes) x a refl, reserves-none (s .sizes) (s .txns i) (λ e. omega arith));
   }
 
-  room-install : rank (s .txns i .phase) ≡ 4 → RoomAt (Rattle.model.specs.Steps.installed s i)
-  room-install r = let x = withPhase (s .txns i) Rattle.model.specs.Store.Installed in
+  room-install : rank (s .txns i .phase) ≡ 4 → RoomAt (installed s i)
+  room-install r = let x = withPhase (s .txns i) Installed in
       room-set _ _ _ _ _ (s .txns) i x here (omega arith) (omega (arith, reserves-none (s .sizes) x (λ e. omega arith), reserves (s .sizes) (s .txns i) a r, used-pushAll (s .txns i) (pendingRows (s .sizes) (s .txns i .writes)) (s .chains))) g
 
 pub room-move : (s s′ : Store) {a : ℕ} → Numbers (s .clock) (s .txns) → RoomAt s → Move s a s′ → RoomAt s′

@@ -136,3 +136,47 @@ recording-has rs q = cond-elim (λ l. (r : ReadRecord) × Among r l × (r .ptr �
   where
     old : recorded rs (q .ptr) ≡ true → (r : ReadRecord) × Among r rs × (r .ptr ≡ q .ptr)
     old e = let w = some-which (λ (r : ReadRecord). eqb (r .ptr) (q .ptr)) rs e in (w .0, w .1, eqb-true _ _ (w .2))
+
+module _ (c : Chains) (x : Txn) where
+  -- one row of the read
+  recordRow : List ReadRecord → ℕ → List ReadRecord
+  recordRow rs r = cond (pending (x .writes) r) rs (recording rs (recordOf c (x .snapshot) r))
+
+  row-cases : (rs : List ReadRecord) (r : ℕ) (q : ReadRecord) → Among q (recordRow rs r) → Among q rs ⊎ ((pending (x .writes) r ≡ false) × (q ≡ recordOf c (x .snapshot) r))
+  unfolding recordRow
+  row-cases rs r q = cond-elim (λ l. Among q l → Among q rs ⊎ ((pending (x .writes) r ≡ false) × (q ≡ recordOf c (x .snapshot) r))) (pending (x .writes) r) rs (recording rs (recordOf c (x .snapshot) r))
+      (λ e m. inl m)
+      (λ e m. ⊎-elim inl (λ f. inr (e, f)) (recording-cases rs (recordOf c (x .snapshot) r) q m))
+
+  row-keeps : (rs : List ReadRecord) (r : ℕ) (q : ReadRecord) → Among q rs → Among q (recordRow rs r)
+  unfolding recordRow
+  row-keeps rs r q m = cond-elim (λ l. Among q l) (pending (x .writes) r) rs (recording rs (recordOf c (x .snapshot) r)) (λ e. m) (λ e. recording-keeps rs (recordOf c (x .snapshot) r) q m)
+
+  pub recordAll-cases : (rs : List ReadRecord) (found : List ℕ) (q : ReadRecord) → Among q (recordAll c x rs found)
+      → Among q rs ⊎ ((r : ℕ) × Among r found × (pending (x .writes) r ≡ false) × (q ≡ recordOf c (x .snapshot) r))
+  unfolding recordAll recordRow
+  recordAll-cases rs [] q m = inl m
+  recordAll-cases rs (r ∷ found) q m = ⊎-elim
+      (λ h. ⊎-elim inl (λ w. inr (r, inl refl, w .0, w .1)) (row-cases rs r q h))
+      (λ w. inr (w .0, inr (w .1), w .2, w .3))
+      (recordAll-cases (recordRow rs r) found q m)
+
+  pub recordAll-keeps : (rs : List ReadRecord) (found : List ℕ) (q : ReadRecord) → Among q rs → Among q (recordAll c x rs found)
+  unfolding recordAll recordRow
+  recordAll-keeps rs [] q m = m
+  recordAll-keeps rs (r ∷ found) q m = recordAll-keeps (recordRow rs r) found q (row-keeps rs r q m)
+
+  -- each row read through a version has its pointer recorded
+  pub recordAll-has : (rs : List ReadRecord) (found : List ℕ) (r : ℕ) → Among r found → pending (x .writes) r ≡ false
+      → (q : ReadRecord) × Among q (recordAll c x rs found) × (q .ptr ≡ versionOf c (x .snapshot) r)
+  unfolding recordAll recordRow
+  recordAll-has rs (f ∷ found) r (inl e) p =
+      let w = recording-has rs (recordOf c (x .snapshot) r) in
+      (w .0, recordAll-keeps (recordRow rs f) found (w .0) (rw (← e, p) (w .1)), w .2)
+  recordAll-has rs (f ∷ found) r (inr m) p = recordAll-has (recordRow rs f) found r m p
+
+-- a found row matches
+pub found-which : (s : Store) (x : Txn) (r : ℕ) → Among r (foundRows s x) → (r < s .sizes .rows) × (matches (s .chains) x (keyIn (x .phase)) r ≡ true)
+unfolding foundRows
+found-which s x r m = let w = pick-which (λ q. (member q (x .candidates) || pending (x .writes) q) && matches (s .chains) x (keyIn (x .phase)) q) 0 (s .sizes .rows) r m in
+    (omega (arith, w .1), and-r (member r (x .candidates) || pending (x .writes) r) _ (w .2))
