@@ -7,3 +7,5 @@ pub mod Room
 pub mod SeeingLaws
 pub mod Walk
 pub mod Ranges
+pub mod Owned
+pub mod Holders
