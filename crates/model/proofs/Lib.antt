@@ -9,3 +9,5 @@ pub mod Walk
 pub mod Ranges
 pub mod Owned
 pub mod Holders
+pub mod Grown
+pub mod Written

@@ -1,0 +1,86 @@
+-- What an install makes of the versions, entry by entry. Assumes nothing.
+use mathlib.Core.Path.{_≡_, refl, sym, ap, _∙_}
+use mathlib.Core.Logic.{_≢_, _⊎_, inl, inr, ⊎-elim}
+use mathlib.Core.List.{List, [], _∷_}
+use Prim.Native.Nat.{ℕ, zero, suc, _≤_, _<_}
+use native.Mathlib.Omega.{arith}
+use native.Mathlib.Decide.{ℕ-discrete}
+use Rattle.model.specs.Table.{update, update-elim, update-same, update-other}
+use Rattle.model.specs.Store.{Chains, Txn}
+use Rattle.model.specs.Seeing.{lastWrite}
+use Rattle.model.specs.Steps.{push, pushAll, newKey, writtenPayload}
+use Rattle.model.proofs.ListLaws.{Among, Rising, rising-above}
+
+-- row r is headed by a new version, made of its last write by x, over the head that it had in c
+pub record NewHead (x : Txn) (c c′ : Chains) (r : ℕ) : Type 0 where
+  pub above : c .used < c′ .head r
+  pub in-use : c′ .head r ≤ c′ .used
+  pub xmin-is : c′ .xmin (c′ .head r) ≡ x .number
+  pub key-is : c′ .key (c′ .head r) ≡ newKey x r
+  pub next-is : c′ .next (c′ .head r) ≡ c .head r
+
+-- from c the rows rs, written by x, have led to c′
+pub record Grown (x : Txn) (rs : List ℕ) (c c′ : Chains) : Type 0 where
+  pub used-up : c .used ≤ c′ .used
+  pub xmin-old : (q : ℕ) → q ≤ c .used → c′ .xmin q ≡ c .xmin q
+  pub next-old : (q : ℕ) → q ≤ c .used → c′ .next q ≡ c .next q
+  pub key-old : (q : ℕ) → q ≤ c .used → c′ .key q ≡ c .key q
+  pub head-old : (r : ℕ) → (Among r rs → ⊥) → c′ .head r ≡ c .head r
+  pub head-new : (r : ℕ) → Among r rs → NewHead x c c′ r
+  pub made : (q : ℕ) → c .used < q → q ≤ c′ .used → (r : ℕ) × Among r rs × (c′ .head r ≡ q)
+
+module _ (x : Txn) (r : ℕ) (rs : List ℕ) (c c′ : Chains) (heads-in : (q : ℕ) → c .head q ≤ c .used) (new : (q : ℕ) → Among q rs → suc r ≤ q)
+    (g : Grown x rs (push (x .number) r (newKey x r) (writtenPayload (lastWrite (x .writes) r)) c) c′) where
+  -- the first row pushed is headed by the first new pointer
+  first-head : c′ .head r ≡ suc (c .used)
+  first-head = g .head-old r (λ m. omega (arith, new r m)) ∙ update-same (c .head) r (suc (c .used))
+
+  first-new : NewHead x c c′ r
+  first-new = record {
+    above = omega (arith, first-head);
+    in-use = omega (arith, first-head, g .used-up);
+    xmin-is = ap (c′ .xmin) first-head ∙ (g .xmin-old (suc (c .used)) (omega arith) ∙ update-same (c .xmin) (suc (c .used)) (x .number));
+    key-is = ap (c′ .key) first-head ∙ (g .key-old (suc (c .used)) (omega arith) ∙ update-same (c .key) (suc (c .used)) (newKey x r));
+    next-is = ap (c′ .next) first-head ∙ (g .next-old (suc (c .used)) (omega arith) ∙ update-same (c .next) (suc (c .used)) (c .head r));
+  }
+
+  later-new : (q : ℕ) → Among q rs → NewHead x c c′ q
+  later-new q m =
+      let h = g .head-new q m in
+      record {
+        above = omega (arith, h .above);
+        in-use = h .in-use;
+        xmin-is = h .xmin-is;
+        key-is = h .key-is;
+        next-is = h .next-is ∙ update-other (c .head) r (suc (c .used)) q (λ e. omega (arith, new q m));
+      }
+
+  pub grown-first : Grown x (r ∷ rs) c c′
+  grown-first = record {
+    used-up = omega (arith, g .used-up);
+    xmin-old = λ q l. g .xmin-old q (omega arith) ∙ update-other (c .xmin) _ _ q (λ e. omega arith);
+    next-old = λ q l. g .next-old q (omega arith) ∙ update-other (c .next) _ _ q (λ e. omega arith);
+    key-old = λ q l. g .key-old q (omega arith) ∙ update-other (c .key) _ _ q (λ e. omega arith);
+    head-old = λ q no-row. g .head-old q (λ m. no-row (inr m)) ∙ update-other (c .head) r (suc (c .used)) q (λ e. no-row (inl e));
+    head-new = λ q m. ⊎-elim (λ e. rw e first-new) (λ n. later-new q n) m;
+    made = λ q l u. elim (ℕ-discrete q (suc (c .used))) [
+      | yes e ↦ (r, inl refl, first-head ∙ sym e)
+      | no d ↦ let w = g .made q (omega arith) u in (w .0, inr (w .1), w .2)
+    ];
+  }
+
+pub grown : (x : Txn) (k : ℕ) (rs : List ℕ) (c : Chains) → ((r : ℕ) → c .head r ≤ c .used) → Rising k rs → Grown x rs c (pushAll x rs c)
+unfolding pushAll
+grown x k [] c h o = record {
+  used-up = omega arith;
+  xmin-old = λ q l. refl;
+  next-old = λ q l. refl;
+  key-old = λ q l. refl;
+  head-old = λ r m. refl;
+  head-new = λ r m. absurd m;
+  made = λ q l u. absurd (omega arith);
+}
+grown x k (r ∷ rs) c h o = grown-first x r rs c _ h (rising-above (suc r) rs (o .1))
+    (grown x (suc r) rs (push (x .number) r (newKey x r) (writtenPayload (lastWrite (x .writes) r)) c)
+    (λ q. update-elim (_≤ suc (c .used)) (c .head) r (suc (c .used)) q (λ e. omega arith) (λ d. omega (arith, h q)))
+    (o .1))

@@ -1,0 +1,208 @@
+-- Who made a version, and what is posted: a live maker has installed and its versions head its pending rows; a row is posted with the key at its head, or with the key before it while its maker is unpublished. Assumes nothing.
+use mathlib.Core.Path.{_≡_, refl, sym, ap, _∙_}
+use mathlib.Core.Bool.{Bool, true, false, true≢false}
+use mathlib.Core.Logic.{_≢_, _⊎_, inl, inr, ⊎-elim}
+use mathlib.Core.Option.{Option, none, some}
+use mathlib.Core.List.{List, [], _∷_}
+use Prim.Native.Nat.{ℕ, zero, suc, _≤_, _<_}
+use native.Mathlib.Omega.{arith}
+use native.Mathlib.Decide.{ℕ-discrete}
+use lib.Dec.{ltb}
+use borrow.Author.Tests.{ltb-true, ltb-false}
+use Rattle.model.specs.Lists.{member}
+use Rattle.model.specs.Table.{update, update-elim, update-same, update-other}
+use Rattle.model.specs.Store.{Sizes, Chains, Phase, Installed, Ended, Txn, Store, noTxn, fresh, rank}
+use Rattle.model.specs.Seeing.{keyAt}
+use Rattle.model.specs.Steps.{withPhase, begun, pendingRows, oldKey, newKey, pushAll, installed, published, repost}
+use Rattle.model.proofs.ListLaws.{Among, member-among, among-member, pick-rising}
+use Rattle.model.proofs.Move.{Live, CanPrepare, Move, stay, did-begin, did-mark, did-capture, did-collect, did-rows, did-write, did-prepare, did-install, did-end, did-publish, did-abort}
+use Rattle.model.proofs.Chained.{Chained}
+use Rattle.model.proofs.Numbers.{Numbers, BelowAt}
+use Rattle.model.proofs.SeeingLaws.{keyAt-zero, keyAt-key, keyAt-same}
+use Rattle.model.proofs.Owned.{free}
+use Rattle.model.proofs.Holders.{Writes, Claims, claims-busy, HoldersAt, one-claim, posted-kept, repost-elim}
+use Rattle.model.proofs.Grown.{NewHead, Grown, grown}
+
+-- a row that x has installed and not published
+pub record Mine (c : Chains) (posted : ℕ → Option ℕ) (x : Txn) (r : ℕ) : Type 0 where
+  pub head-pos : 1 ≤ c .head r
+  pub xmin-is : c .xmin (c .head r) ≡ x .number
+  pub key-is : keyAt c (c .head r) ≡ newKey x r
+  pub before : keyAt c (c .next (c .head r)) ≡ posted r
+
+pub record Written (z : Sizes) (c : Chains) (posted : ℕ → Option ℕ) (t : ℕ → Txn) : Type 0 where
+  pub mine : (j r : ℕ) → Live (t j) → 5 ≤ rank (t j .phase) → Writes z (t j) r → Mine c posted (t j) r
+  pub made : (q j : ℕ) → 1 ≤ q → q ≤ c .used → Live (t j) → c .xmin q ≡ t j .number → (5 ≤ rank (t j .phase)) × ((r : ℕ) × Writes z (t j) r × (c .head r ≡ q))
+  pub posts : (r : ℕ) → (posted r ≡ keyAt c (c .head r)) ⊎ ((j : ℕ) × Live (t j) × (5 ≤ rank (t j .phase)) × Writes z (t j) r)
+
+abbrev pub WrittenAt : Store → Type 0
+WrittenAt s = Written (s .sizes) (s .chains) (s .index .posted) (s .txns)
+
+-- one place changes that has no version before or after
+written-early : (z : Sizes) (c : Chains) (posted : ℕ → Option ℕ) (t : ℕ → Txn) (i : ℕ) (x : Txn) → (Live (t i) → rank (t i .phase) < 5) → rank (x .phase) < 5
+    → ((q : ℕ) → 1 ≤ q → q ≤ c .used → Live x → c .xmin q ≡ x .number → ⊥) → Written z c posted t → Written z c posted (update t i x)
+written-early z c posted t i x a b no-version g = record {
+  mine = λ j r. update-elim (λ y. Live y → 5 ≤ rank (y .phase) → Writes z y r → Mine c posted y r) t i x j (λ e l h. absurd (omega arith)) (λ d l h w. g .mine j r l h w);
+  made = λ q j p u. update-elim (λ y. Live y → c .xmin q ≡ y .number → (5 ≤ rank (y .phase)) × ((r : ℕ) × Writes z y r × (c .head r ≡ q))) t i x j (λ e l f. absurd (no-version q p u l f)) (λ d l f. g .made q j p u l f);
+  posts = λ r. ⊎-elim inl (λ o. inr (other r (o .0) (o .1) (o .2) (o .3))) (g .posts r);
+}
+  where
+    other : (r j : ℕ) → Live (t j) → 5 ≤ rank (t j .phase) → Writes z (t j) r → (k : ℕ) × Live (update t i x k) × (5 ≤ rank (update t i x k .phase)) × Writes z (update t i x k) r
+    other r j l h w =
+        let d : j ≢ i = λ e. omega (arith, rw e at h, a (rw e at l)) in
+        (j, rw (update-other t i x j d) l, rw (update-other t i x j d) h, rw (update-other t i x j d) w)
+
+-- a transaction that has no version yet goes on
+written-on : (z : Sizes) (c : Chains) (posted : ℕ → Option ℕ) (t : ℕ → Txn) (i : ℕ) (x : Txn) → x .number ≡ t i .number → rank (t i .phase) < 5 → rank (x .phase) < 5 → Written z c posted t → Written z c posted (update t i x)
+written-on z c posted t i x e a b g = written-early z c posted t i x (λ l. a) b (λ q p u l f. omega (arith, g .made q i p u (omega arith) (f ∙ e) .0)) g
+
+-- the posted key of a row that is claimed by a Prepared transaction, or by none, is the old one
+pub posted-old : (s : Store) → Numbers (s .clock) (s .txns) → HoldersAt s → WrittenAt s → (i r : ℕ) → rank (s .txns i .phase) ≡ 4 → Writes (s .sizes) (s .txns i) r → s .index .posted r ≡ oldKey (s .chains) r
+posted-old s n h g i r a w = ⊎-elim (λ e. e) (λ o. absurd (omega (arith, rw (one-claim s i n h (o .0) i r (omega (arith, o .2), o .3) (omega arith, w)) at (o .2)))) (g .posts r)
+
+pub posted-free : (s : Store) → Numbers (s .clock) (s .txns) → HoldersAt s → WrittenAt s → (r : ℕ) → s .held .claim r ≡ 0 → s .index .posted r ≡ oldKey (s .chains) r
+posted-free s n h g r z = ⊎-elim (λ e. e) (λ o. absurd (omega (arith, o .1, h .claims .owns (o .0) r (omega (arith, o .2), o .3)))) (g .posts r)
+
+module _ (s : Store) (i : ℕ) (n : Numbers (s .clock) (s .txns)) (h : HoldersAt s) (g : WrittenAt s) (l : Live (s .txns i)) where
+  written-end : rank (s .txns i .phase) ≡ 5 → Written (s .sizes) (s .chains) (s .index .posted) (update (s .txns) i (withPhase (s .txns i) Ended))
+  written-end a = let x = withPhase (s .txns i) Ended in record {
+    mine = λ j r. update-elim (λ y. Live y → 5 ≤ rank (y .phase) → Writes (s .sizes) y r → Mine (s .chains) (s .index .posted) y r) (s .txns) i x j
+        (λ e v b w. let m = g .mine i r v (omega arith) w in record { head-pos = m .head-pos; xmin-is = m .xmin-is; key-is = m .key-is; before = m .before })
+        (λ d v b w. g .mine j r v b w);
+    made = λ q j p u. update-elim (λ y. Live y → s .chains .xmin q ≡ y .number → (5 ≤ rank (y .phase)) × ((r : ℕ) × Writes (s .sizes) y r × (s .chains .head r ≡ q))) (s .txns) i x j
+        (λ e v f. (omega arith, g .made q i p u v f .1))
+        (λ d v f. g .made q j p u v f);
+    posts = λ r. ⊎-elim inl (λ o. inr (on r (o .0) (o .1) (o .2) (o .3) (ℕ-discrete (o .0) i))) (g .posts r);
+  }
+    where
+      on : (r j : ℕ) → Live (s .txns j) → 5 ≤ rank (s .txns j .phase) → Writes (s .sizes) (s .txns j) r → Dec (j ≡ i)
+          → let t = update (s .txns) i (withPhase (s .txns i) Ended) in (k : ℕ) × Live (t k) × (5 ≤ rank (t k .phase)) × Writes (s .sizes) (t k) r
+      on r j v b w (yes e) = (i, rw update-same l, rw update-same (omega arith), rw update-same (rw e at w))
+      on r j v b w (no d) = (j, rw (update-other (s .txns) i _ j d) v, rw (update-other (s .txns) i _ j d) b, rw (update-other (s .txns) i _ j d) w)
+
+  written-publish : rank (s .txns i .phase) ≡ 6 → WrittenAt (published s i)
+  written-publish a = record {
+    mine = λ j r. update-elim (λ y. Live y → 5 ≤ rank (y .phase) → Writes (s .sizes) y r → Mine (s .chains) (published s i .index .posted) y r) (s .txns) i noTxn j
+        (λ e v b w. absurd (omega arith))
+        (λ d v b w. let m = g .mine j r v b w in record { head-pos = m .head-pos; xmin-is = m .xmin-is; key-is = m .key-is; before = m .before ∙ sym (posted-kept s i n h (omega arith) j r d (omega arith) w) });
+    made = λ q j p u. update-elim (λ y. Live y → s .chains .xmin q ≡ y .number → (5 ≤ rank (y .phase)) × ((r : ℕ) × Writes (s .sizes) y r × (s .chains .head r ≡ q))) (s .txns) i noTxn j
+        (λ e v f. absurd (omega arith))
+        (λ d v f. g .made q j p u v f);
+    posts = λ r. repost-elim (λ o. (o ≡ keyAt (s .chains) (s .chains .head r)) ⊎ ((j : ℕ) × Live (published s i .txns j) × (5 ≤ rank (published s i .txns j .phase)) × Writes (s .sizes) (published s i .txns j) r)) (s .txns i) (pendingRows (s .sizes) (s .txns i .writes)) (s .index .posted) r
+        (λ w. inl (sym (g .mine i r l (omega arith) w .key-is)))
+        (λ no-row. ⊎-elim inl (λ o. inr (on r no-row (o .0) (o .1) (o .2) (o .3))) (g .posts r));
+  }
+    where
+      on : (r : ℕ) → (Writes (s .sizes) (s .txns i) r → ⊥) → (j : ℕ) → Live (s .txns j) → 5 ≤ rank (s .txns j .phase) → Writes (s .sizes) (s .txns j) r
+          → let t = update (s .txns) i noTxn in (k : ℕ) × Live (t k) × (5 ≤ rank (t k .phase)) × Writes (s .sizes) (t k) r
+      on r no-row j v b w =
+          let d : j ≢ i = λ e. no-row (rw e at w) in
+          (j, rw (update-other (s .txns) i noTxn j d) v, rw (update-other (s .txns) i noTxn j d) b, rw (update-other (s .txns) i noTxn j d) w)
+
+-- a pointer was there before, or the install made it
+pub old-or-new : (old q : ℕ) → (q ≤ old) ⊎ (old < q)
+old-or-new old q = go (ltb old q) refl
+  where
+    go : (b : Bool) → ltb old q ≡ b → (q ≤ old) ⊎ (old < q)
+    go true e = inr (ltb-true _ _ e)
+    go false e = inl (ltb-false _ _ e)
+
+-- a key that was there is there
+pub keyAt-grown : (x : Txn) (rs : List ℕ) (c c′ : Chains) → Grown x rs c c′ → (p : ℕ) → p ≤ c .used → keyAt c′ p ≡ keyAt c p
+keyAt-grown x rs c c′ gr p u = keyAt-same c′ c p (λ z. gr .key-old p u)
+
+pub installs : (s : Store) (i : ℕ) → Chained (s .chains) → Grown (s .txns i) (pendingRows (s .sizes) (s .txns i .writes)) (s .chains) (installed s i .chains)
+unfolding pendingRows
+installs s i ch = grown (s .txns i) 0 (pendingRows (s .sizes) (s .txns i .writes)) (s .chains) (ch .heads-in) (pick-rising _ 0 (s .sizes .rows))
+
+module _ (s : Store) (i : ℕ) (ch : Chained (s .chains)) (n : Numbers (s .clock) (s .txns)) (h : HoldersAt s) (g : WrittenAt s) (l : Live (s .txns i)) (a : rank (s .txns i .phase) ≡ 4) where
+  gr : Grown (s .txns i) (pendingRows (s .sizes) (s .txns i .writes)) (s .chains) (installed s i .chains)
+  gr = installs s i ch
+
+  -- rows of others are untouched
+  others-row : (j r : ℕ) → j ≢ i → 5 ≤ rank (s .txns j .phase) → Writes (s .sizes) (s .txns j) r → installed s i .chains .head r ≡ s .chains .head r
+  others-row j r d b w = gr .head-old r (λ m. d (one-claim s i n h j i r (omega arith, w) (omega arith, m)))
+
+  install-mine : (r : ℕ) → Writes (s .sizes) (s .txns i) r → Mine (installed s i .chains) (s .index .posted) (withPhase (s .txns i) Installed) r
+  install-mine r w = let new = gr .head-new r w in record {
+    head-pos = omega (arith, new .above);
+    xmin-is = new .xmin-is;
+    key-is = keyAt-key (installed s i .chains) _ (λ e. omega (arith, new .above)) ∙ new .key-is;
+    before = ap (keyAt (installed s i .chains)) (new .next-is) ∙ (keyAt-grown _ _ _ _ gr (s .chains .head r) (ch .heads-in r) ∙ sym (posted-old s n h g i r a w));
+  }
+
+  install-others : (j r : ℕ) → j ≢ i → Live (s .txns j) → 5 ≤ rank (s .txns j .phase) → Writes (s .sizes) (s .txns j) r → Mine (installed s i .chains) (s .index .posted) (s .txns j) r
+  install-others j r d v b w =
+      let m = g .mine j r v b w in
+      let e = others-row j r d b w in
+      let u = ch .heads-in r in
+      record {
+        head-pos = omega (arith, m .head-pos);
+        xmin-is = ap (installed s i .chains .xmin) e ∙ (gr .xmin-old (s .chains .head r) u ∙ m .xmin-is);
+        key-is = ap (keyAt (installed s i .chains)) e ∙ (keyAt-grown _ _ _ _ gr (s .chains .head r) u ∙ m .key-is);
+        before = ap (λ p. keyAt (installed s i .chains) (installed s i .chains .next p)) e
+            ∙ (ap (keyAt (installed s i .chains)) (gr .next-old (s .chains .head r) u) ∙ (keyAt-grown _ _ _ _ gr (s .chains .next (s .chains .head r)) (omega (arith, ch .next-falls (s .chains .head r) (m .head-pos) u)) ∙ m .before));
+      }
+
+  install-made : (q j : ℕ) → 1 ≤ q → q ≤ installed s i .chains .used → Live (installed s i .txns j) → installed s i .chains .xmin q ≡ installed s i .txns j .number
+      → (5 ≤ rank (installed s i .txns j .phase)) × ((r : ℕ) × Writes (s .sizes) (installed s i .txns j) r × (installed s i .chains .head r ≡ q))
+  install-made q j p u = update-elim (λ y. Live y → installed s i .chains .xmin q ≡ y .number → (5 ≤ rank (y .phase)) × ((r : ℕ) × Writes (s .sizes) y r × (installed s i .chains .head r ≡ q))) (s .txns) i (withPhase (s .txns i) Installed) j
+      (λ e v f. (omega arith, ⊎-elim (λ o. absurd (omega (arith, g .made q i p o l (sym (gr .xmin-old q o) ∙ f) .0))) (λ o. gr .made q o u) (old-or-new (s .chains .used) q)))
+      (λ d v f. ⊎-elim (λ o. old d v o f) (λ o. absurd (d (new v o f))) (old-or-new (s .chains .used) q))
+    where
+      old : j ≢ i → Live (s .txns j) → q ≤ s .chains .used → installed s i .chains .xmin q ≡ s .txns j .number
+          → (5 ≤ rank (s .txns j .phase)) × ((r : ℕ) × Writes (s .sizes) (s .txns j) r × (installed s i .chains .head r ≡ q))
+      old d v o f = let m = g .made q j p o v (sym (gr .xmin-old q o) ∙ f) in (m .0, (m .1 .0, m .1 .1, others-row j (m .1 .0) d (m .0) (m .1 .1) ∙ m .1 .2))
+
+      new : Live (s .txns j) → s .chains .used < q → installed s i .chains .xmin q ≡ s .txns j .number → j ≡ i
+      new v o f =
+          let w = gr .made q o u in
+          n .distinct j i v (sym f ∙ (ap (installed s i .chains .xmin) (sym (w .2)) ∙ gr .head-new (w .0) (w .1) .xmin-is))
+
+  install-posts : (r : ℕ) → (s .index .posted r ≡ keyAt (installed s i .chains) (installed s i .chains .head r)) ⊎ ((j : ℕ) × Live (installed s i .txns j) × (5 ≤ rank (installed s i .txns j .phase)) × Writes (s .sizes) (installed s i .txns j) r)
+  install-posts r = go (member r (pendingRows (s .sizes) (s .txns i .writes))) refl
+    where
+      other : (j : ℕ) → Live (s .txns j) → 5 ≤ rank (s .txns j .phase) → Writes (s .sizes) (s .txns j) r → (k : ℕ) × Live (installed s i .txns k) × (5 ≤ rank (installed s i .txns k .phase)) × Writes (s .sizes) (installed s i .txns k) r
+      other j v b w =
+          let d : j ≢ i = λ e. omega (arith, rw e at b) in
+          (j, rw (update-other (s .txns) i _ j d) v, rw (update-other (s .txns) i _ j d) b, rw (update-other (s .txns) i _ j d) w)
+
+      go : (b : Bool) → member r (pendingRows (s .sizes) (s .txns i .writes)) ≡ b
+          → (s .index .posted r ≡ keyAt (installed s i .chains) (installed s i .chains .head r)) ⊎ ((j : ℕ) × Live (installed s i .txns j) × (5 ≤ rank (installed s i .txns j .phase)) × Writes (s .sizes) (installed s i .txns j) r)
+      go true e = inr (i, rw update-same l, rw update-same (omega arith), rw update-same (member-among r _ e))
+      go false e =
+          let same = gr .head-old r (λ m. true≢false (sym (among-member r _ m) ∙ e)) in
+          ⊎-elim
+          (λ f. inl (f ∙ sym (ap (keyAt (installed s i .chains)) same ∙ keyAt-grown _ _ _ _ gr (s .chains .head r) (ch .heads-in r))))
+          (λ o. inr (other (o .0) (o .1) (o .2) (o .3)))
+          (g .posts r)
+
+  written-install : WrittenAt (installed s i)
+  written-install = record {
+    mine = λ j r. update-elim (λ y. Live y → 5 ≤ rank (y .phase) → Writes (s .sizes) y r → Mine (installed s i .chains) (s .index .posted) y r) (s .txns) i (withPhase (s .txns i) Installed) j
+        (λ e v b w. install-mine r w)
+        (λ d v b w. install-others j r d v b w);
+    made = install-made;
+    posts = install-posts;
+  }
+
+pub written-move : (s s′ : Store) {a : ℕ} → Chained (s .chains) → Numbers (s .clock) (s .txns) → BelowAt s → HoldersAt s → WrittenAt s → Move s a s′ → WrittenAt s′
+written-move s s′ ch n b h g (stay i) = g
+written-move s s′ ch n b h g (did-begin i a e c d) = written-early _ _ _ _ i _ (λ l. absurd (omega arith)) (omega arith) (λ q p u l f. omega (arith, b .xmin-below q)) g
+written-move s s′ ch n b h g (did-mark i a e) = written-on _ _ _ _ i _ refl (omega arith) (omega arith) g
+written-move s s′ ch n b h g (did-capture i k a e c) = written-on _ _ _ _ i _ refl (omega arith) (omega arith) g
+written-move s s′ ch n b h g (did-collect i a e) = written-on _ _ _ _ i _ refl (omega arith) (omega arith) g
+written-move s s′ ch n b h g (did-rows i a e c) = written-on _ _ _ _ i _ refl (omega arith) (omega arith) g
+written-move s s′ ch n b h g (did-write i w a e c d) = written-on _ _ _ _ i _ refl (omega arith) (omega arith) g
+written-move s s′ ch n b h g (did-prepare i a e c) = written-on _ _ _ _ i _ refl (omega arith) (omega arith) g
+written-move s s′ ch n b h g (did-install i a e) = written-install s i ch n h g a e
+written-move s s′ ch n b h g (did-end i a e) = written-end s i n h g a e
+written-move s s′ ch n b h g (did-publish i a e) = written-publish s i n h g a e
+written-move s s′ ch n b h g (did-abort i a e) = written-early _ _ _ _ i noTxn (λ l. e) (omega arith) (λ q p u l f. omega arith) g
+
+pub written-fresh : (z : Sizes) (clock : ℕ) → WrittenAt (fresh z clock)
+written-fresh z clock = record {
+  mine = λ j r l h w. absurd (omega arith);
+  made = λ q j p u l f. absurd (omega arith);
+  posts = λ r. inl (sym (keyAt-zero (fresh z clock .chains)));
+}
