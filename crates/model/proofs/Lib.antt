@@ -11,3 +11,5 @@ pub mod Owned
 pub mod Holders
 pub mod Grown
 pub mod Written
+pub mod Told
+pub mod Stable
