@@ -1,0 +1,97 @@
+// Chains of versions, and what a snapshot sees of them.
+ghost use mathlib.Core.Path.{_≡_};
+ghost use lib.ListN.{take};
+ghost use Rattle.chain.specs.Chain.{seenBy, visibleTo, walkFrom, firstVisible};
+use limits::MOST_ACTIVE;
+use scans::active_contains;
+use tables::VERSION_WORDS;
+use tables::next_at;
+use tables::xmax_at;
+use tables::xmin_at;
+
+// The active numbers are the first active_n of `active`; xmin is the least of them and of the own number.
+pub struct Snapshot {
+    pub xmin: u64,
+    pub xmax: u64,
+    pub active: [u64; MOST_ACTIVE],
+    pub active_n: usize,
+}
+
+// The pointer of a version, or none.
+pub enum Pointer {
+    At(u64),
+    Nothing,
+}
+
+// Whether a snapshot of this xmax and these active numbers sees number n.
+pub fn seen(n: u64, active: &[u64], active_n: usize, xmax: u64) -> bool
+    ensures { λ r. ⌜ r ≡ seenBy (take «active_n» (now (active .entry))) xmax n ⌝ }
+{
+    if n < xmax {
+        !active_contains(active, active_n, n)
+    } else {
+        false
+    }
+}
+
+// Whether it sees a version of these two numbers.
+pub fn visible(
+    version_xmin: u64,
+    version_xmax: u64,
+    active: &[u64],
+    active_n: usize,
+    xmax: u64,
+) -> bool
+    ensures { λ r. ⌜ r ≡ visibleTo (take «active_n» (now (active .entry))) xmax «version_xmin» «version_xmax» ⌝ }
+{
+    if seen(version_xmin, active, active_n, xmax) {
+        if version_xmax == 0 {
+            true
+        } else {
+            !seen(version_xmax, active, active_n, xmax)
+        }
+    } else {
+        false
+    }
+}
+
+// Follows the next pointer from p until a version is visible or the pointer is 0.
+// A level holds the snapshot's parts and not the snapshot, so that a long chain takes little stack.
+fn walk(versions: &[u64], active: &[u64], active_n: usize, xmax: u64, p: u64) -> Pointer
+    ensures { λ r. ⌜ r ≡ walkFrom (now (versions .entry)) (take «active_n» (now (active .entry))) xmax p ⌝ }
+{
+    if p == 0 {
+        return Pointer::Nothing;
+    }
+    let at = p as usize;
+    if visible(
+        xmin_at(versions, at),
+        xmax_at(versions, at),
+        active,
+        active_n,
+        xmax,
+    ) {
+        return Pointer::At(p);
+    }
+    let next = next_at(versions, at);
+    if next < p {
+        walk(versions, active, active_n, xmax, next)
+    } else {
+        Pointer::Nothing
+    }
+}
+
+// The first version of the chain from p that the snapshot sees, of the first `used` versions.
+pub fn first_visible(versions: &[u64], used: usize, s: Snapshot, p: u64) -> Pointer
+    ensures { λ r. ⌜ r ≡ firstVisible (now (versions .entry)) used s p ⌝ }
+{
+    let at = p as usize;
+    if used < at {
+        return Pointer::Nothing;
+    }
+    if versions.len() / VERSION_WORDS <= at {
+        return Pointer::Nothing;
+    }
+    let active = s.active;
+    walk(versions, &active[..], s.active_n, s.xmax, p)
+}
