@@ -13,3 +13,5 @@ pub mod Grown
 pub mod Written
 pub mod Told
 pub mod Stable
+pub mod Complete
+pub mod Reading
