@@ -1,30 +1,40 @@
 -- The walk from p is one step, with the walk itself for the rest: more steps than p change nothing.
 -- Assumes nothing.
-use Prim.Native.Nat.{ℕ, zero, suc, _<_, _≤_}
+use Prim.Native.Nat.{ℕ, zero, suc, _<_, _≤_, _/_}
 use mathlib.Core.Path.{_≡_, refl, sym}
 use mathlib.Core.List.{List}
-use mathlib.Core.Bool.{Bool, true, false, cond}
+use mathlib.Core.Bool.{Bool, true, false, cond, not, _&&_, false≢true}
 use native.Mathlib.Omega.{arith}
-use borrow.Author.Tests.{ltb-true}
-use lib.Dec.{ltb}
-use Rattle.tables.specs.Fields.{nextOf}
-use Rattle.chain.specs.declared.Pointer.{Pointer}
-use Rattle.chain.specs.declared.Pointer.the-variants.{Nothing}
-use Rattle.chain.specs.Chain.{stepFrom, walkFor, walkFrom}
+use borrow.Author.Tests.{ltb-true, leb-true, lt-ltb, le-leb}
+use lib.Dec.{eqb, leb, ltb}
+use lib.ListN.{length}
+use Rattle.tables.specs.Fields.{versionWords, xminOf, xmaxOf, nextOf}
+use Rattle.chain.specs.declared.Snapshot.{Snapshot}
+use Rattle.chain.specs.declared.Pointer.the-variants.{At, Nothing}
+use Rattle.chain.specs.Chain.{activeOf, visibleTo, stepFrom, walkFor, walkFrom, known, firstVisible}
 
 -- the first branch of a test may use that the test holds
-cond-when : (b : Bool) (x y z : Pointer) → (b ≡ true → x ≡ y) → cond b x z ≡ cond b y z
+cond-when : (b : Bool) (x y z : ℕ) → (b ≡ true → x ≡ y) → cond b x z ≡ cond b y z
 cond-when true x y z e = e refl
 cond-when false x y z e = refl
 
+-- a test that is the first, or the second, of two that hold
+and-l : (a b : Bool) → a && b ≡ true → a ≡ true
+and-l true b e = refl
+and-l false b e = e
+
+and-r : (a b : Bool) → a && b ≡ true → b ≡ true
+and-r true b e = e
+and-r false b e = absurd (false≢true e)
+
 module _ (versions active : List ℕ) (xmax : ℕ) where
-  step-agrees : (f g : ℕ → Pointer) (p : ℕ) → ((q : ℕ) → q < p → f q ≡ g q) → stepFrom versions active xmax f p ≡ stepFrom versions active xmax g p
+  step-agrees : (f g : ℕ → ℕ) (p : ℕ) → ((q : ℕ) → q < p → f q ≡ g q) → stepFrom versions active xmax f p ≡ stepFrom versions active xmax g p
   unfolding stepFrom
   step-agrees f g p e =
       let q = nextOf versions p in
-      rw (cond-when (ltb q p) (f q) (g q) Nothing (λ t. e q (ltb-true q p t)))
+      rw (cond-when (ltb q p) (f q) (g q) 0 (λ t. e q (ltb-true q p t)))
 
-  step-zero : (f : ℕ → Pointer) → stepFrom versions active xmax f 0 ≡ Nothing
+  step-zero : (f : ℕ → ℕ) → stepFrom versions active xmax f 0 ≡ 0
   unfolding stepFrom
   step-zero f = refl
 
@@ -40,3 +50,26 @@ module _ (versions active : List ℕ) (xmax : ℕ) where
   unfolding walkFrom walkFor
   walk-step zero = sym (step-zero (λ q. walkFor versions active xmax q q))
   walk-step (suc k) = step-agrees (walkFor versions active xmax k) (λ q. walkFor versions active xmax q q) (suc k) (λ q l. steps-enough k q q (omega arith) (omega arith))
+
+-- what a walk finds from a pointer below a known one is what it finds there
+module _ (versions : List ℕ) (used : ℕ) (s : Snapshot) where
+  known-below : (p q : ℕ) → q < p → known versions used p ≡ true → known versions used q ≡ true
+  known-below p q l k =
+      rw (le-leb q used (omega (arith, leb-true p used (and-l (leb p used) _ k))), lt-ltb q (length versions / versionWords) (omega (arith, ltb-true p (length versions / versionWords) (and-r (leb p used) _ k))))
+
+  -- one step, by the outcome of each test
+  step-by : (p : ℕ) (k z v f : Bool) → known versions used p ≡ k → eqb p 0 ≡ z → visibleTo (activeOf s) (s .xmax) (xminOf versions p) (xmaxOf versions p) ≡ v → ltb (nextOf versions p) p ≡ f
+      → firstVisible versions used s p ≡ cond (k && not z) (cond v (At p) (cond f (firstVisible versions used s (nextOf versions p)) Nothing)) Nothing
+  unfolding firstVisible stepFrom
+  step-by p false z v f ek ez ev ef = rw ek
+  step-by p true true v f ek ez ev ef = rw (ek, walk-step, ez)
+  step-by p true false true f ek ez ev ef = rw (ek, walk-step, ez, ev, ez)
+  step-by p true false false true ek ez ev ef = rw (ek, walk-step, ez, ev, ef, known-below p (nextOf versions p) (ltb-true (nextOf versions p) p ef) ek)
+  step-by p true false false false ek ez ev ef = rw (ek, walk-step, ez, ev, ef)
+
+  -- `first_visible` unrolled: an unknown pointer or 0 gives none, then the version, then what the next pointer gives
+  pub first-visible-step : (p : ℕ) → firstVisible versions used s p ≡ cond (known versions used p && not (eqb p 0))
+      (cond (visibleTo (activeOf s) (s .xmax) (xminOf versions p) (xmaxOf versions p)) (At p)
+      (cond (ltb (nextOf versions p) p) (firstVisible versions used s (nextOf versions p)) Nothing))
+      Nothing
+  first-visible-step p = step-by p (known versions used p) (eqb p 0) _ (ltb (nextOf versions p) p) refl refl refl refl

@@ -22,26 +22,30 @@ seenBy active xmax n = ltb n xmax && not (member n active)
 abbrev pub visibleTo : List ℕ → ℕ → ℕ → ℕ → Bool
 visibleTo active xmax xminᵥ xmaxᵥ = seenBy active xmax xminᵥ && (eqb xmaxᵥ 0 || not (seenBy active xmax xmaxᵥ))
 
--- one step of the walk, where `rest` is the walk from the next pointer; a next that does not fall is none
-unfoldable pub stepFrom : List ℕ → List ℕ → ℕ → (ℕ → Pointer) → ℕ → Pointer
+-- one step of the walk, where `rest` is the walk from the next pointer; a next that does not fall is 0
+unfoldable pub stepFrom : List ℕ → List ℕ → ℕ → (ℕ → ℕ) → ℕ → ℕ
 stepFrom versions active xmax rest p =
-    cond (eqb p 0) Nothing
-    (cond (visibleTo active xmax (xminOf versions p) (xmaxOf versions p)) (At p)
-    (cond (ltb (nextOf versions p) p) (rest (nextOf versions p)) Nothing))
+    cond (eqb p 0) 0
+    (cond (visibleTo active xmax (xminOf versions p) (xmaxOf versions p)) p
+    (cond (ltb (nextOf versions p) p) (rest (nextOf versions p)) 0))
 
 -- a walk of at most k steps
-unfoldable pub walkFor : List ℕ → List ℕ → ℕ → ℕ → ℕ → Pointer
-walkFor versions active xmax zero p = Nothing
+unfoldable pub walkFor : List ℕ → List ℕ → ℕ → ℕ → ℕ → ℕ
+walkFor versions active xmax zero p = 0
 walkFor versions active xmax (suc k) p = stepFrom versions active xmax (walkFor versions active xmax k) p
 
 -- the walk from p: it follows the next pointer until a version is visible or the pointer is 0; pointers fall, so p steps are enough
-unfoldable pub walkFrom : List ℕ → List ℕ → ℕ → ℕ → Pointer
+unfoldable pub walkFrom : List ℕ → List ℕ → ℕ → ℕ → ℕ
 walkFrom versions active xmax p = walkFor versions active xmax p p
 
 -- p is a used pointer, and its version stands whole in the table
 abbrev pub known : List ℕ → ℕ → ℕ → Bool
 known versions used p = leb p used && ltb p (length versions / versionWords)
 
+-- a pointer, or none for 0
+abbrev pub pointer : ℕ → Pointer
+pointer p = cond (eqb p 0) Nothing (At p)
+
 -- the first version of the chain from p that the snapshot sees; an unknown pointer gives none
 unfoldable pub firstVisible : List ℕ → ℕ → Snapshot → ℕ → Pointer
-firstVisible versions used s p = cond (known versions used p) (walkFrom versions (activeOf s) (s .xmax) p) Nothing
+firstVisible versions used s p = cond (known versions used p) (pointer (walkFrom versions (activeOf s) (s .xmax) p)) Nothing

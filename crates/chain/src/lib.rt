@@ -55,29 +55,29 @@ pub fn visible(
     }
 }
 
-// Follows the next pointer from p until a version is visible or the pointer is 0.
-// A level holds the snapshot's parts and not the snapshot, so that a long chain takes little stack.
-fn walk(versions: &[u64], active: &[u64], active_n: usize, xmax: u64, p: u64) -> Pointer
-    ensures { λ r. ⌜ r ≡ walkFrom (now (versions .entry)) (take «active_n» (now (active .entry))) xmax p ⌝ }
+// Follows the next pointer from p until a version is visible or the pointer is 0, and answers that pointer.
+// A level hands on thin references and numbers alone, and answers a number: so the compiler makes it a loop that takes no stack.
+fn walk(versions: &&[u64], active: &[u64; MOST_ACTIVE], active_n: usize, xmax: u64, p: u64) -> u64
+    ensures { λ r. ⌜ r ≡ walkFrom (now (now (versions .entry))) (take «active_n» (now (active .entry))) xmax p ⌝ }
 {
     if p == 0 {
-        return Pointer::Nothing;
+        return 0;
     }
     let at = p as usize;
     if visible(
-        xmin_at(versions, at),
-        xmax_at(versions, at),
-        active,
+        xmin_at(*versions, at),
+        xmax_at(*versions, at),
+        &active[..],
         active_n,
         xmax,
     ) {
-        return Pointer::At(p);
+        return p;
     }
-    let next = next_at(versions, at);
+    let next = next_at(*versions, at);
     if next < p {
         walk(versions, active, active_n, xmax, next)
     } else {
-        Pointer::Nothing
+        0
     }
 }
 
@@ -93,5 +93,10 @@ pub fn first_visible(versions: &[u64], used: usize, s: Snapshot, p: u64) -> Poin
         return Pointer::Nothing;
     }
     let active = s.active;
-    walk(versions, &active[..], s.active_n, s.xmax, p)
+    let found = walk(&versions, &active, s.active_n, s.xmax, p);
+    if found == 0 {
+        Pointer::Nothing
+    } else {
+        Pointer::At(found)
+    }
 }

@@ -19,14 +19,14 @@ use Rattle.tables.proofs.xmin_at.Reads as xmin-at-reads
 use Rattle.chain.proofs.+walk.{statement}
 use Rattle.chain.proofs.+walk.Tie.{close}
 
-abbrev μ-walk : Measures 2 walk-kinds.ps ℕ
+abbrev μ-walk : Measures 3 walk-kinds.ps ℕ
 μ-walk κs a = a .1 .1 .1 .1 .0
 
-abbrev walk-at : ℕ → In 2 walk-kinds.ps
-walk-at t = and 2 walk-kinds.ps (is 2 walk-kinds.ps μ-walk t) walk.Pre
+abbrev walk-at : ℕ → In 3 walk-kinds.ps
+walk-at t = and 3 walk-kinds.ps (is 3 walk-kinds.ps μ-walk t) walk.Pre
 
-abbrev walk-below : ℕ → In 2 walk-kinds.ps
-walk-below t = and 2 walk-kinds.ps (falls 2 walk-kinds.ps _<_ μ-walk t) walk.Pre
+abbrev walk-below : ℕ → In 3 walk-kinds.ps
+walk-below t = and 3 walk-kinds.ps (falls 3 walk-kinds.ps _<_ μ-walk t) walk.Pre
 
 walk-returns : (t : ℕ) → walk-lts.Need-returns (
   xmin-at-reads.Asked,
@@ -98,7 +98,7 @@ walk-returns-2 : (t : ℕ) → walk-lts.Need-returns-2 (
   walk.Post,
 ) (walk-at t) walk.Post
 unfolding stepFrom
-walk-returns-2 t c = rw (walk-step, ne-eqb _ _ (c .before .before .before .before .if1 .left), ← c .before .before .before .xmin-at .ensures, ← c .before .before .xmax-at .ensures, ← c .before .visible .ensures, c .if2 .taken)
+walk-returns-2 t c = rw (walk-step, ne-eqb _ _ (c .before .before .before .before .before .before .before .if1 .left), ← c .before .before .before .before .before .xmin-at .ensures, ← c .before .before .before .xmax-at .ensures, ← c .before .visible .ensures, c .if2 .taken)
 
 walk-next-at-requires : (t : ℕ) → walk-lts.Need-next-at-requires (
   xmin-at-reads.Asked,
@@ -142,7 +142,7 @@ walk-returns-3 : (t : ℕ) → walk-lts.Need-returns-3 (
 ) (walk-at t) walk.Post
 unfolding stepFrom
 walk-returns-3 t c =
-    c .walk .ensures ∙ sym (rw (walk-step, ne-eqb _ _ (c .before .before .before .before .before .before .before .if1 .left), ← c .before .before .before .before .before .before .xmin-at .ensures, ← c .before .before .before .before .before .xmax-at .ensures, ← c .before .before .before .before .visible .ensures, c .before .before .before .if2 .left, ← c .before .before .next-at .ensures, lt-ltb _ _ (c .before .if3 .taken)))
+    c .walk .ensures ∙ sym (rw (walk-step, ne-eqb _ _ (c .before .before .before .before .before .before .before .before .before .before .before .if1 .left), ← c .before .before .before .before .before .before .before .before .before .xmin-at .ensures, ← c .before .before .before .before .before .before .before .xmax-at .ensures, ← c .before .before .before .before .before .visible .ensures, c .before .before .before .before .if2 .left, ← c .before .before .next-at .ensures, lt-ltb _ _ (c .before .if3 .taken)))
 
 walk-returns-4 : (t : ℕ) → walk-lts.Need-returns-4 (
   xmin-at-reads.Asked,
@@ -157,7 +157,7 @@ walk-returns-4 : (t : ℕ) → walk-lts.Need-returns-4 (
   walk.Post,
 ) (walk-at t) walk.Post
 unfolding stepFrom
-walk-returns-4 t c = rw (walk-step, ne-eqb _ _ (c .before .before .before .before .before .before .if1 .left), ← c .before .before .before .before .before .xmin-at .ensures, ← c .before .before .before .before .xmax-at .ensures, ← c .before .before .before .visible .ensures, c .before .before .if2 .left, ← c .before .next-at .ensures, le-ltb _ _ (c .if3 .left))
+walk-returns-4 t c = rw (walk-step, ne-eqb _ _ (c .before .before .before .before .before .before .before .before .before .before .if1 .left), ← c .before .before .before .before .before .before .before .before .xmin-at .ensures, ← c .before .before .before .before .before .before .xmax-at .ensures, ← c .before .before .before .before .visible .ensures, c .before .before .before .if2 .left, ← c .before .next-at .ensures, le-ltb _ _ (c .if3 .left))
 
 pub +walk-spec : {M : Type 1} → statement M
 +walk-spec = close μ-walk λ t. walk-lts.spec (
