@@ -1,15 +1,17 @@
 -- The walk from p is one step, with the walk itself for the rest: more steps than p change nothing.
 -- Assumes nothing.
 use Prim.Native.Nat.{ℕ, zero, suc, _<_, _≤_, _/_}
-use mathlib.Core.Path.{_≡_, refl, sym}
+use mathlib.Core.Path.{_≡_, refl, sym, _∙_}
+use mathlib.Core.Logic.{_≢_}
 use mathlib.Core.List.{List}
 use mathlib.Core.Bool.{Bool, true, false, cond, not, _&&_, false≢true}
 use native.Mathlib.Omega.{arith}
-use borrow.Author.Tests.{ltb-true, leb-true, lt-ltb, le-leb}
+use borrow.Author.Tests.{eqb-false, ltb-true, leb-true, lt-ltb, le-leb}
 use lib.Dec.{eqb, leb, ltb}
 use lib.ListN.{length}
 use Rattle.tables.specs.Fields.{versionWords, xminOf, xmaxOf, nextOf}
 use Rattle.chain.specs.declared.Snapshot.{Snapshot}
+use Rattle.chain.specs.declared.Pointer.{Pointer}
 use Rattle.chain.specs.declared.Pointer.the-variants.{At, Nothing}
 use Rattle.chain.specs.Chain.{activeOf, visibleTo, stepFrom, walkFor, walkFrom, known, firstVisible}
 
@@ -51,6 +53,10 @@ module _ (versions active : List ℕ) (xmax : ℕ) where
   walk-step zero = sym (step-zero (λ q. walkFor versions active xmax q q))
   walk-step (suc k) = step-agrees (walkFor versions active xmax k) (λ q. walkFor versions active xmax q q) (suc k) (λ q l. steps-enough k q q (omega arith) (omega arith))
 
+-- none is no pointer
+none-is-none : (q : ℕ) → _≡_ {A = Pointer} Nothing (At q) → ⊥
+none-is-none q e = let z : _≡_ {A = ℕ} 0 1 = cc in omega arith
+
 -- what a walk finds from a pointer below a known one is what it finds there
 module _ (versions : List ℕ) (used : ℕ) (s : Snapshot) where
   known-below : (p q : ℕ) → q < p → known versions used p ≡ true → known versions used q ≡ true
@@ -73,3 +79,27 @@ module _ (versions : List ℕ) (used : ℕ) (s : Snapshot) where
       (cond (ltb (nextOf versions p) p) (firstVisible versions used s (nextOf versions p)) Nothing))
       Nothing
   first-visible-step p = step-by p (known versions used p) (eqb p 0) _ (ltb (nextOf versions p) p) refl refl refl refl
+
+  -- an answered pointer is not 0, it is known, and its version is visible
+  pub record Answered (q : ℕ) : Type 0 where
+    pub some : q ≢ 0
+    pub is-known : known versions used q ≡ true
+    pub is-visible : visibleTo (activeOf s) (s .xmax) (xminOf versions q) (xmaxOf versions q) ≡ true
+
+  answered-by : (p q : ℕ) (k z v f : Bool) → known versions used p ≡ k → eqb p 0 ≡ z → visibleTo (activeOf s) (s .xmax) (xminOf versions p) (xmaxOf versions p) ≡ v → ltb (nextOf versions p) p ≡ f
+      → (nextOf versions p < p → firstVisible versions used s (nextOf versions p) ≡ At q → Answered q)
+      → cond (k && not z) (cond v (At p) (cond f (firstVisible versions used s (nextOf versions p)) Nothing)) Nothing ≡ At q → Answered q
+  answered-by p q false z v f ek ez ev ef rest e = absurd (none-is-none q e)
+  answered-by p q true true v f ek ez ev ef rest e = absurd (none-is-none q e)
+  answered-by p q true false true f ek ez ev ef rest e = let d : p ≡ q = cc in rw (← d) (record { some = eqb-false p 0 ez; is-known = ek; is-visible = ev })
+  answered-by p q true false false true ek ez ev ef rest e = rest (ltb-true (nextOf versions p) p ef) e
+  answered-by p q true false false false ek ez ev ef rest e = absurd (none-is-none q e)
+
+  answered-upto : (n p q : ℕ) → p ≤ n → firstVisible versions used s p ≡ At q → Answered q
+  answered-upto zero p q h e =
+      answered-by p q (known versions used p) (eqb p 0) _ (ltb (nextOf versions p) p) refl refl refl refl (λ l r. absurd (omega arith)) (sym (first-visible-step p) ∙ e)
+  answered-upto (suc n) p q h e =
+      answered-by p q (known versions used p) (eqb p 0) _ (ltb (nextOf versions p) p) refl refl refl refl (λ l r. answered-upto n (nextOf versions p) q (omega arith) r) (sym (first-visible-step p) ∙ e)
+
+  pub first-visible-answered : (p q : ℕ) → firstVisible versions used s p ≡ At q → Answered q
+  first-visible-answered p q e = answered-upto p p q (omega arith) e
