@@ -15,3 +15,4 @@ pub mod Told
 pub mod Stable
 pub mod Complete
 pub mod Reading
+pub mod Good
