@@ -16,3 +16,5 @@ pub mod Stable
 pub mod Complete
 pub mod Reading
 pub mod Good
+pub mod Accepted
+pub mod Finished

@@ -1,0 +1,61 @@
+-- An accepted step: its tests refused nothing, the store had the right shape, and so it was reached from a store that could be opened. Assumes nothing.
+use mathlib.Core.Path.{_≡_, refl, sym, ap, _∙_}
+use mathlib.Core.Bool.{Bool, true, false, cond, _&&_, true≢false}
+use mathlib.Core.Option.{Option, none, some}
+use mathlib.Core.List.{List, [], _∷_}
+use Prim.Native.Nat.{ℕ, _+_, _≤_}
+use native.Mathlib.Omega.{arith}
+use lib.Dec.{leb}
+use borrow.Author.Tests.{leb-true}
+use Rattle.limits.specs.Limits.{lastNumber}
+use Rattle.model.specs.Store.{Sizes, Store, fresh}
+use Rattle.model.specs.Refusals.{Step, Refusal, WrongShape, liveCount, checks, refusal}
+use Rattle.model.specs.Shape.{goodSizes, rightShape}
+use Rattle.model.specs.Machine.{Answer, Done, Number, Stamp, Count, Rows, Judged, Refused, gives, accepted, carried, step, stepIn, run}
+use Rattle.model.proofs.ListLaws.{and-l, and-r}
+use Rattle.model.proofs.Good.{Good, good-fresh, good-run}
+
+-- an answer that is a refusal
+abbrev pub refuses : Answer → Bool
+refuses Done = false
+refuses (Number n) = false
+refuses (Stamp n) = false
+refuses (Count n) = false
+refuses (Rows rs) = false
+refuses (Judged v) = false
+refuses (Refused r) = true
+
+pub record Accepted (s : Store) (a : Step) : Type 0 where
+  pub shape : rightShape s ≡ true
+  pub tests : refusal (checks s a) ≡ none
+  pub does : step s a ≡ accepted s a
+
+pub is-accepted : (s : Store) (a : Step) → refuses (step s a .answer) ≡ false → Accepted s a
+unfolding step stepIn carried
+is-accepted s a = go (rightShape s) refl (refusal (checks s a)) refl
+  where
+    go : (b : Bool) → rightShape s ≡ b → (o : Option Refusal) → refusal (checks s a) ≡ o → refuses (cond b (carried s a o) (gives s (Refused WrongShape)) .answer) ≡ false → Accepted s a
+    go true p none q = λ e. record { shape = p; tests = q; does = rw (p, q) }
+    go true p (some r) q = λ e. absurd (true≢false e)
+    go false p o q = λ e. absurd (true≢false e)
+
+-- a store of wrong shape stays as it is
+shut-run : (s : Store) (more : List Step) → rightShape s ≡ false → run s more ≡ s
+unfolding run step
+shut-run s [] e = refl
+shut-run s (a ∷ more) e = rw e (shut-run s more e)
+
+open-shape : (z : Sizes) (clock : ℕ) → rightShape (fresh z clock) ≡ true → Good (fresh z clock)
+unfolding rightShape
+open-shape z clock e =
+    let a : goodSizes z ≡ true = search (and-l, and-r) depth 8 in
+    let b : leb 1 clock ≡ true = search (and-l, and-r) depth 8 in
+    let c : leb (clock + liveCount (fresh z clock .txns)) lastNumber ≡ true = search (and-l, and-r) depth 8 in
+    good-fresh z clock a (leb-true 1 clock b) (omega (arith, leb-true (clock + liveCount (fresh z clock .txns)) lastNumber c))
+
+pub reached : (z : Sizes) (clock : ℕ) (before : List Step) (a : Step) → refuses (step (run (fresh z clock) before) a .answer) ≡ false → Good (run (fresh z clock) before)
+reached z clock before a e = go (rightShape (fresh z clock)) refl
+  where
+    go : (b : Bool) → rightShape (fresh z clock) ≡ b → Good (run (fresh z clock) before)
+    go true t = good-run (fresh z clock) (open-shape z clock t) before
+    go false t = absurd (true≢false (sym (is-accepted (run (fresh z clock) before) a e .shape) ∙ (rw (shut-run (fresh z clock) before t) t)))

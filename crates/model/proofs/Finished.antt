@@ -1,0 +1,125 @@
+-- A finished read: what `rows` answers is every row of the store that matches, ascending, and the version of each is recorded. Assumes nothing.
+use mathlib.Core.Path.{_≡_, refl, sym, ap, _∙_}
+use mathlib.Core.Bool.{Bool, true, false, cond, _&&_, _||_}
+use mathlib.Core.Logic.{_≢_, _⊎_, inl, inr, ⊎-elim}
+use mathlib.Core.Option.{Option, none, some}
+use mathlib.Core.List.{List, [], _∷_}
+use Prim.Native.Nat.{ℕ, zero, suc, _+_, _≤_, _<_}
+use native.Mathlib.Omega.{arith}
+use lib.Dec.{eqb}
+use lib.ListN.{length}
+use borrow.Author.Tests.{eqb-true, ltb-false}
+use Rattle.limits.specs.Limits.{mostLive, mostRecords}
+use Rattle.model.specs.Lists.{member, pick, first}
+use Rattle.model.specs.Table.{update, update-same, update-field}
+use Rattle.model.specs.Store.{Sizes, Chains, Snapshot, ReadRecord, Collected, Txn, Store, fresh, rank, keyIn, bucketOf}
+use Rattle.model.specs.Seeing.{versionOf, keyAt, pending, matches, recordOf}
+use Rattle.model.specs.Steps.{foundRows, recordsAfter, readTxn, readDone}
+use Rattle.model.specs.Refusals.{Step, rows, placeOf, txnOf, checks}
+use Rattle.model.specs.Machine.{Rows, at, accepted, step, run}
+use Rattle.model.proofs.ListLaws.{and-r, or-left, or-right, same-test, Among, among-member, Rising, pick-same, pick-rising}
+use Rattle.model.proofs.Move.{Live, passes, finds, did-rows}
+use Rattle.model.proofs.Chained.{Chained}
+use Rattle.model.proofs.SeeingLaws.{keyAt-pos, match-version, found-which, recordAll-has}
+use Rattle.model.proofs.Walk.{InChain, heads, version-finds, finds-chain, chains-apart}
+use Rattle.model.proofs.Holders.{collected-is}
+use Rattle.model.proofs.Reading.{Reading, ReadingAt}
+use Rattle.model.proofs.Good.{Good, good-move}
+use Rattle.model.proofs.Accepted.{refuses, Accepted, is-accepted, reached}
+
+-- s is the store before `rows`, s′ the one after it, and t the transaction's number
+pub record FinishedRead (s s′ : Store) (t : ℕ) (rs : List ℕ) : Type 0 where
+  pub key : ℕ
+  pub phase-is : txnOf s t .phase ≡ Collected key
+  -- every row of the store that matches, and no other
+  pub whole : rs ≡ pick (matches (s .chains) (txnOf s t) key) 0 (s .sizes .rows)
+  pub ascending : Rising 0 rs
+  -- the version of each row matched through one is recorded
+  pub recorded : (r : ℕ) → Among r rs → pending (txnOf s t .writes) r ≡ false → Among (recordOf (s .chains) (txnOf s t .snapshot) r) (txnOf s′ t .records)
+
+-- a place is found by numbers alone
+first-same : (test also : ℕ → Bool) (k n : ℕ) → ((j : ℕ) → test j ≡ also j) → first test k n ≡ first also k n
+unfolding first
+first-same test also k zero h = refl
+first-same test also k (suc n) h = rw (h k, first-same test also (suc k) n h)
+
+pub place-same : (t t′ : ℕ → Txn) (n : ℕ) → ((j : ℕ) → t′ j .number ≡ t j .number) → placeOf t′ n ≡ placeOf t n
+unfolding placeOf
+place-same t t′ n h = first-same (λ i. eqb (t′ i .number) n) (λ i. eqb (t i .number) n) 0 mostLive (λ j. rw (h j))
+
+-- two rows seen at one version are one
+pub one-row : (c : Chains) (v : Snapshot) → Chained c → (q r : ℕ) → versionOf c v q ≡ versionOf c v r → versionOf c v r ≢ 0 → q ≡ r
+one-row c v g q r e z = chains-apart c g q r (versionOf c v r)
+    (rw e at (finds-chain c v q (c .head q) (versionOf c v q) (version-finds c v g q) (heads refl) (λ f. z (sym e ∙ f))))
+    (finds-chain c v r (c .head r) (versionOf c v r) (version-finds c v g r) (heads refl) z) z
+
+module _ (s : Store) (g : Good s) (i : ℕ) (l : Live (s .txns i)) (a : rank (s .txns i .phase) ≡ 3) where
+  -- the transaction, and its key
+  abbrev x : Txn
+  x = s .txns i
+
+  abbrev k : ℕ
+  k = keyIn (s .txns i .phase)
+
+  pub found-whole : foundRows s x ≡ pick (matches (s .chains) x k) 0 (s .sizes .rows)
+  unfolding foundRows
+  found-whole = pick-same (λ r. (member r (x .candidates) || pending (x .writes) r) && matches (s .chains) x k r) (matches (s .chains) x k) 0 (s .sizes .rows)
+      (λ r lo hi. same-test _ _ (and-r (member r (x .candidates) || pending (x .writes) r) (matches (s .chains) x k r)) (λ m. rw (candidate r (omega arith) (pending (x .writes) r) refl m) m))
+    where
+      candidate : (r : ℕ) → r < s .sizes .rows → (b : Bool) → pending (x .writes) r ≡ b → matches (s .chains) x k r ≡ true → member r (x .candidates) || pending (x .writes) r ≡ true
+      candidate r u true p m = or-right (member r (x .candidates)) _ p
+      candidate r u false p m = or-left _ _ (among-member r (x .candidates) (g .reading i l .collects k (collected-is (x .phase) a) .1 r u (match-version (s .chains) x k r p m)))
+
+  -- the read's records are of the versions that its rows are seen at
+  pub found-recorded : (r : ℕ) → Among r (foundRows s x) → pending (x .writes) r ≡ false → Reading (s .sizes) (s .chains) (s .index .stamp) (readTxn s x) → Among (recordOf (s .chains) (x .snapshot) r) (readTxn s x .records)
+  found-recorded r m p reads =
+      let h = recordAll-has (s .chains) x (x .records) (foundRows s x) r m p in
+      let e = reads .records-are (omega arith) (h .0) (h .1) in
+      let z = keyAt-pos (s .chains) (versionOf (s .chains) (x .snapshot) r) k (match-version (s .chains) x k r p (found-which s x r m .1)) in
+      let same : h .0 .row ≡ r = one-row (s .chains) (x .snapshot) (g .chained) (h .0 .row) r (sym (ap (λ (q : ReadRecord). q .ptr) e) ∙ h .2) z in
+      rw (e ∙ ap (recordOf (s .chains) (x .snapshot)) same) at (h .1)
+
+-- an accepted `rows`
+pub record RowsDone (s : Store) (t room : ℕ) (rs : List ℕ) : Type 0 where
+  pub alive : Live (txnOf s t)
+  pub number-is : txnOf s t .number ≡ t
+  pub collected : rank (txnOf s t .phase) ≡ 3
+  pub few : length (recordsAfter s (txnOf s t)) ≤ mostRecords
+  pub answer-is : rs ≡ foundRows s (txnOf s t)
+  pub store-is : step s (rows t room) .store ≡ readDone s (at s t)
+  pub txn-is : txnOf (step s (rows t room) .store) t ≡ readTxn s (txnOf s t)
+
+pub rows-done : (s : Store) (t room : ℕ) (rs : List ℕ) → step s (rows t room) .answer ≡ Rows rs → RowsDone s t room rs
+unfolding checks accepted
+rows-done s t room rs e =
+    let ok = is-accepted s (rows t room) (ap refuses e) in
+    let f = finds s t _ _ (ok .tests) in
+    let b = passes _ _ _ (passes _ _ _ (f .rest) .1) in
+    let d = ok .does in
+    let st : step s (rows t room) .store ≡ readDone s (at s t) = ap (λ w. w .store) d in
+    let an : Rows rs ≡ Rows (foundRows s (txnOf s t)) = sym e ∙ ap (λ w. w .answer) d in
+    record {
+      alive = f .alive;
+      number-is = f .number;
+      collected = eqb-true _ _ (f .phase-is);
+      few = ltb-false _ _ (b .0);
+      answer-is = cc;
+      store-is = st;
+      txn-is = rw (st, place-same (s .txns) (readDone s (at s t) .txns) t (λ j. update-field (λ y. y .number) (s .txns) (at s t) (readTxn s (txnOf s t)) j refl), update-same);
+    }
+
+pub finished-read : (z : Sizes) (clock : ℕ) (before : List Step) (t room : ℕ) (rs : List ℕ) → let s = run (fresh z clock) before in step s (rows t room) .answer ≡ Rows rs → FinishedRead s (step s (rows t room) .store) t rs
+unfolding foundRows
+finished-read z clock before t room rs e =
+    let s = run (fresh z clock) before in
+    let g = reached z clock before (rows t room) (ap refuses e) in
+    let d = rows-done s t room rs e in
+    let after = good-move s (readDone s (at s t)) g (did-rows (at s t) (d .alive) (d .collected) (d .few)) in
+    let reads : Reading (s .sizes) (s .chains) (s .index .stamp) (readTxn s (txnOf s t)) = rw update-same at (after .reading (at s t) (rw update-same (d .alive))) in
+    record {
+      key = keyIn (txnOf s t .phase);
+      phase-is = collected-is (txnOf s t .phase) (d .collected);
+      whole = d .answer-is ∙ found-whole s g (at s t) (d .alive) (d .collected);
+      ascending = rw (d .answer-is) (pick-rising _ 0 (s .sizes .rows));
+      recorded = λ r m p. rw (d .txn-is) (found-recorded s g (at s t) (d .alive) (d .collected) r (rw (d .answer-is) at m) p reads);
+    }
