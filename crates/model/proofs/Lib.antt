@@ -18,3 +18,4 @@ pub mod Reading
 pub mod Good
 pub mod Accepted
 pub mod Finished
+pub mod Remains
