@@ -19,3 +19,5 @@ pub mod Good
 pub mod Accepted
 pub mod Finished
 pub mod Remains
+pub mod Cleared
+pub mod Stands

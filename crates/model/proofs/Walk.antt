@@ -90,7 +90,7 @@ finds-shown c v p q (nothing a b) z = absurd (z b)
 finds-shown c v p q (here l u t f) z = rw f (record { from = l; in-use = u; seen-is = t })
 finds-shown c v p q (down l u t n) z = finds-shown c v (c .next p) q n z
 
-zero-finds : (c : Chains) (v : Snapshot) (p q : ℕ) → Finds c v p q → p ≡ 0 → q ≡ 0
+pub zero-finds : (c : Chains) (v : Snapshot) (p q : ℕ) → Finds c v p q → p ≡ 0 → q ≡ 0
 zero-finds c v p q (nothing a b) e = b
 zero-finds c v p q (here l u t f) e = absurd (omega arith)
 zero-finds c v p q (down l u t n) e = absurd (omega arith)
