@@ -27,16 +27,6 @@ use Rattle.model.proofs.Reading.{Reading, ReadingAt}
 use Rattle.model.proofs.Good.{Good, good-move}
 use Rattle.model.proofs.Accepted.{refuses, Accepted, is-accepted, reached}
 
--- s is the store before `rows`, s′ the one after it, and t the transaction's number
-pub record FinishedRead (s s′ : Store) (t : ℕ) (rs : List ℕ) : Type 0 where
-  pub key : ℕ
-  pub phase-is : txnOf s t .phase ≡ Collected key
-  -- every row of the store that matches, and no other
-  pub whole : rs ≡ pick (matches (s .chains) (txnOf s t) key) 0 (s .sizes .rows)
-  pub ascending : Rising 0 rs
-  -- the version of each row matched through one is recorded
-  pub recorded : (r : ℕ) → Among r rs → pending (txnOf s t .writes) r ≡ false → Among (recordOf (s .chains) (txnOf s t .snapshot) r) (txnOf s′ t .records)
-
 -- a place is found by numbers alone
 first-same : (test also : ℕ → Bool) (k n : ℕ) → ((j : ℕ) → test j ≡ also j) → first test k n ≡ first also k n
 unfolding first
@@ -108,18 +98,14 @@ rows-done s t room rs e =
       txn-is = rw (st, place-same (s .txns) (readDone s (at s t) .txns) t (λ j. update-field (λ y. y .number) (s .txns) (at s t) (readTxn s (txnOf s t)) j refl), update-same);
     }
 
-pub finished-read : (z : Sizes) (clock : ℕ) (before : List Step) (t room : ℕ) (rs : List ℕ) → let s = run (fresh z clock) before in step s (rows t room) .answer ≡ Rows rs → FinishedRead s (step s (rows t room) .store) t rs
+-- the store after an accepted `rows` is good too, and the transaction's records are what it sees
+pub rows-good : (s : Store) (t room : ℕ) (rs : List ℕ) → Good s → RowsDone s t room rs → Good (readDone s (at s t))
+rows-good s t room rs g d = good-move s (readDone s (at s t)) g (did-rows (at s t) (d .alive) (d .collected) (d .few))
+
+pub rows-recorded : (s : Store) (t room : ℕ) (rs : List ℕ) → Good s → RowsDone s t room rs → (r : ℕ) → Among r rs → pending (txnOf s t .writes) r ≡ false → Among (recordOf (s .chains) (txnOf s t .snapshot) r) (readTxn s (txnOf s t) .records)
+rows-recorded s t room rs g d r m p =
+    found-recorded s g (at s t) (d .alive) (d .collected) r (rw (d .answer-is) at m) p (rw update-same at (rows-good s t room rs g d .reading (at s t) (rw update-same (d .alive))))
+
+pub found-rising : (s : Store) (t room : ℕ) (rs : List ℕ) → RowsDone s t room rs → Rising 0 rs
 unfolding foundRows
-finished-read z clock before t room rs e =
-    let s = run (fresh z clock) before in
-    let g = reached z clock before (rows t room) (ap refuses e) in
-    let d = rows-done s t room rs e in
-    let after = good-move s (readDone s (at s t)) g (did-rows (at s t) (d .alive) (d .collected) (d .few)) in
-    let reads : Reading (s .sizes) (s .chains) (s .index .stamp) (readTxn s (txnOf s t)) = rw update-same at (after .reading (at s t) (rw update-same (d .alive))) in
-    record {
-      key = keyIn (txnOf s t .phase);
-      phase-is = collected-is (txnOf s t .phase) (d .collected);
-      whole = d .answer-is ∙ found-whole s g (at s t) (d .alive) (d .collected);
-      ascending = rw (d .answer-is) (pick-rising _ 0 (s .sizes .rows));
-      recorded = λ r m p. rw (d .txn-is) (found-recorded s g (at s t) (d .alive) (d .collected) r (rw (d .answer-is) at m) p reads);
-    }
+found-rising s t room rs d = rw (d .answer-is) (pick-rising _ 0 (s .sizes .rows))

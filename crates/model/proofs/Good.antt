@@ -164,3 +164,11 @@ right-shape s g =
 pub step-in : (s : Store) → Good s → (a : Step) → step s a ≡ stepIn s a
 unfolding step
 step-in s g a = rw (right-shape s g)
+
+-- sizes stay
+pub sizes-run : (s : Store) (more : List Step) → run s more .sizes ≡ s .sizes
+sizes-run s more = run-inv (λ w. w .sizes ≡ s .sizes) (λ w w′ i e m. sizes-move w w′ m ∙ e) s more refl
+
+pub opened-good : (z : Sizes) (clock : ℕ) (before : List Step) → canOpen z clock ≡ true → clock ≤ lastNumber → Good (run (fresh z clock) before)
+unfolding canOpen
+opened-good z clock before e l = good-run (fresh z clock) (good-fresh z clock (and-l (goodSizes z) (leb 1 clock) e) (leb-true 1 clock (and-r (goodSizes z) (leb 1 clock) e)) l) before

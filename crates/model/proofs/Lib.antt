@@ -21,3 +21,5 @@ pub mod Finished
 pub mod Remains
 pub mod Cleared
 pub mod Stands
+pub mod Validated
+pub mod Promises
