@@ -23,3 +23,4 @@ pub mod Cleared
 pub mod Stands
 pub mod Validated
 pub mod Promises
+pub mod Reached

@@ -1,22 +1,26 @@
 -- What holds of every sequence of steps from a fresh store, refused steps included. Assumes nothing.
 use mathlib.Core.Path.{_≡_, refl, sym, ap, _∙_}
 use mathlib.Core.Bool.{Bool, true, false}
+use mathlib.Core.Logic.{_≢_}
 use mathlib.Core.List.{List, [], _∷_, map}
 use Prim.Native.Nat.{ℕ, _≤_}
 use Rattle.limits.specs.Limits.{lastNumber}
 use Rattle.model.specs.Lists.{pick}
-use Rattle.model.specs.Store.{Sizes, ReadRecord, Collected, Store, fresh, keyIn}
+use Rattle.model.specs.Store.{Sizes, ReadRecord, Collected, Store, fresh, rank, keyIn}
 use Rattle.model.specs.Seeing.{pending, matches, recordOf, shows, snapshotNow}
 use Rattle.model.specs.Verdict.{Clear}
+use Rattle.model.specs.Steps.{oldKey, keyBefore}
 use Rattle.model.specs.Refusals.{Step, rows, validate, prepare, WrongShape, txnOf}
 use Rattle.model.specs.Shape.{rightShape}
 use Rattle.model.specs.Machine.{Rows, Judged, Done, Refused, step, stepIn, run, canOpen}
 use Rattle.model.proofs.ListLaws.{Among, Rising}
+use Rattle.model.proofs.Move.{Live}
 use Rattle.model.proofs.Good.{Good, sizes-run, opened-good, right-shape, step-in}
-use Rattle.model.proofs.Holders.{collected-is}
+use Rattle.model.proofs.Holders.{Writes, Wants, Claims, collected-is}
+use Rattle.model.proofs.Written.{posted-old}
 use Rattle.model.proofs.Accepted.{refuses, reached, never-misshapen}
 use Rattle.model.proofs.Finished.{found-whole, rows-done, rows-recorded, found-rising}
-use Rattle.model.proofs.Validated.{validate-passed, prepare-passed, prepared-shows, standing}
+use Rattle.model.proofs.Validated.{validate-passed, validated-shows, prepare-passed, prepared-shows, standing}
 
 -- A store that could be opened keeps its invariants: `Good` says which, part by part.
 pub kept-good : (z : Sizes) (clock : ℕ) (before : List Step) → canOpen z clock ≡ true → clock ≤ lastNumber → Good (run (fresh z clock) before)
@@ -30,6 +34,25 @@ pub record Shapely (s : Store) : Type 0 where
 
 pub kept-shape : (z : Sizes) (clock : ℕ) (before : List Step) → canOpen z clock ≡ true → clock ≤ lastNumber → Shapely (run (fresh z clock) before)
 kept-shape z clock before e l = let g = opened-good z clock before e l in record { shape = right-shape _ g; no-sixteen = never-misshapen _ g; untested = step-in _ g }
+
+-- Nothing held is lost: whoever is named by a holder or a claim is live and needs it, and has all that it needs. From Prepared on a pending row is posted with its old key.
+pub record NothingLost (s : Store) : Type 0 where
+  pub holder-needs : (b : ℕ) → s .held .holder b ≢ 0 → (i : ℕ) × (s .held .holder b ≡ s .txns i .number) × Wants (s .sizes) (s .index .posted) (s .txns i) b
+  pub holds : (i b : ℕ) → Wants (s .sizes) (s .index .posted) (s .txns i) b → s .held .holder b ≡ s .txns i .number
+  pub claim-needs : (r : ℕ) → s .held .claim r ≢ 0 → (i : ℕ) × (s .held .claim r ≡ s .txns i .number) × Claims (s .sizes) (s .txns i) r
+  pub claims : (i r : ℕ) → Claims (s .sizes) (s .txns i) r → s .held .claim r ≡ s .txns i .number
+  pub old-prepared : (i r : ℕ) → rank (s .txns i .phase) ≡ 4 → Writes (s .sizes) (s .txns i) r → s .index .posted r ≡ oldKey (s .chains) r
+  pub old-installed : (i r : ℕ) → Live (s .txns i) → 5 ≤ rank (s .txns i .phase) → Writes (s .sizes) (s .txns i) r → s .index .posted r ≡ keyBefore (s .chains) r
+
+pub kept-held : (z : Sizes) (clock : ℕ) (before : List Step) → canOpen z clock ≡ true → clock ≤ lastNumber → NothingLost (run (fresh z clock) before)
+kept-held z clock before e l = let g = opened-good z clock before e l in record {
+  holder-needs = g .holders .buckets .owner;
+  holds = g .holders .buckets .owns;
+  claim-needs = g .holders .claims .owner;
+  claims = g .holders .claims .owns;
+  old-prepared = posted-old (run (fresh z clock) before) (g .numbers) (g .holders) (g .written);
+  old-installed = λ i r a b w. sym (g .written .mine i r a b w .before);
+}
 
 -- A finished read: s is the store before `rows`, s′ the one after it, t the transaction's number, and rs the answer.
 pub record FinishedRead (s s′ : Store) (t : ℕ) (rs : List ℕ) : Type 0 where
@@ -60,16 +83,17 @@ pub record StandingRead (z : Sizes) (s₁ s₂ : Store) (t k : ℕ) (rs : List �
   pub shows-same : shows (s₂ .chains) (z .rows) (snapshotNow s₂) k ≡ shows (s₁ .chains) (z .rows) (txnOf s₁ t .snapshot) k
   pub rows-are : map (λ (q : ReadRecord). q .row) (shows (s₁ .chains) (z .rows) (txnOf s₁ t .snapshot) k) ≡ rs
 
--- At s₁ `rows` of a transaction with no pending write answers rs; after any steps `validate` of it answers that there is no conflict.
+-- At s₁ `rows` of a transaction with no pending write answers rs; after any steps `validate` of it answers that there is no conflict. The snapshot is taken at that step.
 pub validated-read : (z : Sizes) (clock : ℕ) (before : List Step) (t room k : ℕ) (rs : List ℕ) (between : List Step) →
     let s₁ = run (fresh z clock) before in
     let s₂ = run (step s₁ (rows t room) .store) between in
-    step s₁ (rows t room) .answer ≡ Rows rs → txnOf s₁ t .phase ≡ Collected k → txnOf s₁ t .writes ≡ [] → step s₂ (validate t) .answer ≡ Judged Clear → StandingRead z s₁ s₂ t k rs
+    step s₁ (rows t room) .answer ≡ Rows rs → txnOf s₁ t .phase ≡ Collected k → txnOf s₁ t .writes ≡ [] → step s₂ (validate t) .answer ≡ Judged Clear → StandingRead z s₁ (step s₂ (validate t) .store) t k rs
 validated-read z clock before t room k rs between e p w v =
-    let q = standing z _ t room k rs between (reached z clock before (rows t room) (ap refuses e)) (sizes-run (fresh z clock) before) e p w (validate-passed _ t v) in
-    record { shows-same = q .0; rows-are = q .1 }
+    let ok = validate-passed _ t v in
+    let q = standing z _ t room k rs between (reached z clock before (rows t room) (ap refuses e)) (sizes-run (fresh z clock) before) e p w (ok .0) in
+    record { shows-same = validated-shows _ t k (z .rows) ok ∙ q .0; rows-are = q .1 }
 
--- The same where a `prepare` of it is accepted: the snapshot is of the store after that step.
+-- The same where a `prepare` of it is accepted.
 pub prepared-read : (z : Sizes) (clock : ℕ) (before : List Step) (t room k : ℕ) (rs : List ℕ) (between : List Step) →
     let s₁ = run (fresh z clock) before in
     let s₂ = run (step s₁ (rows t room) .store) between in

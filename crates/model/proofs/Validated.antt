@@ -73,13 +73,13 @@ pub record Passed (s : Store) (t : ℕ) : Type 0 where
   pub clear : verdict (s .chains) (s .index) (txnOf s t) ≡ Clear
   pub untaken : (b : ℕ) → Among b (readBuckets (txnOf s t)) → byAnother (s .held .holder) (txnOf s t .number) b ≡ false
 
-pub validate-passed : (s : Store) (t : ℕ) → step s (validate t) .answer ≡ Judged Clear → Passed s t
+pub validate-passed : (s : Store) (t : ℕ) → step s (validate t) .answer ≡ Judged Clear → Passed s t × (step s (validate t) .store ≡ s)
 unfolding checks accepted
 validate-passed s t e =
     let ok = is-accepted s (validate t) (ap refuses e) in
     let f = finds s t _ _ (ok .tests) in
     let j : Judged (verdict (s .chains) (s .index) (txnOf s t)) ≡ Judged Clear = sym (ap (λ w. w .answer) (ok .does)) ∙ e in
-    record { alive = f .alive; number-is = f .number; opened = eqb-true _ _ (f .phase-is); clear = cc; untaken = λ b m. none-each _ (readBuckets (txnOf s t)) (passes _ _ _ (f .rest) .0) b m }
+    (record { alive = f .alive; number-is = f .number; opened = eqb-true _ _ (f .phase-is); clear = cc; untaken = λ b m. none-each _ (readBuckets (txnOf s t)) (passes _ _ _ (f .rest) .0) b m }, ap (λ w. w .store) (ok .does))
 
 pub prepare-passed : (s : Store) (t : ℕ) → step s (prepare t) .answer ≡ Done → Passed s t × (step s (prepare t) .store ≡ prepared s (at s t))
 unfolding checks accepted neededBuckets
@@ -114,6 +114,9 @@ prepared-now s i a = rw same
     same = map-pick (λ j. prepared s i .txns j .number) (λ j. s .txns j .number) (λ j. active (prepared s i .txns j)) (λ j. active (s .txns j)) 0 mostLive
         (λ r lo hi. update-field (λ y. active y) (s .txns) i (withPhase (s .txns i) Prepared) r (rw a))
         (λ r lo hi e. update-field (λ y. y .number) (s .txns) i (withPhase (s .txns i) Prepared) r refl)
+
+pub validated-shows : (s : Store) (t k n : ℕ) → Passed s t × (step s (validate t) .store ≡ s) → shows (step s (validate t) .store .chains) n (snapshotNow (step s (validate t) .store)) k ≡ shows (s .chains) n (snapshotNow s) k
+validated-shows s t k n ok = ap (λ w. shows (w .chains) n (snapshotNow w) k) (ok .1)
 
 pub prepared-shows : (s : Store) (t k n : ℕ) → Passed s t × (step s (prepare t) .store ≡ prepared s (at s t)) → shows (step s (prepare t) .store .chains) n (snapshotNow (step s (prepare t) .store)) k ≡ shows (s .chains) n (snapshotNow s) k
 prepared-shows s t k n ok = ap (λ w. shows (w .chains) n (snapshotNow w) k) (ok .1) ∙ ap (λ v. shows (s .chains) n v k) (prepared-now s (at s t) (ok .0 .opened))

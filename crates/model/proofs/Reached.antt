@@ -1,0 +1,36 @@
+-- Runs that meet the premises of the promises: a read that finds a row, another transaction that publishes meanwhile, and a clear verdict. Assumes nothing.
+use mathlib.Core.Path.{_≡_, refl}
+use mathlib.Core.Bool.{Bool, true, false, cond, not, _&&_, _||_}
+use mathlib.Core.List.{List, [], _∷_, _++_, map}
+use Prim.Native.Nat.{ℕ}
+use Rattle.model.specs.Store.{Sizes, Store, Collected, fresh, sameKey, bucketOf}
+use Rattle.model.specs.Verdict.{Clear, badRead, badRecord, judgeRecords, judgeReads, verdict}
+use Rattle.model.specs.Refusals.{Step, begin, capture, collect, rows, put, erase, prepare, install, end, publish, validate, abort, txnOf, placeOf, liveCount, byAnother, reservedBy, reserved, checks, refusal}
+use Rattle.model.specs.Lists.{member, least, pick, first, every, some-of, all-of, join}
+use Rattle.model.specs.Table.{update, updateAll}
+use Rattle.model.specs.Seeing.{seen, visible, known, walk, firstVisible, keyAt, lastWriteFrom, pending, writtenKey, shownKey, matches, shows, activeNumbers, snapshotNow}
+use Rattle.model.specs.Steps.{hasRead, addRead, postedRows, foundRows, recorded, recording, recordAll, pendingRows, keyBuckets, readBuckets, neededBuckets, writtenPayload, pushAll, repost, changedBuckets, release}
+use Rattle.model.specs.Shape.{goodSizes, goodChains, goodCounts, goodRanges, goodHeads, goodTxn, distinctNumbers, rightShape}
+use Rattle.model.specs.Machine.{Done, Rows, Judged, step, stepIn, run, accepted, afterRefusal, carried, canOpen}
+
+abbrev sizes : Sizes
+sizes = record { rows = 4; versions = 8; buckets = 4 }
+
+-- transaction 1 writes key 6 into row 2 and publishes; transaction 3 captures and collects key 6
+abbrev before : List Step
+before = begin ∷ put 1 2 6 10 ∷ prepare 1 ∷ install 1 ∷ end 1 ∷ publish 1 ∷ begin ∷ capture 3 6 ∷ collect 3 ∷ []
+
+-- transaction 4 writes a key of another bucket into row 0 and publishes, and a step is refused
+abbrev between : List Step
+between = begin ∷ put 4 0 3 7 ∷ prepare 4 ∷ install 4 ∷ end 4 ∷ publish 4 ∷ publish 4 ∷ []
+
+abbrev s₁ : Store
+s₁ = run (fresh sizes 1) before
+
+abbrev s₂ : Store
+s₂ = run (step s₁ (rows 3 4) .store) between
+
+met : (canOpen sizes 1 ≡ true) × (step s₁ (rows 3 4) .answer ≡ Rows (2 ∷ [])) × (txnOf s₁ 3 .phase ≡ Collected 6) × (txnOf s₁ 3 .writes ≡ []) × (step s₂ (validate 3) .answer ≡ Judged Clear) × (step s₂ (prepare 3) .answer ≡ Done)
+    × (shows (s₂ .chains) 4 (snapshotNow s₂) 6 ≡ record { row = 2; ptr = 1; xmin = 1 } ∷ [])
+unfolding canOpen run shows snapshotNow sameKey bucketOf badRead badRecord judgeRecords judgeReads verdict placeOf liveCount byAnother reservedBy reserved checks refusal member least pick first every some-of all-of join update updateAll seen visible known walk firstVisible keyAt lastWriteFrom pending writtenKey shownKey matches activeNumbers hasRead addRead postedRows foundRows recorded recording recordAll pendingRows keyBuckets readBuckets neededBuckets writtenPayload pushAll repost changedBuckets release goodSizes goodChains goodCounts goodRanges goodHeads goodTxn distinctNumbers rightShape step stepIn accepted afterRefusal carried
+met = (refl, refl, refl, refl, refl, refl, refl)
