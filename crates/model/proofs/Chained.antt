@@ -3,14 +3,14 @@ use mathlib.Core.Path.{_≡_, refl, sym, ap, _∙_}
 use mathlib.Core.List.{List, [], _∷_}
 use mathlib.Core.Logic.{_≢_}
 use mathlib.Core.Option.{Option}
-use Prim.Native.Nat.{ℕ, zero, suc, _≤_, _<_}
+use Prim.Native.Nat.{ℕ, suc, _≤_, _<_}
 use native.Mathlib.Omega.{arith}
 use native.Mathlib.Decide.{ℕ-discrete}
 use Rattle.model.specs.Table.{update, update-elim, update-same, update-other}
 use Rattle.model.specs.Store.{Chains, Store, Sizes, Txn, fresh}
 use Rattle.model.specs.Seeing.{lastWrite}
 use Rattle.model.specs.Steps.{push, pushAll, pendingRows, newKey, writtenPayload}
-use Rattle.model.proofs.Move.{Live, Move, stay, did-begin, did-mark, did-capture, did-collect, did-rows, did-write, did-prepare, did-install, did-end, did-publish, did-abort}
+use Rattle.model.proofs.Move.{Move, stay, did-begin, did-mark, did-capture, did-collect, did-rows, did-write, did-prepare, did-install, did-end, did-publish, did-abort}
 
 pub record Chained (c : Chains) : Type 0 where
   pub next-falls : (p : ℕ) → 1 ≤ p → p ≤ c .used → c .next p < p
@@ -28,39 +28,40 @@ pub top : (c : Chains) → Chained c → (q r : ℕ) → 1 ≤ q → q ≤ c .us
 top c g q r l u z e = omega (arith, g .closed-by q l u z, g .xmin-pos q l u, g .head-open r (λ f. z (e ∙ f)), ap (c .xmax) e)
 
 module _ (n r : ℕ) (k : Option ℕ) (payload : ℕ) (c : Chains) (g : Chained c) where
+  abbrev c′ : Chains
+  c′ = push n r k payload c
+
   -- the new pointer is no old one
   fresh-pointer : (p : ℕ) → p ≤ c .used → p ≢ suc (c .used)
   fresh-pointer p h e = omega arith
 
-  new-open : update (update (c .xmax) (suc (c .used)) 0) (c .head r) n (suc (c .used)) ≡ 0
+  new-open : c′ .xmax (suc (c .used)) ≡ 0
   new-open = let d : suc (c .used) ≢ c .head r = λ e. omega (arith, g .heads-in r) in simp (update-other, update-same)
 
-  old-xmax : (p : ℕ) → p ≤ c .used → p ≢ c .head r → update (update (c .xmax) (suc (c .used)) 0) (c .head r) n p ≡ c .xmax p
+  old-xmax : (p : ℕ) → p ≤ c .used → p ≢ c .head r → c′ .xmax p ≡ c .xmax p
   old-xmax p h d = let f : p ≢ suc (c .used) = fresh-pointer p h in simp update-other
 
-  push-next : (p : ℕ) → 1 ≤ p → p ≤ suc (c .used) → update (c .next) (suc (c .used)) (c .head r) p < p
+  push-next : (p : ℕ) → 1 ≤ p → p ≤ c′ .used → c′ .next p < p
   push-next p l u = update-elim (_< p) (c .next) (suc (c .used)) (c .head r) p (λ e. omega (arith, g .heads-in r)) (λ d. omega (arith, g .next-falls p l (omega arith)))
 
-  push-open : (q : ℕ) → update (c .head) r (suc (c .used)) q ≢ 0 → update (update (c .xmax) (suc (c .used)) 0) (c .head r) n (update (c .head) r (suc (c .used)) q) ≡ 0
-  push-open q = update-elim (λ h. h ≢ 0 → update (update (c .xmax) (suc (c .used)) 0) (c .head r) n h ≡ 0) (c .head) r (suc (c .used)) q
+  push-open : (q : ℕ) → c′ .head q ≢ 0 → c′ .xmax (c′ .head q) ≡ 0
+  push-open q = update-elim (λ h. h ≢ 0 → c′ .xmax h ≡ 0) (c .head) r (suc (c .used)) q
       (λ e z. new-open)
       (λ d z. old-xmax (c .head q) (g .heads-in q) (λ e. d (g .one-head q r z e)) ∙ g .head-open q z)
 
-  push-closed : (q : ℕ) → 1 ≤ q → q ≤ suc (c .used) → update (c .next) (suc (c .used)) (c .head r) q ≢ 0
-      → update (update (c .xmax) (suc (c .used)) 0) (c .head r) n (update (c .next) (suc (c .used)) (c .head r) q) ≡ update (c .xmin) (suc (c .used)) n q
+  push-closed : (q : ℕ) → 1 ≤ q → q ≤ c′ .used → c′ .next q ≢ 0 → c′ .xmax (c′ .next q) ≡ c′ .xmin q
   push-closed q l u = elim (ℕ-discrete q (suc (c .used))) [
     | yes e ↦ simp (e, update-same) (λ z. refl)
     | no d ↦ rw (update-other (c .next) (suc (c .used)) (c .head r) q d, update-other (c .xmin) (suc (c .used)) n q d) (λ z. old-xmax (c .next q) (omega (arith, g .next-falls q l (omega arith))) (top c g q r l (omega arith) z) ∙ g .closed-by q l (omega arith) z)
   ]
 
-  push-one-head : (p q : ℕ) → update (c .head) r (suc (c .used)) p ≢ 0 → update (c .head) r (suc (c .used)) p ≡ update (c .head) r (suc (c .used)) q → p ≡ q
+  push-one-head : (p q : ℕ) → c′ .head p ≢ 0 → c′ .head p ≡ c′ .head q → p ≡ q
   push-one-head p q z e = elim (ℕ-discrete p r) [
     | yes a ↦ elim (ℕ-discrete q r) [ yes b ↦ a ∙ sym b | no b ↦ absurd (omega (arith, simp (a, update-same, update-other) at e, g .heads-in q)) ]
     | no a ↦ elim (ℕ-discrete q r) [ yes b ↦ absurd (omega (arith, simp (b, update-same, update-other) at e, g .heads-in p)) | no b ↦ g .one-head p q (simp update-other at z) (simp update-other at e) ]
   ]
 
-  push-one-above : (p q : ℕ) → 1 ≤ p → p ≤ suc (c .used) → 1 ≤ q → q ≤ suc (c .used) → update (c .next) (suc (c .used)) (c .head r) p ≢ 0
-      → update (c .next) (suc (c .used)) (c .head r) p ≡ update (c .next) (suc (c .used)) (c .head r) q → p ≡ q
+  push-one-above : (p q : ℕ) → 1 ≤ p → p ≤ c′ .used → 1 ≤ q → q ≤ c′ .used → c′ .next p ≢ 0 → c′ .next p ≡ c′ .next q → p ≡ q
   push-one-above p q lp up lq uq z e = elim (ℕ-discrete p (suc (c .used))) [
     | yes a ↦ elim (ℕ-discrete q (suc (c .used))) [
       | yes b ↦ a ∙ sym b
@@ -72,7 +73,7 @@ module _ (n r : ℕ) (k : Option ℕ) (payload : ℕ) (c : Chains) (g : Chained 
     ]
   ]
 
-  pub chained-push : 1 ≤ n → Chained (push n r k payload c)
+  pub chained-push : 1 ≤ n → Chained c′
   chained-push pos = record {
     next-falls = push-next;
     heads-in = λ q. update-elim (_≤ suc (c .used)) (c .head) r (suc (c .used)) q (λ e. omega arith) (λ d. omega (arith, g .heads-in q));

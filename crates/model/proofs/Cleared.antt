@@ -1,17 +1,17 @@
 -- What a clear verdict says: no mark, every index read and every read record good. Assumes nothing.
 use mathlib.Core.Path.{_≡_, refl, sym, ap, _∙_}
-use mathlib.Core.Bool.{Bool, true, false, cond, not, _&&_, _||_, true≢false}
-use mathlib.Core.Logic.{_≢_, _⊎_, inl, inr}
+use mathlib.Core.Bool.{Bool, true, false, not, _&&_, _||_, true≢false}
+use mathlib.Core.Logic.{_⊎_, inl, inr}
 use mathlib.Core.List.{List, [], _∷_}
-use Prim.Native.Nat.{ℕ, zero, suc, _≤_, _<_}
+use Prim.Native.Nat.{ℕ, _<_}
 use native.Mathlib.Omega.{arith}
-use lib.Dec.{eqb, ltb, leb}
-use borrow.Author.Tests.{eqb-true, eqb-false, ltb-true, leb-false, not-true, not-false}
+use lib.Dec.{eqb, leb}
+use borrow.Author.Tests.{eqb-true, ltb-true, leb-false, not-false}
 use Rattle.model.specs.Lists.{member}
 use Rattle.model.specs.Store.{Chains, Index, Snapshot, IndexRead, ReadRecord, Txn}
 use Rattle.model.specs.Seeing.{seen}
 use Rattle.model.specs.Verdict.{Verdict, Clear, Bucket, Row, Mark, verdictNumber, badRead, badRecord, judgeRecords, judgeReads, verdict}
-use Rattle.model.proofs.ListLaws.{or-l, or-r, Among, among-member}
+use Rattle.model.proofs.ListLaws.{or-r, Among, among-member}
 use Rattle.model.proofs.Told.{which-seen}
 
 pub clear-number : (v : Verdict) → verdictNumber v ≡ 0 → v ≡ Clear

@@ -1,13 +1,12 @@
 -- Why no candidate is missed: under a bucket that nobody else holds and that is stamped below the number, no change of key is unseen. Assumes nothing.
 use mathlib.Core.Path.{_≡_, refl, sym, ap, _∙_}
 use mathlib.Core.Bool.{Bool, true, false, cond}
-use mathlib.Core.Logic.{_≢_, _⊎_, inl, inr, ⊎-elim}
+use mathlib.Core.Logic.{_⊎_, inl, inr, ⊎-elim}
 use mathlib.Core.Option.{Option, none, some}
-use mathlib.Core.List.{List, [], _∷_, _++_}
-use Prim.Native.Nat.{ℕ, zero, suc, _≤_, _<_}
+use mathlib.Core.List.{[], _++_}
+use Prim.Native.Nat.{ℕ, _≤_, _<_}
 use native.Mathlib.Omega.{arith}
-use Rattle.model.specs.Lists.{pick}
-use Rattle.model.specs.Store.{Sizes, Chains, Snapshot, Holding, Txn, Store, rank, sameKey, bucketOf}
+use Rattle.model.specs.Store.{Chains, Snapshot, Holding, Store, rank, sameKey, bucketOf}
 use Rattle.model.specs.Seeing.{seen, versionOf, keyAt}
 use Rattle.model.specs.Steps.{postedRows, pendingRows, keyBefore, newKey, keyBuckets, changedBuckets}
 use Rattle.model.proofs.ListLaws.{Among, among-cases, join-which, which-pick}

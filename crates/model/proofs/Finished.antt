@@ -1,31 +1,30 @@
 -- A finished read: what `rows` answers is every row of the store that matches, ascending, and the version of each is recorded. Assumes nothing.
 use mathlib.Core.Path.{_≡_, refl, sym, ap, _∙_}
-use mathlib.Core.Bool.{Bool, true, false, cond, _&&_, _||_}
-use mathlib.Core.Logic.{_≢_, _⊎_, inl, inr, ⊎-elim}
-use mathlib.Core.Option.{Option, none, some}
-use mathlib.Core.List.{List, [], _∷_}
-use Prim.Native.Nat.{ℕ, zero, suc, _+_, _≤_, _<_}
+use mathlib.Core.Bool.{Bool, true, false, _&&_, _||_}
+use mathlib.Core.Logic.{_≢_}
+use mathlib.Core.List.{List}
+use Prim.Native.Nat.{ℕ, zero, suc, _≤_, _<_}
 use native.Mathlib.Omega.{arith}
 use lib.Dec.{eqb}
 use lib.ListN.{length}
 use borrow.Author.Tests.{eqb-true, ltb-false}
 use Rattle.limits.specs.Limits.{mostLive, mostRecords}
 use Rattle.model.specs.Lists.{member, pick, first}
-use Rattle.model.specs.Table.{update, update-same, update-field}
-use Rattle.model.specs.Store.{Sizes, Chains, Snapshot, ReadRecord, Collected, Txn, Store, fresh, rank, keyIn, bucketOf}
-use Rattle.model.specs.Seeing.{versionOf, keyAt, pending, matches, recordOf}
+use Rattle.model.specs.Table.{update-same, update-field}
+use Rattle.model.specs.Store.{Chains, Snapshot, ReadRecord, Txn, Store, rank, keyIn}
+use Rattle.model.specs.Seeing.{versionOf, pending, matches, recordOf}
 use Rattle.model.specs.Steps.{foundRows, recordsAfter, readTxn, readDone}
-use Rattle.model.specs.Refusals.{Step, rows, placeOf, txnOf, checks}
-use Rattle.model.specs.Machine.{Rows, at, accepted, step, run}
+use Rattle.model.specs.Refusals.{rows, placeOf, txnOf, checks}
+use Rattle.model.specs.Machine.{Rows, at, accepted, step}
 use Rattle.model.proofs.ListLaws.{and-r, or-left, or-right, same-test, Among, among-member, Rising, pick-same, pick-rising}
 use Rattle.model.proofs.Move.{Live, passes, finds, did-rows}
 use Rattle.model.proofs.Chained.{Chained}
 use Rattle.model.proofs.SeeingLaws.{keyAt-pos, match-version, found-which, recordAll-has}
-use Rattle.model.proofs.Walk.{InChain, heads, version-finds, finds-chain, chains-apart}
+use Rattle.model.proofs.Walk.{heads, version-finds, finds-chain, chains-apart}
 use Rattle.model.proofs.Holders.{collected-is}
-use Rattle.model.proofs.Reading.{Reading, ReadingAt}
+use Rattle.model.proofs.Reading.{Reading}
 use Rattle.model.proofs.Good.{Good, good-move}
-use Rattle.model.proofs.Accepted.{refuses, Accepted, is-accepted, reached}
+use Rattle.model.proofs.Unrefused.{refuses, is-accepted}
 
 -- a place is found by numbers alone
 first-same : (test also : ℕ → Bool) (k n : ℕ) → ((j : ℕ) → test j ≡ also j) → first test k n ≡ first also k n

@@ -1,20 +1,17 @@
 -- All that holds of every store that steps reach from a fresh one; so its shape is right, and no step there is refused for it. Assumes nothing.
-use mathlib.Core.Path.{_≡_, refl, sym, ap, _∙_}
-use mathlib.Core.Bool.{Bool, true, false, cond, not, _&&_, _||_, true≢false}
-use mathlib.Core.Logic.{_≢_, _⊎_, inl, inr, ⊎-elim}
-use mathlib.Core.List.{List, [], _∷_}
-use Prim.Native.Nat.{ℕ, zero, suc, _+_, _≤_, _<_}
+use mathlib.Core.Path.{_≡_, refl, _∙_}
+use mathlib.Core.Bool.{Bool, true, false, not, _&&_, _||_}
+use mathlib.Core.List.{List}
+use Prim.Native.Nat.{ℕ, suc, _≤_}
 use native.Mathlib.Omega.{arith}
-use native.Mathlib.Decide.{ℕ-discrete}
 use lib.Dec.{eqb, ltb, leb}
-use lib.ListN.{length}
-use borrow.Author.Tests.{eqb-true, eq-eqb, ne-eqb, lt-ltb, le-leb, ltb-true, ltb-false, leb-true}
-use Rattle.limits.specs.Limits.{mostRows, mostLive, mostActive, mostIndexReads, mostRecords, mostWrites, lastNumber}
-use Rattle.model.specs.Lists.{least, every, all-of}
-use Rattle.model.specs.Store.{Sizes, Chains, IndexRead, Write, ReadRecord, Txn, Store, fresh, rank, bucketIn}
+use borrow.Author.Tests.{eq-eqb, ne-eqb, lt-ltb, le-leb, ltb-false, leb-true}
+use Rattle.limits.specs.Limits.{mostLive, lastNumber}
+use Rattle.model.specs.Lists.{all-of}
+use Rattle.model.specs.Store.{Sizes, IndexRead, Write, ReadRecord, Txn, Store, fresh, rank}
 use Rattle.model.specs.Seeing.{live}
 use Rattle.model.specs.Steps.{pendingRows}
-use Rattle.model.specs.Refusals.{Step, liveCount, reserved}
+use Rattle.model.specs.Refusals.{Step}
 use Rattle.model.specs.Shape.{within, goodSizes, goodChains, goodCounts, goodRanges, goodHeads, goodTxn, distinctNumbers, rightShape}
 use Rattle.model.specs.Machine.{step, stepIn, run, canOpen}
 use Rattle.model.proofs.ListLaws.{and-l, and-r, and-both, none-each, each-all, every-each}
@@ -22,7 +19,7 @@ use Rattle.model.proofs.Move.{Live, test-live, CanPrepare, Move, stay, 
 use Rattle.model.proofs.Chained.{Chained, chained-move, chained-fresh}
 use Rattle.model.proofs.Numbers.{Numbers, numbers-move, numbers-fresh, BelowAt, below-move, below-fresh}
 use Rattle.model.proofs.Room.{RoomAt, room-move, room-fresh}
-use Rattle.model.proofs.Ranges.{Sized, good-sized, FitsTxn, RangesAt, ranges-move, ranges-fresh}
+use Rattle.model.proofs.Ranges.{good-sized, RangesAt, ranges-move, ranges-fresh}
 use Rattle.model.proofs.Owned.{free}
 use Rattle.model.proofs.Holders.{Writes, Claims, claims-busy, HoldersAt, holders-move, holders-fresh}
 use Rattle.model.proofs.Written.{WrittenAt, posted-free, written-move, written-fresh}

@@ -1,11 +1,11 @@
 -- What an install makes of the versions, entry by entry. Assumes nothing.
 use mathlib.Core.Path.{_≡_, refl, sym, ap, _∙_}
-use mathlib.Core.Logic.{_≢_, _⊎_, inl, inr, ⊎-elim}
+use mathlib.Core.Logic.{inl, inr, ⊎-elim}
 use mathlib.Core.List.{List, [], _∷_}
-use Prim.Native.Nat.{ℕ, zero, suc, _≤_, _<_}
+use Prim.Native.Nat.{ℕ, suc, _≤_, _<_}
 use native.Mathlib.Omega.{arith}
 use native.Mathlib.Decide.{ℕ-discrete}
-use Rattle.model.specs.Table.{update, update-elim, update-same, update-other}
+use Rattle.model.specs.Table.{update-elim, update-same, update-other}
 use Rattle.model.specs.Store.{Chains, Txn}
 use Rattle.model.specs.Seeing.{lastWrite}
 use Rattle.model.specs.Steps.{push, pushAll, newKey, writtenPayload}

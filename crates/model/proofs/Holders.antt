@@ -1,22 +1,20 @@
 -- Nothing held is lost: a holder or a claim that is not 0 is the number of a live transaction in a phase that needs it, which holds all that it needs. Assumes nothing.
 use mathlib.Core.Path.{_≡_, refl, sym, ap, _∙_}
-use mathlib.Core.Bool.{Bool, true, false, cond, true≢false}
+use mathlib.Core.Bool.{true≢false}
 use mathlib.Core.Logic.{_≢_, _⊎_, inl, inr, ⊎-elim}
 use mathlib.Core.Option.{Option, none, some}
-use mathlib.Core.List.{List, [], _∷_, _++_}
-use Prim.Native.Nat.{ℕ, zero, suc, _≤_, _<_}
+use mathlib.Core.List.{List, _++_}
+use Prim.Native.Nat.{ℕ, _≤_, _<_}
 use native.Mathlib.Omega.{arith}
-use native.Mathlib.Decide.{ℕ-discrete}
 use Rattle.model.specs.Lists.{member, join}
-use Rattle.model.specs.Table.{update, updateAll, update-elim, cond-elim}
-use Rattle.model.specs.Store.{Sizes, Chains, Held, Phase, Open, Holding, Collected, Prepared, Installed, Ended, Txn, Store, noTxn, fresh, rank, bucketIn, keyIn, bucketOf}
-use Rattle.model.specs.Steps.{newTxn, withPhase, capturedTxn, captured, collectedTxn, collected, prepared, published, ended, pendingRows, oldKey, newKey, keyBuckets, readBuckets, neededBuckets, repost, release, freed, becomes}
-use Rattle.model.specs.Refusals.{byAnother}
-use Rattle.model.proofs.ListLaws.{Among, among-left, among-right, join-same, which-join, none-each, member-among, among-member, not-member}
+use Rattle.model.specs.Table.{update, update-elim, cond-elim}
+use Rattle.model.specs.Store.{Sizes, Held, Phase, Open, Holding, Collected, Prepared, Installed, Ended, Txn, Store, noTxn, fresh, rank, bucketIn, keyIn, bucketOf}
+use Rattle.model.specs.Steps.{withPhase, capturedTxn, captured, collectedTxn, collected, prepared, published, pendingRows, oldKey, newKey, keyBuckets, readBuckets, neededBuckets, repost, freed}
+use Rattle.model.proofs.ListLaws.{Among, among-left, among-right, join-same, which-join, none-each, member-among, among-member}
 use Rattle.model.proofs.Move.{Live, CanCapture, CanPrepare, Move, stay, did-begin, did-mark, did-capture, did-collect, did-rows, did-write, did-prepare, did-install, did-end, did-publish, did-abort}
 use Rattle.model.proofs.Numbers.{Numbers}
 use Rattle.model.proofs.SeeingLaws.{key-bucket}
-use Rattle.model.proofs.Owned.{Owned, owned-wants, wanter, one-wanter, free, owned-quiet, owned-same, owned-release, owned-take, owned-one, owned-drop}
+use Rattle.model.proofs.Owned.{Owned, owned-wants, one-wanter, free, owned-quiet, owned-same, owned-release, owned-take, owned-one, owned-drop}
 
 -- r is a pending row of x
 abbrev pub Writes : Sizes → Txn → ℕ → Type 0
@@ -72,11 +70,7 @@ wants-none z posted y d l b (inr w) = omega (arith, w .0)
 claims-none : (z : Sizes) (y : Txn) → rank (y .phase) < 4 → (r : ℕ) → Claims z y r → ⊥
 claims-none z y l r w = omega (arith, w .0)
 
--- what is needed
-pub needs-read : (z : Sizes) (posted : ℕ → Option ℕ) (x : Txn) (b : ℕ) → Among b (readBuckets x) → Among b (needs z posted x)
-unfolding needs
-needs-read z posted x b m = among-left b (readBuckets x) _ m
-
+-- what is needed for a row
 needs-row : (z : Sizes) (posted : ℕ → Option ℕ) (x : Txn) (r b : ℕ) → Writes z x r → Among b (keyBuckets z (posted r) ++ keyBuckets z (newKey x r)) → Among b (needs z posted x)
 unfolding needs
 needs-row z posted x r b w m = among-right b (readBuckets x) _ (which-join (λ q. keyBuckets z (posted q) ++ keyBuckets z (newKey x q)) (pendingRows z (x .writes)) b r w m)
@@ -90,7 +84,7 @@ needs-new z posted x r k w e = needs-row z posted x r (bucketOf z k) w (among-ri
 -- the needs look at the pending rows' postings alone
 needs-posted : (z : Sizes) (po po′ : ℕ → Option ℕ) (x : Txn) → ((r : ℕ) → Writes z x r → po r ≡ po′ r) → needs z po x ≡ needs z po′ x
 unfolding needs
-needs-posted z po po′ x h = rw (join-same (λ r. keyBuckets z (po r) ++ keyBuckets z (newKey x r)) (λ r. keyBuckets z (po′ r) ++ keyBuckets z (newKey x r)) (pendingRows z (x .writes)) (λ r m. rw (h r m)))
+needs-posted z po po′ x h = ap (λ bs. readBuckets x ++ bs) (join-same (λ r. keyBuckets z (po r) ++ keyBuckets z (newKey x r)) (λ r. keyBuckets z (po′ r) ++ keyBuckets z (newKey x r)) (pendingRows z (x .writes)) (λ r m. rw (h r m)))
 
 wants-posted : (z : Sizes) (po po′ : ℕ → Option ℕ) (y : Txn) (b : ℕ) → (4 ≤ rank (y .phase) → needs z po y ≡ needs z po′ y) → Wants z po y b → Wants z po′ y b
 wants-posted z po po′ y b h (inl w) = inl w
@@ -98,7 +92,7 @@ wants-posted z po po′ y b h (inr w) = inr (w .0, rw (h (w .0)) at (w .1))
 
 needed-needs : (s : Store) (x : Txn) → ((r : ℕ) → Writes (s .sizes) x r → s .index .posted r ≡ oldKey (s .chains) r) → neededBuckets s x ≡ needs (s .sizes) (s .index .posted) x
 unfolding needs neededBuckets
-needed-needs s x h = rw (join-same (λ r. keyBuckets (s .sizes) (oldKey (s .chains) r) ++ keyBuckets (s .sizes) (newKey x r)) (λ r. keyBuckets (s .sizes) (s .index .posted r) ++ keyBuckets (s .sizes) (newKey x r)) (pendingRows (s .sizes) (x .writes)) (λ r m. rw (h r m)))
+needed-needs s x h = ap (λ bs. readBuckets x ++ bs) (join-same (λ r. keyBuckets (s .sizes) (oldKey (s .chains) r) ++ keyBuckets (s .sizes) (newKey x r)) (λ r. keyBuckets (s .sizes) (s .index .posted r) ++ keyBuckets (s .sizes) (newKey x r)) (pendingRows (s .sizes) (x .writes)) (λ r m. rw (h r m)))
 
 pub repost-elim : (P : Option ℕ → Type 0) (x : Txn) (rs : List ℕ) (posted : ℕ → Option ℕ) (r : ℕ) → (Among r rs → P (newKey x r)) → ((Among r rs → ⊥) → P (posted r)) → P (repost x rs posted r)
 unfolding repost

@@ -16,7 +16,7 @@ pub mod Stable
 pub mod Complete
 pub mod Reading
 pub mod Good
-pub mod Accepted
+pub mod Unrefused
 pub mod Finished
 pub mod Remains
 pub mod Cleared
@@ -24,3 +24,4 @@ pub mod Stands
 pub mod Validated
 pub mod Promises
 pub mod Reached
+pub mod Caught

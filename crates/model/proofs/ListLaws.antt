@@ -1,15 +1,15 @@
 -- What the lists of the model hold: entries, picked numbers, tests of each entry. Assumes nothing.
 use mathlib.Core.Path.{_≡_, refl, sym, ap, _∙_}
 use mathlib.Core.Bool.{Bool, true, false, cond, not, _&&_, _||_, false≢true, true≢false}
-use mathlib.Core.Logic.{_≢_, _⊎_, inl, inr, ⊎-elim}
+use mathlib.Core.Logic.{_⊎_, inl, inr, ⊎-elim}
 use mathlib.Core.List.{List, [], _∷_, _++_, map}
 use Prim.Native.Nat.{ℕ, zero, suc, _+_, _≤_, _<_}
 use native.Mathlib.Omega.{arith}
 use native.Mathlib.Decide.{ℕ-discrete}
-use lib.Dec.{eqb, ltb}
+use lib.Dec.{eqb}
 use lib.ListN.{length}
-use borrow.Author.Tests.{eqb-true, eqb-false, eq-eqb, ne-eqb, ltb-true, ltb-false}
-use Rattle.model.specs.Lists.{member, least, pick, first, every, some-of, all-of, join}
+use borrow.Author.Tests.{eqb-true, eq-eqb}
+use Rattle.model.specs.Lists.{member, pick, first, every, some-of, all-of, join}
 use Rattle.model.specs.Table.{cond-elim}
 
 -- tests joined by `and` and `or`
@@ -74,11 +74,6 @@ module _ {A : Type 0} where
   -- an entry appended
   pub among-last : (x y : A) (ys : List A) → Among x (ys ++ (y ∷ [])) → Among x ys ⊎ (x ≡ y)
   among-last x y ys m = ⊎-elim inl (λ r. ⊎-elim inr (λ n. absurd n) r) (among-cases x ys (y ∷ []) m)
-
-  pub all-each : (test : A → Bool) (xs : List A) → all-of test xs ≡ true → (x : A) → Among x xs → test x ≡ true
-  unfolding all-of
-  all-each test (y ∷ xs) e x (inl f) = rw f (and-l (test y) (all-of test xs) e)
-  all-each test (y ∷ xs) e x (inr m) = all-each test xs (and-r (test y) (all-of test xs) e) x m
 
   pub each-all : (test : A → Bool) (xs : List A) → ((x : A) → Among x xs → test x ≡ true) → all-of test xs ≡ true
   unfolding all-of

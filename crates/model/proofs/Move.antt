@@ -1,25 +1,25 @@
 -- What a step does, as a relation: each test of a step is taken apart here, once. Assumes nothing.
-use mathlib.Core.Path.{_≡_, refl, sym, ap, _∙_}
-use mathlib.Core.Bool.{Bool, true, false, cond, not, _&&_, _||_, false≢true, true≢false}
-use mathlib.Core.Logic.{_≢_, _⊎_, inl, inr}
+use mathlib.Core.Path.{_≡_, refl, sym, _∙_}
+use mathlib.Core.Bool.{Bool, true, false, not, _&&_, false≢true, true≢false}
+use mathlib.Core.Logic.{_⊎_, inl, inr}
 use mathlib.Core.Option.{Option, none, some}
 use mathlib.Core.List.{List, [], _∷_}
-use Prim.Native.Nat.{ℕ, zero, suc, _+_, _≤_, _<_, min}
+use Prim.Native.Nat.{ℕ, _+_, _≤_, _<_}
 use native.Mathlib.Omega.{arith}
-use lib.Dec.{eqb, ltb, leb}
+use lib.Dec.{eqb, leb}
 use lib.ListN.{length}
-use borrow.Author.Tests.{eqb-true, eqb-false, ne-eqb, ltb-true, ltb-false, leb-true, leb-false, not-true, not-false}
-use Rattle.limits.specs.Limits.{mostRows, mostLive, mostIndexReads, mostRecords, mostWrites, lastNumber}
-use Rattle.model.specs.Lists.{first, pick, some-of, all-of}
+use borrow.Author.Tests.{eqb-true, eqb-false, ne-eqb, ltb-true, ltb-false, leb-false, not-true, not-false}
+use Rattle.limits.specs.Limits.{mostLive, mostIndexReads, mostRecords, mostWrites, lastNumber}
+use Rattle.model.specs.Lists.{some-of, all-of}
 use Rattle.model.specs.Table.{cond-elim}
 use Rattle.model.specs.Store.{Store, Txn, Write, Ended, rank, bucketOf}
 use Rattle.model.specs.Seeing.{live}
-use Rattle.model.specs.Verdict.{Clear, verdict, verdictNumber}
-use Rattle.model.specs.Steps.{begun, stale, captured, collected, readDone, written, prepared, installed, becomes, published, ended, hasRead, foundRows, recordsAfter, pendingRows, neededBuckets}
+use Rattle.model.specs.Verdict.{verdict, verdictNumber}
+use Rattle.model.specs.Steps.{begun, stale, captured, collected, readDone, written, prepared, installed, becomes, published, ended, hasRead, recordsAfter, pendingRows, neededBuckets}
 use Rattle.model.specs.Refusals.{Refusal, Step, begin, capture, collect, rows, put, erase, prepare, install, end, publish, validate, abort, placeOf, txnOf, liveCount, byAnother, reserved, found, checks, refusal}
 use Rattle.model.specs.Shape.{rightShape}
-use Rattle.model.specs.Machine.{Answer, Refused, gives, at, actor, accepted, isStale, afterRefusal, carried, step, stepIn, run}
-use Rattle.model.proofs.ListLaws.{and-l, and-r, or-l, or-r, is-false, first-holds, first-free}
+use Rattle.model.specs.Machine.{at, actor, accepted, isStale, afterRefusal, carried, step, stepIn, run}
+use Rattle.model.proofs.ListLaws.{and-l, and-r, or-l, or-r, first-holds, first-free}
 
 -- a transaction whose number is not 0
 abbrev pub Live : Txn → Type 0

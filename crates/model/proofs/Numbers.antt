@@ -1,21 +1,18 @@
 -- Numbers: the clock is above every number in use, live numbers differ, and a snapshot knows every other live one that had not ended. Assumes nothing.
-use mathlib.Core.Path.{_≡_, refl, sym, ap, _∙_}
-use mathlib.Core.Bool.{Bool, true, false, _&&_, not}
-use mathlib.Core.List.{List, [], _∷_, map}
-use mathlib.Core.Logic.{_≢_, _⊎_, inl, inr}
+use mathlib.Core.Path.{_≡_, refl}
+use mathlib.Core.Bool.{Bool, true, false}
 use mathlib.Core.Option.{Option}
-use Prim.Native.Nat.{ℕ, zero, suc, _+_, _≤_, _<_}
+use Prim.Native.Nat.{ℕ, suc, _≤_, _<_}
 use native.Mathlib.Omega.{arith}
-use native.Mathlib.Decide.{ℕ-discrete}
-use lib.Dec.{eqb, ltb}
+use lib.Dec.{ltb}
 use lib.ListN.{length, length-map}
 use borrow.Author.Tests.{ltb-true, ltb-false, lt-ltb}
 use Rattle.limits.specs.Limits.{mostLive, mostActive}
 use Rattle.model.specs.Lists.{least, pick}
-use Rattle.model.specs.Table.{update, update-elim, update-same, update-other, updateAll-elim}
+use Rattle.model.specs.Table.{update, update-elim, updateAll-elim}
 use Rattle.model.specs.Store.{Chains, Snapshot, Txn, Store, Sizes, noTxn, fresh, rank}
 use Rattle.model.specs.Seeing.{live, active, activeNumbers}
-use Rattle.model.specs.Steps.{newTxn, begun, push, pushAll, pendingRows, changedBuckets}
+use Rattle.model.specs.Steps.{newTxn, begun, push, pendingRows, changedBuckets}
 use Rattle.model.specs.Refusals.{liveCount}
 use Rattle.model.proofs.ListLaws.{and-l, and-r, and-both, Among, among-map, map-among, pick-which, which-pick, pick-fewer}
 use Rattle.model.proofs.Move.{Live, live-test, test-live, Move, stay, did-begin, did-mark, did-capture, did-collect, did-rows, did-write, did-prepare, did-install, did-end, did-publish, did-abort}
@@ -222,7 +219,7 @@ below-move s s′ n g (did-install i a b) =
     let l : Low (s .clock) (s′ .chains) = pushAll-all (Low (s .clock)) (s .txns i) (low-push (s .clock) (s .txns i .number) (n .below i)) (pendingRows (s .sizes) (s .txns i .writes)) (s .chains) (g .xmin-below, g .xmax-below) in
     record { xmin-below = l .0; xmax-below = l .1; stamp-below = g .stamp-below }
 below-move s s′ n g (did-end i a b) = g
-below-move s s′ n g (did-publish i a b) = below-up s _ g (λ b. updateAll-elim (_≤ s .clock) (s .index .stamp) (changedBuckets s (s .txns i)) (s .clock) b (λ e. omega arith) (λ e. omega (arith, g .stamp-below b)))
+below-move s s′ n g (did-publish i a b) = below-up s _ g (λ b. updateAll-elim (_≤ s .clock) (s .index .stamp) (changedBuckets s (s .txns i)) _ b (λ e. omega (arith, n .below i)) (λ e. omega (arith, g .stamp-below b)))
 below-move s s′ n g (did-abort i a b) = g
 
 pub below-fresh : (z : Sizes) (clock : ℕ) → 1 ≤ clock → BelowAt (fresh z clock)

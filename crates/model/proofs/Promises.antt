@@ -1,8 +1,8 @@
 -- What holds of every sequence of steps from a fresh store, refused steps included. Assumes nothing.
-use mathlib.Core.Path.{_≡_, refl, sym, ap, _∙_}
-use mathlib.Core.Bool.{Bool, true, false}
+use mathlib.Core.Path.{_≡_, sym, ap, _∙_}
+use mathlib.Core.Bool.{true, false}
 use mathlib.Core.Logic.{_≢_}
-use mathlib.Core.List.{List, [], _∷_, map}
+use mathlib.Core.List.{List, [], map}
 use Prim.Native.Nat.{ℕ, _≤_}
 use Rattle.limits.specs.Limits.{lastNumber}
 use Rattle.model.specs.Lists.{pick}
@@ -15,10 +15,11 @@ use Rattle.model.specs.Shape.{rightShape}
 use Rattle.model.specs.Machine.{Rows, Judged, Done, Refused, step, stepIn, run, canOpen}
 use Rattle.model.proofs.ListLaws.{Among, Rising}
 use Rattle.model.proofs.Move.{Live}
+use Rattle.model.proofs.SeeingLaws.{pending-which, which-pendingRows}
 use Rattle.model.proofs.Good.{Good, sizes-run, opened-good, right-shape, step-in}
 use Rattle.model.proofs.Holders.{Writes, Wants, Claims, collected-is}
 use Rattle.model.proofs.Written.{posted-old}
-use Rattle.model.proofs.Accepted.{refuses, reached, never-misshapen}
+use Rattle.model.proofs.Unrefused.{refuses, reached, never-misshapen}
 use Rattle.model.proofs.Finished.{found-whole, rows-done, rows-recorded, found-rising}
 use Rattle.model.proofs.Validated.{validate-passed, validated-shows, prepare-passed, prepared-shows, standing}
 
@@ -41,16 +42,18 @@ pub record NothingLost (s : Store) : Type 0 where
   pub holds : (i b : ℕ) → Wants (s .sizes) (s .index .posted) (s .txns i) b → s .held .holder b ≡ s .txns i .number
   pub claim-needs : (r : ℕ) → s .held .claim r ≢ 0 → (i : ℕ) × (s .held .claim r ≡ s .txns i .number) × Claims (s .sizes) (s .txns i) r
   pub claims : (i r : ℕ) → Claims (s .sizes) (s .txns i) r → s .held .claim r ≡ s .txns i .number
+  pub every-pending : (i r : ℕ) → pending (s .txns i .writes) r ≡ true → Writes (s .sizes) (s .txns i) r
   pub old-prepared : (i r : ℕ) → rank (s .txns i .phase) ≡ 4 → Writes (s .sizes) (s .txns i) r → s .index .posted r ≡ oldKey (s .chains) r
   pub old-installed : (i r : ℕ) → Live (s .txns i) → 5 ≤ rank (s .txns i .phase) → Writes (s .sizes) (s .txns i) r → s .index .posted r ≡ keyBefore (s .chains) r
 
 pub kept-held : (z : Sizes) (clock : ℕ) (before : List Step) → canOpen z clock ≡ true → clock ≤ lastNumber → NothingLost (run (fresh z clock) before)
-kept-held z clock before e l = let g = opened-good z clock before e l in record {
+kept-held z clock before e l = let s = run (fresh z clock) before in let g = opened-good z clock before e l in record {
   holder-needs = g .holders .buckets .owner;
   holds = g .holders .buckets .owns;
   claim-needs = g .holders .claims .owner;
   claims = g .holders .claims .owns;
-  old-prepared = posted-old (run (fresh z clock) before) (g .numbers) (g .holders) (g .written);
+  every-pending = λ i r p. let w = pending-which (s .txns i .writes) r p in which-pendingRows (s .sizes) (s .txns i .writes) r (rw (w .2) at (g .ranges i .0 .writes-in (w .0) (w .1))) p;
+  old-prepared = posted-old s (g .numbers) (g .holders) (g .written);
   old-installed = λ i r a b w. sym (g .written .mine i r a b w .before);
 }
 

@@ -1,10 +1,10 @@
 -- Counts and ranges: the lists of every transaction are within their limits, and what they name is in the store. Assumes nothing.
-use mathlib.Core.Path.{_≡_, refl, sym, ap, _∙_}
-use mathlib.Core.Bool.{Bool, true, false, cond, _&&_}
-use mathlib.Core.Logic.{_≢_, _⊎_, inl, inr, ⊎-elim}
+use mathlib.Core.Path.{_≡_}
+use mathlib.Core.Bool.{Bool, true, false, _&&_}
+use mathlib.Core.Logic.{_⊎_, inl, inr, ⊎-elim}
 use mathlib.Core.Option.{some}
 use mathlib.Core.List.{List, [], _∷_, _++_}
-use Prim.Native.Nat.{ℕ, zero, suc, _+_, _≤_, _<_}
+use Prim.Native.Nat.{ℕ, _≤_, _<_}
 use native.Mathlib.Omega.{arith}
 use native.Mathlib.Nat.{mod-lt}
 use lib.Dec.{leb}
@@ -12,12 +12,12 @@ use lib.ListN.{length, length-append}
 use borrow.Author.Tests.{leb-true}
 use Rattle.limits.specs.Limits.{mostRows, mostVersions, mostBuckets, mostIndexReads, mostRecords, mostWrites}
 use Rattle.model.specs.Table.{update, update-elim, cond-elim}
-use Rattle.model.specs.Store.{Sizes, Chains, Phase, Installed, IndexRead, ReadRecord, Write, Txn, Store, noTxn, fresh, rank, bucketIn, keyIn, sameKey, bucketOf}
-use Rattle.model.specs.Seeing.{pending, versionOf, recordOf}
-use Rattle.model.specs.Steps.{withPhase, hasRead, addRead, postedRows, pushAll, pendingRows, recordAll, recordsAfter, foundRows, readTxn}
+use Rattle.model.specs.Store.{Sizes, Installed, IndexRead, ReadRecord, Write, Txn, Store, fresh, bucketIn, keyIn, sameKey, bucketOf}
+use Rattle.model.specs.Seeing.{pending, recordOf}
+use Rattle.model.specs.Steps.{withPhase, hasRead, addRead, postedRows, pendingRows, recordsAfter, foundRows}
 use Rattle.model.specs.Shape.{within, goodSizes}
 use Rattle.model.proofs.ListLaws.{and-l, and-r, Among, among-last, Rising, pick-rising, pick-which, pick-few}
-use Rattle.model.proofs.Move.{Live, CanCapture, Move, stay, did-begin, did-mark, did-capture, did-collect, did-rows, did-write, did-prepare, did-install, did-end, did-publish, did-abort}
+use Rattle.model.proofs.Move.{CanCapture, Move, stay, did-begin, did-mark, did-capture, did-collect, did-rows, did-write, did-prepare, did-install, did-end, did-publish, did-abort}
 use Rattle.model.proofs.SeeingLaws.{keyAt-pos, version-in, match-version, addRead-cases, recordAll-cases, found-which}
 use Rattle.model.proofs.Room.{used-pushAll}
 

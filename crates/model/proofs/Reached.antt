@@ -1,11 +1,10 @@
 -- Runs that meet the premises of the promises: a read that finds a row, another transaction that publishes meanwhile, and a clear verdict. Assumes nothing.
 use mathlib.Core.Path.{_≡_, refl}
-use mathlib.Core.Bool.{Bool, true, false, cond, not, _&&_, _||_}
-use mathlib.Core.List.{List, [], _∷_, _++_, map}
-use Prim.Native.Nat.{ℕ}
+use mathlib.Core.Bool.{true}
+use mathlib.Core.List.{List, [], _∷_}
 use Rattle.model.specs.Store.{Sizes, Store, Collected, fresh, sameKey, bucketOf}
 use Rattle.model.specs.Verdict.{Clear, badRead, badRecord, judgeRecords, judgeReads, verdict}
-use Rattle.model.specs.Refusals.{Step, begin, capture, collect, rows, put, erase, prepare, install, end, publish, validate, abort, txnOf, placeOf, liveCount, byAnother, reservedBy, reserved, checks, refusal}
+use Rattle.model.specs.Refusals.{Step, begin, capture, collect, rows, put, prepare, install, end, publish, validate, txnOf, placeOf, liveCount, byAnother, reservedBy, reserved, checks, refusal}
 use Rattle.model.specs.Lists.{member, least, pick, first, every, some-of, all-of, join}
 use Rattle.model.specs.Table.{update, updateAll}
 use Rattle.model.specs.Seeing.{seen, visible, known, walk, firstVisible, keyAt, lastWriteFrom, pending, writtenKey, shownKey, matches, shows, activeNumbers, snapshotNow}

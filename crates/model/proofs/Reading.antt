@@ -1,16 +1,14 @@
 -- A read on its way: a capture's bucket is stamped below the number, no row that is seen with the key misses among the candidates, and each record is of the version that its row is seen at. Assumes nothing.
 use mathlib.Core.Path.{_≡_, refl, sym, ap, _∙_}
-use mathlib.Core.Bool.{Bool, true, false}
-use mathlib.Core.Logic.{_≢_, _⊎_, inl, inr, ⊎-elim}
-use mathlib.Core.Option.{Option, none, some}
-use mathlib.Core.List.{List, [], _∷_}
-use Prim.Native.Nat.{ℕ, zero, suc, _≤_, _<_}
+use mathlib.Core.Bool.{true, false}
+use mathlib.Core.Logic.{_≢_, inl, ⊎-elim}
+use mathlib.Core.Option.{some}
+use Prim.Native.Nat.{ℕ, _<_}
 use native.Mathlib.Omega.{arith}
-use native.Mathlib.Decide.{ℕ-discrete}
-use Rattle.model.specs.Table.{update, updateAll, update-elim, update-same, update-other, updateAll-elim}
-use Rattle.model.specs.Store.{Sizes, Chains, Snapshot, Phase, Open, Holding, Collected, Prepared, Installed, Ended, ReadRecord, Txn, Store, noTxn, fresh, rank, bucketIn, keyIn, bucketOf}
-use Rattle.model.specs.Seeing.{seen, versionOf, firstVisible, keyAt, recordOf}
-use Rattle.model.specs.Steps.{newTxn, markedTxn, hasRead, addRead, capturedTxn, collectedTxn, postedRows, foundRows, recordAll, readTxn, writtenTxn, withPhase, pendingRows, installed, changedBuckets, published}
+use Rattle.model.specs.Table.{update, update-elim, updateAll-elim}
+use Rattle.model.specs.Store.{Sizes, Chains, Holding, Collected, Prepared, Installed, Ended, ReadRecord, Txn, Store, noTxn, fresh, rank, bucketIn, keyIn, bucketOf}
+use Rattle.model.specs.Seeing.{seen, versionOf, keyAt, recordOf}
+use Rattle.model.specs.Steps.{newTxn, markedTxn, hasRead, capturedTxn, collectedTxn, postedRows, foundRows, readTxn, writtenTxn, withPhase, pendingRows, installed, changedBuckets, published}
 use Rattle.model.proofs.ListLaws.{Among, member-among}
 use Rattle.model.proofs.Move.{Live, CanCapture, Move, stay, did-begin, did-mark, did-capture, did-collect, did-rows, did-write, did-prepare, did-install, did-end, did-publish, did-abort}
 use Rattle.model.proofs.Chained.{Chained}
@@ -114,7 +112,7 @@ reading-publish s i n h w l a g j = update-elim (λ y. Live y → Reading (s .si
     (λ d v. let r = g j v in record {
       captures = λ b k e. let c = r .captures b k e in (
         c .0,
-        updateAll-elim (_< s .txns j .number) (s .index .stamp) (changedBuckets s (s .txns i)) (s .clock) b
+        updateAll-elim (_< s .txns j .number) (s .index .stamp) (changedBuckets s (s .txns i)) _ b
             (λ m. absurd (d (one-bucket s i n h j i b (inl (k, e)) (changed-wants s n h w i b l (omega arith) (member-among b _ m)))))
             (λ m. c .1),
         c .2,

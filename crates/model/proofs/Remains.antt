@@ -1,12 +1,11 @@
 -- A finished read remains: over any steps the transaction keeps its index read and its records, and sees each row at the same version, until it installs or ends. Assumes nothing.
-use mathlib.Core.Path.{_≡_, refl, sym, ap, _∙_}
-use mathlib.Core.Bool.{Bool, true, false}
-use mathlib.Core.Logic.{_≢_, _⊎_, inl, inr}
-use mathlib.Core.Option.{Option, some}
-use mathlib.Core.List.{List, [], _∷_}
-use Prim.Native.Nat.{ℕ, zero, suc, _≤_, _<_}
+use mathlib.Core.Path.{_≡_, refl, sym, _∙_}
+use mathlib.Core.Bool.{true, false}
+use mathlib.Core.Logic.{_≢_}
+use mathlib.Core.Option.{some}
+use mathlib.Core.List.{List}
+use Prim.Native.Nat.{ℕ, _≤_, _<_}
 use native.Mathlib.Omega.{arith}
-use native.Mathlib.Decide.{ℕ-discrete}
 use Rattle.model.specs.Table.{update, update-elim}
 use Rattle.model.specs.Store.{Sizes, Chains, Snapshot, ReadRecord, Installed, Txn, Store, noTxn, rank, bucketOf}
 use Rattle.model.specs.Seeing.{seen, versionOf, keyAt, recordOf}

@@ -1,12 +1,11 @@
 -- Room is kept: the clock with a publish for each live transaction fits, and so do the versions with those reserved. Assumes nothing.
-use mathlib.Core.Path.{_≡_, refl, sym, ap, _∙_}
-use mathlib.Core.Bool.{Bool, true, false, cond, not, _&&_}
+use mathlib.Core.Path.{_≡_, refl, ap, _∙_}
+use mathlib.Core.Bool.{Bool, true, false, cond, _&&_}
 use mathlib.Core.List.{List, [], _∷_}
 use mathlib.Core.Logic.{_≢_}
 use Prim.Native.Nat.{ℕ, zero, suc, _+_, _≤_, _<_}
 use native.Mathlib.Omega.{arith}
 use native.Mathlib.Decide.{ℕ-discrete}
-use lib.Dec.{eqb}
 use lib.ListN.{length}
 use borrow.Author.Tests.{eq-eqb, ne-eqb}
 use Rattle.limits.specs.Limits.{mostLive, lastNumber}
@@ -14,7 +13,7 @@ use Rattle.model.specs.Lists.{pick}
 use Rattle.model.specs.Table.{update, update-same, update-other}
 use Rattle.model.specs.Store.{Sizes, Chains, Prepared, Installed, Txn, Store, noTxn, fresh, rank}
 use Rattle.model.specs.Seeing.{live, lastWrite}
-use Rattle.model.specs.Steps.{newTxn, begun, push, pushAll, pendingRows, newKey, writtenPayload, withPhase, prepared, installed}
+use Rattle.model.specs.Steps.{newTxn, push, pushAll, pendingRows, newKey, writtenPayload, withPhase, prepared, installed}
 use Rattle.model.specs.Refusals.{liveCount, reservedBy, reserved}
 use Rattle.model.proofs.ListLaws.{pick-same}
 use Rattle.model.proofs.Move.{Live, live-test, Move, stay, did-begin, did-mark, did-capture, did-collect, did-rows, did-write, did-prepare, did-install, did-end, did-publish, did-abort}
@@ -28,20 +27,20 @@ abbrev pub RoomAt : Store → Type 0
 RoomAt s = Room (s .sizes) (s .clock) (s .chains .used) (s .txns)
 
 -- a test as 0 or 1
-abbrev one-if : Bool → ℕ
-one-if true = 1
-one-if false = 0
+abbrev oneIf : Bool → ℕ
+oneIf true = 1
+oneIf false = 0
 
 -- two tests that differ at one number only
-pick-at : (test also : ℕ → Bool) (i k n : ℕ) → k ≤ i → i < k + n → ((j : ℕ) → j ≢ i → test j ≡ also j) → length (pick test k n) + one-if (also i) ≡ length (pick also k n) + one-if (test i)
+pick-at : (test also : ℕ → Bool) (i k n : ℕ) → k ≤ i → i < k + n → ((j : ℕ) → j ≢ i → test j ≡ also j) → length (pick test k n) + oneIf (also i) ≡ length (pick also k n) + oneIf (test i)
 unfolding pick
 pick-at test also i k zero l u h = absurd (omega arith)
 pick-at test also i k (suc n) l u h = elim (ℕ-discrete k i) [
   | yes e ↦ rw (pick-same test also (suc k) n (λ r a b. h r (λ f. omega arith))) (rw e (here (test i) (also i) i (pick also (suc i) n)))
-  | no d ↦ rw (h k d) (there (also k) k (pick test (suc k) n) (pick also (suc k) n) (one-if (also i)) (one-if (test i)) (pick-at test also i (suc k) n (omega arith) (omega arith) h))
+  | no d ↦ rw (h k d) (there (also k) k (pick test (suc k) n) (pick also (suc k) n) (oneIf (also i)) (oneIf (test i)) (pick-at test also i (suc k) n (omega arith) (omega arith) h))
 ]
   where
-    here : (a b : Bool) (m : ℕ) (rest : List ℕ) → length (cond a (m ∷ rest) rest) + one-if b ≡ length (cond b (m ∷ rest) rest) + one-if a
+    here : (a b : Bool) (m : ℕ) (rest : List ℕ) → length (cond a (m ∷ rest) rest) + oneIf b ≡ length (cond b (m ∷ rest) rest) + oneIf a
     here true true m rest = refl
     here true false m rest = omega arith
     here false true m rest = omega arith
@@ -51,7 +50,7 @@ pick-at test also i k (suc n) l u h = elim (ℕ-discrete k i) [
     there true m ps qs p q e = omega arith
     there false m ps qs p q e = e
 
-live-set : (t : ℕ → Txn) (i : ℕ) (x : Txn) → i < mostLive → liveCount (update t i x) + one-if (live (t i)) ≡ liveCount t + one-if (live x)
+live-set : (t : ℕ → Txn) (i : ℕ) (x : Txn) → i < mostLive → liveCount (update t i x) + oneIf (live (t i)) ≡ liveCount t + oneIf (live x)
 unfolding liveCount
 live-set t i x l = pick-at (λ j. live (update t i x j)) (λ j. live (t j)) i 0 mostLive (omega arith) (omega arith) (λ j d. rw (update-other t i x j d)) ∙ rw (update-same t i x)
 
@@ -86,7 +85,7 @@ used-pushAll x [] c = omega arith
 used-pushAll x (r ∷ rs) c = omega (arith, used-pushAll x rs (push (x .number) r (newKey x r) (writtenPayload (lastWrite (x .writes) r)) c))
 
 -- one place changes, and takes no more than it had
-room-set : (z : Sizes) (clock clock′ used used′ : ℕ) (t : ℕ → Txn) (i : ℕ) (x : Txn) → i < mostLive → clock′ + one-if (live x) ≤ clock + one-if (live (t i)) → used′ + reservedBy z x ≤ used + reservedBy z (t i)
+room-set : (z : Sizes) (clock clock′ used used′ : ℕ) (t : ℕ → Txn) (i : ℕ) (x : Txn) → i < mostLive → clock′ + oneIf (live x) ≤ clock + oneIf (live (t i)) → used′ + reservedBy z x ≤ used + reservedBy z (t i)
     → Room z clock used t → Room z clock′ used′ (update t i x)
 room-set z clock clock′ used used′ t i x l a b g = record {
   numbers-left = omega (arith, g .numbers-left, live-set t i x l);
@@ -103,7 +102,7 @@ module _ (s : Store) (i : ℕ) (n : Numbers (s .clock) (s .txns)) (g : RoomAt s)
 
   -- the record ends
   room-free : (clock′ : ℕ) → clock′ ≤ suc (s .clock) → Room (s .sizes) clock′ (s .chains .used) (update (s .txns) i noTxn)
-  room-free clock′ h = room-set _ _ _ _ _ (s .txns) i noTxn here (omega (arith, ap one-if (live-test (s .txns i) a))) (omega (arith, reserves-none (s .sizes) noTxn (λ e. omega arith))) g
+  room-free clock′ h = room-set _ _ _ _ _ (s .txns) i noTxn here (omega (arith, ap oneIf (live-test (s .txns i) a))) (omega (arith, reserves-none (s .sizes) noTxn (λ e. omega arith))) g
 
   room-prepare : rank (s .txns i .phase) ≡ 1 → s .chains .used + reserved (s .sizes) (s .txns) mostLive + length (pendingRows (s .sizes) (s .txns i .writes)) ≤ s .sizes .versions → RoomAt (prepared s i)
   room-prepare r h = let x = withPhase (s .txns i) Prepared in record {
@@ -118,7 +117,7 @@ module _ (s : Store) (i : ℕ) (n : Numbers (s .clock) (s .txns)) (g : RoomAt s)
 pub room-move : (s s′ : Store) {a : ℕ} → Numbers (s .clock) (s .txns) → RoomAt s → Move s a s′ → RoomAt s′
 room-move s s′ n g (stay i) = g
 room-move s s′ n g (did-begin i a b c d) = record {
-  numbers-left = omega (arith, live-set (s .txns) i (newTxn s) a, ap one-if (live-test (newTxn s) (n .clock-pos)));
+  numbers-left = omega (arith, live-set (s .txns) i (newTxn s) a, ap oneIf (live-test (newTxn s) (n .clock-pos)));
   versions-left = omega (arith, g .versions-left, reserved-set (s .sizes) (s .txns) i (newTxn s) mostLive a, reserves-none (s .sizes) (newTxn s) (λ e. omega arith));
 }
 room-move s s′ n g (did-mark i a b) = room-quiet s i n g a _ refl (λ e. omega arith) (λ e. omega arith)

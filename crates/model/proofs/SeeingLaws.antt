@@ -1,6 +1,6 @@
 -- Keys, pending writes and what is recorded: each test and list of the model, taken apart into facts. Assumes nothing.
-use mathlib.Core.Path.{_≡_, refl, sym, ap, _∙_}
-use mathlib.Core.Bool.{Bool, true, false, cond, not, _&&_, _||_, false≢true, true≢false}
+use mathlib.Core.Path.{_≡_, refl, ap}
+use mathlib.Core.Bool.{Bool, true, false, cond, _&&_, _||_, false≢true}
 use mathlib.Core.Logic.{_≢_, _⊎_, inl, inr, ⊎-elim}
 use mathlib.Core.Option.{Option, none, some}
 use mathlib.Core.List.{List, [], _∷_, _++_}
@@ -8,12 +8,12 @@ use Prim.Native.Nat.{ℕ, zero, suc, _≤_, _<_}
 use native.Mathlib.Omega.{arith}
 use lib.Dec.{eqb, ltb, leb}
 use borrow.Author.Tests.{eqb-true, eqb-false, eq-eqb, ne-eqb, ltb-true, leb-true}
-use Rattle.model.specs.Lists.{member, pick, some-of}
+use Rattle.model.specs.Lists.{member}
 use Rattle.model.specs.Table.{cond-elim}
 use Rattle.model.specs.Store.{Sizes, Chains, Snapshot, IndexRead, ReadRecord, Write, Txn, Store, sameKey, bucketOf, keyIn}
-use Rattle.model.specs.Seeing.{seen, visible, known, walk, firstVisible, versionOf, keyAt, lastWrite, pending, writtenKey, shownKey, matches, recordOf}
+use Rattle.model.specs.Seeing.{visible, known, walk, firstVisible, versionOf, keyAt, pending, shownKey, matches, recordOf}
 use Rattle.model.specs.Steps.{hasRead, addRead, recorded, recording, recordAll, foundRows, pendingRows, keyBuckets}
-use Rattle.model.proofs.ListLaws.{and-l, and-r, or-left, or-right, or-cases, Among, among-left, among-right, among-cases, among-last, some-which, which-some, pick-which, which-pick}
+use Rattle.model.proofs.ListLaws.{and-l, and-r, or-cases, Among, among-left, among-right, among-last, some-which, which-some, pick-which, which-pick}
 
 pub same-key : (a b : Option ℕ) → sameKey a b ≡ true → a ≡ b
 unfolding sameKey
@@ -74,10 +74,6 @@ unfolding matches shownKey
 version-match c x k r p = rw p
 
 -- the distinct pending rows
-pub pendingRows-which : (z : Sizes) (ws : List Write) (r : ℕ) → Among r (pendingRows z ws) → (r < z .rows) × (pending ws r ≡ true)
-unfolding pendingRows
-pendingRows-which z ws r m = let w = pick-which (pending ws) 0 (z .rows) r m in (omega (arith, w .1), w .2)
-
 pub which-pendingRows : (z : Sizes) (ws : List Write) (r : ℕ) → r < z .rows → pending ws r ≡ true → Among r (pendingRows z ws)
 unfolding pendingRows
 which-pendingRows z ws r l p = which-pick (pending ws) 0 (z .rows) r (omega arith) (omega arith) p
@@ -178,5 +174,4 @@ module _ (c : Chains) (x : Txn) where
 -- a found row matches
 pub found-which : (s : Store) (x : Txn) (r : ℕ) → Among r (foundRows s x) → (r < s .sizes .rows) × (matches (s .chains) x (keyIn (x .phase)) r ≡ true)
 unfolding foundRows
-found-which s x r m = let w = pick-which (λ q. (member q (x .candidates) || pending (x .writes) q) && matches (s .chains) x (keyIn (x .phase)) q) 0 (s .sizes .rows) r m in
-    (omega (arith, w .1), and-r (member r (x .candidates) || pending (x .writes) r) _ (w .2))
+found-which s x r m = let w = pick-which _ 0 (s .sizes .rows) r m in let t = w .2 in (omega (arith, w .1), search and-r)

@@ -1,15 +1,15 @@
 -- What a snapshot sees of a row stays as it is while others install. Assumes nothing.
 use mathlib.Core.Path.{_≡_, refl, sym, ap, _∙_}
 use mathlib.Core.Bool.{Bool, true, false, true≢false}
-use mathlib.Core.Logic.{_≢_, _⊎_, inl, inr, ⊎-elim}
+use mathlib.Core.Logic.{_≢_, ⊎-elim}
 use mathlib.Core.List.{List}
-use Prim.Native.Nat.{ℕ, zero, suc, _≤_, _<_}
+use Prim.Native.Nat.{ℕ, _≤_, _<_}
 use native.Mathlib.Omega.{arith}
 use native.Mathlib.Decide.{ℕ-discrete}
 use Rattle.model.specs.Lists.{member}
 use Rattle.model.specs.Store.{Chains, Snapshot, Txn, rank}
 use Rattle.model.specs.Seeing.{seen, versionOf, keyAt}
-use Rattle.model.proofs.ListLaws.{Among, member-among, among-member}
+use Rattle.model.proofs.ListLaws.{member-among, among-member}
 use Rattle.model.proofs.Move.{Live}
 use Rattle.model.proofs.Chained.{Chained}
 use Rattle.model.proofs.Numbers.{Numbers}

@@ -1,21 +1,19 @@
 -- A validated read stands: where the verdict is clear, a snapshot taken at that step shows for the key what the transaction read. Assumes nothing.
 use mathlib.Core.Path.{_≡_, refl, sym, ap, _∙_}
-use mathlib.Core.Bool.{Bool, true, false, cond, not, _&&_, false≢true, true≢false}
-use mathlib.Core.Logic.{_≢_, _⊎_, inl, inr, ⊎-elim}
-use mathlib.Core.Option.{Option, some}
-use mathlib.Core.List.{List, [], _∷_, map}
-use Prim.Native.Nat.{ℕ, zero, suc, _≤_, _<_}
+use mathlib.Core.Bool.{true, false, true≢false}
+use mathlib.Core.Logic.{_≢_, _⊎_, inl, inr}
+use mathlib.Core.Option.{some}
+use mathlib.Core.List.{[]}
+use Prim.Native.Nat.{ℕ, _≤_, _<_}
 use native.Mathlib.Omega.{arith}
 use native.Mathlib.Decide.{ℕ-discrete}
-use Rattle.model.specs.Lists.{pick, some-of}
-use Rattle.model.specs.Store.{Sizes, Chains, Snapshot, IndexRead, ReadRecord, Txn, Store, rank, sameKey, bucketOf}
-use Rattle.model.specs.Seeing.{seen, versionOf, keyAt, recordOf, shows, activeNumbers, snapshotNow}
+use Rattle.model.specs.Store.{Chains, Snapshot, IndexRead, Store, rank, sameKey, bucketOf}
+use Rattle.model.specs.Seeing.{seen, versionOf, keyAt, recordOf, shows, snapshotNow}
 use Rattle.model.specs.Verdict.{badRecord}
 use Rattle.model.specs.Steps.{readBuckets}
 use Rattle.model.specs.Refusals.{byAnother}
-use Rattle.model.proofs.ListLaws.{is-false, same-test, Among, among-map, none-each, map-pick}
+use Rattle.model.proofs.ListLaws.{is-false, same-test, Among, among-map, map-pick}
 use Rattle.model.proofs.Move.{Live}
-use Rattle.model.proofs.Chained.{Chained}
 use Rattle.model.proofs.Numbers.{active-which}
 use Rattle.model.proofs.SeeingLaws.{same-key, key-same, keyAt-pos, read-bucket}
 use Rattle.model.proofs.Walk.{Finds, nothing, here, down, version-finds, finds-one, finds-shown, finds-open, finds-top, zero-finds}

@@ -1,27 +1,27 @@
 -- A live transaction that does not see a change of key is told of it: the maker is still live, or both keys' buckets are stamped above the transaction's number. Assumes nothing.
 use mathlib.Core.Path.{_≡_, refl, sym, ap, _∙_}
-use mathlib.Core.Bool.{Bool, true, false, cond, not, _&&_, false≢true, true≢false}
+use mathlib.Core.Bool.{Bool, true, false, cond, not, true≢false}
 use mathlib.Core.Logic.{_≢_, _⊎_, inl, inr, ⊎-elim}
-use mathlib.Core.Option.{Option, none, some}
-use mathlib.Core.List.{List, [], _∷_, _++_}
-use Prim.Native.Nat.{ℕ, zero, suc, _≤_, _<_}
+use mathlib.Core.Option.{some}
+use mathlib.Core.List.{[], _++_}
+use Prim.Native.Nat.{ℕ, _≤_, _<_}
 use native.Mathlib.Omega.{arith}
 use native.Mathlib.Decide.{ℕ-discrete}
 use lib.Dec.{ltb}
-use borrow.Author.Tests.{ltb-true, ltb-false, lt-ltb, le-ltb, not-true}
+use borrow.Author.Tests.{ltb-true, lt-ltb, not-true}
 use Rattle.model.specs.Lists.{member}
-use Rattle.model.specs.Table.{update, updateAll, update-elim, update-same, update-other, updateAll-elim}
-use Rattle.model.specs.Store.{Sizes, Chains, Snapshot, Phase, Installed, Txn, Store, noTxn, fresh, rank, sameKey, bucketOf}
+use Rattle.model.specs.Table.{update, update-elim, update-same, update-other, updateAll-elim}
+use Rattle.model.specs.Store.{Sizes, Chains, Snapshot, Installed, Txn, Store, noTxn, fresh, rank, sameKey, bucketOf}
 use Rattle.model.specs.Seeing.{seen, keyAt}
 use Rattle.model.specs.Steps.{withPhase, newTxn, begun, pendingRows, keyBefore, newKey, keyBuckets, changedBuckets, installed, published}
 use Rattle.model.proofs.ListLaws.{and-l, and-r, is-false, Among, member-among, among-member, not-member, among-left, among-right, which-join}
 use Rattle.model.proofs.Move.{Live, Move, stay, did-begin, did-mark, did-capture, did-collect, did-rows, did-write, did-prepare, did-install, did-end, did-publish, did-abort}
 use Rattle.model.proofs.Chained.{Chained}
-use Rattle.model.proofs.Numbers.{Numbers, BelowAt, Kept, kept-all, kept-set, kept-free, active-which}
+use Rattle.model.proofs.Numbers.{Numbers, BelowAt, Kept, kept-free, active-which}
 use Rattle.model.proofs.SeeingLaws.{same-key, key-same, key-bucket}
 use Rattle.model.proofs.Holders.{Writes}
 use Rattle.model.proofs.Grown.{Grown}
-use Rattle.model.proofs.Written.{Mine, Written, WrittenAt, old-or-new, keyAt-grown, installs}
+use Rattle.model.proofs.Written.{WrittenAt, old-or-new, keyAt-grown, installs}
 
 -- what a snapshot sees, in facts
 pub seen-which : (v : Snapshot) (n : ℕ) → seen v n ≡ true → (n < v .xmax) × (Among n (v .active) → ⊥)
@@ -119,11 +119,11 @@ module _ (s : Store) (i : ℕ) (g : ToldAt s) where
 
   told-publish : Numbers (s .clock) (s .txns) → BelowAt s → WrittenAt s → Live (s .txns i) → rank (s .txns i .phase) ≡ 6 → ToldAt (published s i)
   told-publish n b w l a = told-frame (s .sizes) (s .chains) (s .index .stamp) (published s i .index .stamp) (s .txns) _ (kept-free (s .txns) i)
-      (λ c. updateAll-elim (λ v. s .index .stamp c ≤ v) (s .index .stamp) (changedBuckets s (s .txns i)) (s .clock) c (λ m. omega (arith, b .stamp-below c)) (λ m. omega arith))
+      (λ c. updateAll-elim (λ v. s .index .stamp c ≤ v) (s .index .stamp) (changedBuckets s (s .txns i)) _ c (λ m. omega (arith, b .stamp-below c)) (λ m. omega arith))
       (λ q m u v f. fate q m u v f (ℕ-discrete m i)) g
     where
       fate : (q m : ℕ) → Turn (s .chains) q → Live (s .txns m) → s .chains .xmin q ≡ s .txns m .number → Dec (m ≡ i) → Live (published s i .txns m) ⊎ ((j k : ℕ) → Carries (s .chains) q k → s .txns j .number < published s i .index .stamp (bucketOf (s .sizes) k))
-      fate q m u v f (yes d) = inr (λ j k h. updateAll-elim (λ o. s .txns j .number < o) (s .index .stamp) (changedBuckets s (s .txns i)) (s .clock) (bucketOf (s .sizes) k)
+      fate q m u v f (yes d) = inr (λ j k h. updateAll-elim (λ o. s .txns j .number < o) (s .index .stamp) (changedBuckets s (s .txns i)) _ (bucketOf (s .sizes) k)
           (λ y. n .below j)
           (λ y. absurd (true≢false (sym (among-member _ _ (turn-stamped w l a q k u (rw d at f) h)) ∙ y))))
       fate q m u v f (no d) = inl (rw (update-other (s .txns) i noTxn m d) v)

@@ -1,31 +1,28 @@
 -- From a finished read over any steps to a clear verdict: at validate, and at an accepted prepare. Assumes nothing.
 use mathlib.Core.Path.{_≡_, refl, sym, ap, _∙_}
-use mathlib.Core.Bool.{Bool, true, false, cond, not, _&&_, _||_}
-use mathlib.Core.Logic.{_≢_, _⊎_, inl, inr}
-use mathlib.Core.Option.{Option, some}
+use mathlib.Core.Bool.{false}
+use mathlib.Core.Option.{some}
 use mathlib.Core.List.{List, [], _∷_, map}
-use Prim.Native.Nat.{ℕ, zero, suc, _+_, _≤_, _<_}
+use Prim.Native.Nat.{ℕ, _<_}
 use native.Mathlib.Omega.{arith}
-use lib.Dec.{eqb, ltb}
 use borrow.Author.Tests.{eqb-true, not-false}
 use Rattle.limits.specs.Limits.{mostLive}
-use Rattle.model.specs.Lists.{pick, some-of}
-use Rattle.model.specs.Table.{update, update-elim, update-same, update-field}
-use Rattle.model.specs.Store.{Sizes, Chains, Snapshot, ReadRecord, Collected, Prepared, Txn, Store, rank, keyIn, bucketOf, sameKey}
-use Rattle.model.specs.Seeing.{versionOf, keyAt, pending, matches, recordOf, shows, live, active, activeNumbers, snapshotNow}
-use Rattle.model.specs.Verdict.{Clear, verdict, verdictNumber}
-use Rattle.model.specs.Steps.{withPhase, foundRows, readTxn, readDone, readBuckets, neededBuckets, prepared}
-use Rattle.model.specs.Refusals.{Step, rows, validate, prepare, placeOf, txnOf, byAnother, checks}
+use Rattle.model.specs.Table.{update-elim, update-field}
+use Rattle.model.specs.Store.{Sizes, Chains, Snapshot, ReadRecord, Collected, Prepared, Txn, Store, rank, keyIn}
+use Rattle.model.specs.Seeing.{versionOf, keyAt, pending, matches, recordOf, shows, active, activeNumbers, snapshotNow}
+use Rattle.model.specs.Verdict.{Clear, verdict}
+use Rattle.model.specs.Steps.{withPhase, readTxn, readDone, readBuckets, neededBuckets, prepared}
+use Rattle.model.specs.Refusals.{Step, rows, validate, prepare, txnOf, byAnother, checks}
 use Rattle.model.specs.Machine.{Rows, Judged, Done, at, accepted, step, run}
 use Rattle.model.proofs.ListLaws.{or-l, Among, among-left, none-each, which-pick, map-pick, pick-same}
 use Rattle.model.proofs.Move.{Live, passes, finds}
 use Rattle.model.proofs.SeeingLaws.{key-same, version-match}
 use Rattle.model.proofs.Holders.{collected-is}
 use Rattle.model.proofs.Good.{Good, good-run, sizes-run}
-use Rattle.model.proofs.Accepted.{refuses, is-accepted}
+use Rattle.model.proofs.Unrefused.{refuses, is-accepted}
 use Rattle.model.proofs.Finished.{found-whole, RowsDone, rows-done, rows-good, rows-recorded}
 use Rattle.model.proofs.Remains.{Remains, RemainsAt, remains-run}
-use Rattle.model.proofs.Cleared.{Cleared, clear-number, cleared}
+use Rattle.model.proofs.Cleared.{clear-number, cleared}
 use Rattle.model.proofs.Stands.{stands}
 
 -- no write is pending

@@ -2,26 +2,25 @@
 use mathlib.Core.Path.{_≡_, refl, sym, ap, _∙_}
 use mathlib.Core.Bool.{Bool, true, false, true≢false}
 use mathlib.Core.Logic.{_≢_, _⊎_, inl, inr, ⊎-elim}
-use mathlib.Core.Option.{Option, none, some}
-use mathlib.Core.List.{List, [], _∷_}
-use Prim.Native.Nat.{ℕ, zero, suc, _≤_, _<_}
+use mathlib.Core.Option.{Option}
+use mathlib.Core.List.{List}
+use Prim.Native.Nat.{ℕ, _≤_, _<_}
 use native.Mathlib.Omega.{arith}
 use native.Mathlib.Decide.{ℕ-discrete}
 use lib.Dec.{ltb}
 use borrow.Author.Tests.{ltb-true, ltb-false}
 use Rattle.model.specs.Lists.{member}
 use Rattle.model.specs.Table.{update, update-elim, update-same, update-other}
-use Rattle.model.specs.Store.{Sizes, Chains, Phase, Installed, Ended, Txn, Store, noTxn, fresh, rank}
+use Rattle.model.specs.Store.{Sizes, Chains, Installed, Ended, Txn, Store, noTxn, fresh, rank}
 use Rattle.model.specs.Seeing.{keyAt}
-use Rattle.model.specs.Steps.{withPhase, begun, pendingRows, oldKey, newKey, pushAll, installed, published, repost}
-use Rattle.model.proofs.ListLaws.{Among, member-among, among-member, pick-rising}
-use Rattle.model.proofs.Move.{Live, CanPrepare, Move, stay, did-begin, did-mark, did-capture, did-collect, did-rows, did-write, did-prepare, did-install, did-end, did-publish, did-abort}
+use Rattle.model.specs.Steps.{withPhase, pendingRows, oldKey, newKey, installed, published}
+use Rattle.model.proofs.ListLaws.{member-among, among-member, pick-rising}
+use Rattle.model.proofs.Move.{Live, Move, stay, did-begin, did-mark, did-capture, did-collect, did-rows, did-write, did-prepare, did-install, did-end, did-publish, did-abort}
 use Rattle.model.proofs.Chained.{Chained}
 use Rattle.model.proofs.Numbers.{Numbers, BelowAt}
 use Rattle.model.proofs.SeeingLaws.{keyAt-zero, keyAt-key, keyAt-same}
-use Rattle.model.proofs.Owned.{free}
-use Rattle.model.proofs.Holders.{Writes, Claims, claims-busy, HoldersAt, one-claim, posted-kept, repost-elim}
-use Rattle.model.proofs.Grown.{NewHead, Grown, grown}
+use Rattle.model.proofs.Holders.{Writes, HoldersAt, one-claim, posted-kept, repost-elim}
+use Rattle.model.proofs.Grown.{Grown, grown}
 
 -- a row that x has installed and not published
 pub record Mine (c : Chains) (posted : ℕ → Option ℕ) (x : Txn) (r : ℕ) : Type 0 where
