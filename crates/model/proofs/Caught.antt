@@ -4,15 +4,12 @@ use mathlib.Core.Bool.{false}
 use mathlib.Core.Option.{none, some}
 use mathlib.Core.List.{List, [], _∷_, _++_}
 use Prim.Native.Nat.{ℕ}
-use Rattle.model.specs.Store.{Sizes, Store, Txn, Open, noTxn, fresh, sameKey, bucketOf}
-use Rattle.model.specs.Verdict.{Row, badRead, badRecord, judgeRecords, judgeReads, verdict}
-use Rattle.model.specs.Refusals.{Step, begin, capture, collect, rows, put, prepare, install, end, publish, validate, Taken, Stale, NoVersions, txnOf, placeOf, liveCount, byAnother, reservedBy, reserved, checks, refusal}
-use Rattle.model.specs.Lists.{member, least, pick, first, every, some-of, all-of, join}
-use Rattle.model.specs.Table.{update, updateAll}
-use Rattle.model.specs.Seeing.{seen, visible, known, walk, firstVisible, keyAt, lastWriteFrom, pending, writtenKey, shownKey, matches, activeNumbers}
-use Rattle.model.specs.Steps.{hasRead, addRead, postedRows, foundRows, recorded, recording, recordAll, pendingRows, keyBuckets, readBuckets, neededBuckets, writtenPayload, pushAll, repost, changedBuckets, release}
-use Rattle.model.specs.Shape.{goodSizes, goodChains, goodCounts, goodRanges, goodHeads, goodTxn, distinctNumbers, rightShape}
-use Rattle.model.specs.Machine.{Answer, Stamp, Rows, Judged, Refused, step, stepIn, run, accepted, afterRefusal, carried}
+use Rattle.model.specs.Store.{Store, Txn, Open, noTxn, fresh}
+use Rattle.model.specs.Verdict.{Row}
+use Rattle.model.specs.Refusals.{Step, begin, capture, collect, rows, put, prepare, install, end, publish, validate, Taken, Stale, NoVersions, txnOf}
+use Rattle.model.specs.Table.{update}
+use Rattle.model.specs.Machine.{Stamp, Rows, Judged, Refused, step, run}
+use Rattle.model.proofs.Computes.{computes}
 
 -- a store of 4 rows and 4 buckets, after some steps
 abbrev after : List Step → Store
@@ -62,7 +59,7 @@ record Caught : Type 0 where
   reserved-version : step (run (fresh (record { rows = 4; versions = 1; buckets = 4 }) 1) (begin ∷ put 1 0 1 7 ∷ prepare 1 ∷ begin ∷ put 2 1 2 8 ∷ [])) (prepare 2) .answer ≡ Refused NoVersions
 
 caught : Caught
-unfolding run sameKey bucketOf badRead badRecord judgeRecords judgeReads verdict placeOf liveCount byAnother reservedBy reserved checks refusal member least pick first every some-of all-of join update updateAll seen visible known walk firstVisible keyAt lastWriteFrom pending writtenKey shownKey matches activeNumbers hasRead addRead postedRows foundRows recorded recording recordAll pendingRows keyBuckets readBuckets neededBuckets writtenPayload pushAll repost changedBuckets release goodSizes goodChains goodCounts goodRanges goodHeads goodTxn distinctNumbers rightShape step stepIn accepted afterRefusal carried
+unfolding computes
 caught = record {
   lower-stamp = refl;
   equal-stamp = refl;

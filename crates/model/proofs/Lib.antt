@@ -1,4 +1,6 @@
+pub mod Computes
 pub mod Worked
+pub mod Caught
 pub mod ListLaws
 pub mod Move
 pub mod Chained
@@ -24,4 +26,3 @@ pub mod Stands
 pub mod Validated
 pub mod Promises
 pub mod Reached
-pub mod Caught

@@ -2,15 +2,12 @@
 use mathlib.Core.Path.{_≡_, refl}
 use mathlib.Core.Bool.{true}
 use mathlib.Core.List.{List, [], _∷_}
-use Rattle.model.specs.Store.{Sizes, Store, Collected, fresh, sameKey, bucketOf}
-use Rattle.model.specs.Verdict.{Clear, badRead, badRecord, judgeRecords, judgeReads, verdict}
-use Rattle.model.specs.Refusals.{Step, begin, capture, collect, rows, put, prepare, install, end, publish, validate, txnOf, placeOf, liveCount, byAnother, reservedBy, reserved, checks, refusal}
-use Rattle.model.specs.Lists.{member, least, pick, first, every, some-of, all-of, join}
-use Rattle.model.specs.Table.{update, updateAll}
-use Rattle.model.specs.Seeing.{seen, visible, known, walk, firstVisible, keyAt, lastWriteFrom, pending, writtenKey, shownKey, matches, shows, activeNumbers, snapshotNow}
-use Rattle.model.specs.Steps.{hasRead, addRead, postedRows, foundRows, recorded, recording, recordAll, pendingRows, keyBuckets, readBuckets, neededBuckets, writtenPayload, pushAll, repost, changedBuckets, release}
-use Rattle.model.specs.Shape.{goodSizes, goodChains, goodCounts, goodRanges, goodHeads, goodTxn, distinctNumbers, rightShape}
-use Rattle.model.specs.Machine.{Done, Rows, Judged, step, stepIn, run, accepted, afterRefusal, carried, canOpen}
+use Rattle.model.specs.Store.{Sizes, Store, Collected, fresh}
+use Rattle.model.specs.Verdict.{Clear}
+use Rattle.model.specs.Refusals.{Step, begin, capture, collect, rows, put, prepare, install, end, publish, validate, txnOf}
+use Rattle.model.specs.Seeing.{shows, snapshotNow}
+use Rattle.model.specs.Machine.{Done, Rows, Judged, step, run, canOpen}
+use Rattle.model.proofs.Computes.{computes}
 
 abbrev sizes : Sizes
 sizes = record { rows = 4; versions = 8; buckets = 4 }
@@ -31,5 +28,5 @@ s₂ = run (step s₁ (rows 3 4) .store) between
 
 met : (canOpen sizes 1 ≡ true) × (step s₁ (rows 3 4) .answer ≡ Rows (2 ∷ [])) × (txnOf s₁ 3 .phase ≡ Collected 6) × (txnOf s₁ 3 .writes ≡ []) × (step s₂ (validate 3) .answer ≡ Judged Clear) × (step s₂ (prepare 3) .answer ≡ Done)
     × (shows (s₂ .chains) 4 (snapshotNow s₂) 6 ≡ record { row = 2; ptr = 1; xmin = 1 } ∷ [])
-unfolding canOpen run shows snapshotNow sameKey bucketOf badRead badRecord judgeRecords judgeReads verdict placeOf liveCount byAnother reservedBy reserved checks refusal member least pick first every some-of all-of join update updateAll seen visible known walk firstVisible keyAt lastWriteFrom pending writtenKey shownKey matches activeNumbers hasRead addRead postedRows foundRows recorded recording recordAll pendingRows keyBuckets readBuckets neededBuckets writtenPayload pushAll repost changedBuckets release goodSizes goodChains goodCounts goodRanges goodHeads goodTxn distinctNumbers rightShape step stepIn accepted afterRefusal carried
+unfolding computes
 met = (refl, refl, refl, refl, refl, refl, refl)

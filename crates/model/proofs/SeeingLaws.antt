@@ -1,6 +1,6 @@
 -- Keys, pending writes and what is recorded: each test and list of the model, taken apart into facts. Assumes nothing.
 use mathlib.Core.Path.{_≡_, refl, ap}
-use mathlib.Core.Bool.{Bool, true, false, cond, _&&_, _||_, false≢true}
+use mathlib.Core.Bool.{Bool, true, false, cond, false≢true}
 use mathlib.Core.Logic.{_≢_, _⊎_, inl, inr, ⊎-elim}
 use mathlib.Core.Option.{Option, none, some}
 use mathlib.Core.List.{List, [], _∷_, _++_}
@@ -8,7 +8,6 @@ use Prim.Native.Nat.{ℕ, zero, suc, _≤_, _<_}
 use native.Mathlib.Omega.{arith}
 use lib.Dec.{eqb, ltb, leb}
 use borrow.Author.Tests.{eqb-true, eqb-false, eq-eqb, ne-eqb, ltb-true, leb-true}
-use Rattle.model.specs.Lists.{member}
 use Rattle.model.specs.Table.{cond-elim}
 use Rattle.model.specs.Store.{Sizes, Chains, Snapshot, IndexRead, ReadRecord, Write, Txn, Store, sameKey, bucketOf, keyIn}
 use Rattle.model.specs.Seeing.{visible, known, walk, firstVisible, versionOf, keyAt, pending, shownKey, matches, recordOf}
