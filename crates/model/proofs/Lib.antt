@@ -1,5 +1,6 @@
 pub mod Computes
 pub mod Worked
+pub mod Printed
 pub mod Caught
 pub mod ListLaws
 pub mod Move
