@@ -4,11 +4,12 @@ use Prim.Native.Nat.{ℕ, zero, suc, _<_, _≤_, _/_}
 use mathlib.Core.Path.{_≡_, refl, sym, _∙_}
 use mathlib.Core.Logic.{_≢_}
 use mathlib.Core.List.{List}
-use mathlib.Core.Bool.{Bool, true, false, cond, not, _&&_, false≢true}
+use mathlib.Core.Bool.{Bool, true, false, cond, not, _&&_}
 use native.Mathlib.Omega.{arith}
 use borrow.Author.Tests.{eqb-false, ltb-true, leb-true, lt-ltb, le-leb}
 use lib.Dec.{eqb, leb, ltb}
 use lib.ListN.{length}
+use Rattle.model.proofs.ListLaws.{and-l, and-r}
 use Rattle.tables.specs.Fields.{versionWords, xminOf, xmaxOf, nextOf}
 use Rattle.chain.specs.declared.Snapshot.{Snapshot}
 use Rattle.chain.specs.declared.Pointer.{Pointer}
@@ -19,15 +20,6 @@ use Rattle.chain.specs.Chain.{activeOf, visibleTo, stepFrom, walkFor, wa
 cond-when : (b : Bool) (x y z : ℕ) → (b ≡ true → x ≡ y) → cond b x z ≡ cond b y z
 cond-when true x y z e = e refl
 cond-when false x y z e = refl
-
--- a test that is the first, or the second, of two that hold
-and-l : (a b : Bool) → a && b ≡ true → a ≡ true
-and-l true b e = refl
-and-l false b e = e
-
-and-r : (a b : Bool) → a && b ≡ true → b ≡ true
-and-r true b e = e
-and-r false b e = absurd (false≢true e)
 
 module _ (versions active : List ℕ) (xmax : ℕ) where
   step-agrees : (f g : ℕ → ℕ) (p : ℕ) → ((q : ℕ) → q < p → f q ≡ g q) → stepFrom versions active xmax f p ≡ stepFrom versions active xmax g p

@@ -10,7 +10,7 @@ use native.Mathlib.Omega.{arith}
 use borrow.Author.Tests.{eq-eqb, ne-eqb, eqb-false, lt-ltb, le-ltb, le-leb, lt-leb}
 use lib.Dec.{eqb, leb, ltb}
 use Rattle.tables.specs.Fields.{xminOf, xmaxOf, nextOf}
-use Rattle.scans.specs.Scans.{member}
+use Rattle.model.specs.Lists.{member}
 use Rattle.chain.specs.declared.Snapshot.{Snapshot}
 use Rattle.chain.specs.declared.Pointer.{Pointer}
 use Rattle.chain.specs.Chain.{activeOf, seenBy, visibleTo, known, firstVisible}

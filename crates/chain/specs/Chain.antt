@@ -5,7 +5,7 @@ use mathlib.Core.Bool.{Bool, cond, not, _&&_, _||_}
 use lib.ListN.{length, take}
 use lib.Dec.{eqb, leb, ltb}
 use Rattle.tables.specs.Fields.{versionWords, xminOf, xmaxOf, nextOf}
-use Rattle.scans.specs.Scans.{member}
+use Rattle.model.specs.Lists.{member}
 use Rattle.chain.specs.declared.Snapshot.{Snapshot}
 use Rattle.chain.specs.declared.Pointer.{Pointer}
 use Rattle.chain.specs.declared.Pointer.the-variants.{At, Nothing}

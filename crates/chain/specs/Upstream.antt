@@ -5,7 +5,7 @@ use mathlib.Core.List.{List}
 use mathlib.Core.Bool.{Bool, true, false, cond, not, _&&_, _||_}
 use lib.Dec.{eqb, leb, ltb}
 use Rattle.tables.specs.Fields.{xminOf, xmaxOf, nextOf}
-use Rattle.scans.specs.Scans.{member}
+use Rattle.model.specs.Lists.{member}
 use Rattle.chain.specs.declared.Snapshot.{Snapshot}
 use Rattle.chain.specs.declared.Pointer.{Pointer}
 use Rattle.chain.specs.declared.Pointer.the-variants.{At, Nothing}

@@ -1,23 +1,30 @@
 -- How the scans' definitions go from one place to the next, what they are at the end, and what stands at a place.
 -- Assumes nothing.
 use Prim.Native.Nat.{ℕ, _+_, _<_, _≤_, min}
-use mathlib.Core.Path.{_≡_, refl, _∙_}
+use mathlib.Core.Path.{_≡_, refl, sym, _∙_}
 use mathlib.Core.List.{List, map}
 use mathlib.Core.Bool.{false, cond, _||_}
 use native.Mathlib.Numerals.{add-one}
+use native.Mathlib.Decide.{ℕ-discrete}
 use native.Mathlib.Omega.{arith}
+use borrow.Author.Tests.{eq-eqb, ne-eqb}
 use lib.Dec.{eqb}
 use lib.ListN.{length, drop, take, getD, length-take, drop-of-length-le}
 use lib.Seq.{drop-cons, getD-take}
+use Rattle.model.specs.Lists.{member}
 use Rattle.tables.specs.Lists.{Kind, startOf, entryAt, listAt}
 use Rattle.tables.proofs.Spans.{list-at, list-length, list-map}
 use Rattle.scans.specs.declared.Found.the-variants.{At, Nothing}
-use Rattle.scans.specs.Scans.{member, firstFrom, lastBelow}
+use Rattle.scans.specs.Scans.{firstFrom, lastBelow}
+
+-- a test of two numbers either way round
+pub eqb-sym : (m n : ℕ) → eqb m n ≡ eqb n m
+eqb-sym m n = elim (ℕ-discrete m n) [ yes e ↦ rw (eq-eqb m n e, eq-eqb n m (sym e)) | no d ↦ rw (ne-eqb m n d, ne-eqb n m (λ e. d (sym e))) ]
 
 module _ (l : List ℕ) (i x : ℕ) where
   pub member-next : i < length l → member x (drop i l) ≡ (eqb (getD l i 0) x || member x (drop (i + 1) l))
   unfolding member
-  member-next h = rw (add-one, drop-cons l i 0)
+  member-next h = rw (add-one, drop-cons l i 0, eqb-sym x (getD l i 0))
 
   pub member-end : length l ≤ i → member x (drop i l) ≡ false
   unfolding member

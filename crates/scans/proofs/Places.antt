@@ -10,9 +10,11 @@ use native.Mathlib.Omega.{arith}
 use borrow.Author.Tests.{eqb-true, eqb-false}
 use lib.Dec.{eqb}
 use lib.ListN.{length, getD}
+use Rattle.model.specs.Lists.{member}
 use Rattle.scans.specs.declared.Found.{Found}
 use Rattle.scans.specs.declared.Found.the-variants.{At, Nothing}
-use Rattle.scans.specs.Scans.{member, firstFrom, firstPlace, lastBelow}
+use Rattle.scans.specs.Scans.{firstFrom, firstPlace, lastBelow}
+use Rattle.scans.proofs.Laws.{eqb-sym}
 
 -- x stands at place i, and at none before
 pub record First (l : List ℕ) (x i : ℕ) : Type 0 where
@@ -109,7 +111,7 @@ member-cons k false m r e = e
 member-from : (k : ℕ) (l : List ℕ) (x : ℕ) → member x l ≡ isPlace (firstFrom k l x)
 unfolding member firstFrom
 member-from k [] x = refl
-member-from k (y ∷ ys) x = member-cons k (eqb y x) (member x ys) (firstFrom (suc k) ys x) (member-from (suc k) ys x)
+member-from k (y ∷ ys) x = rw (eqb-sym x y) (member-cons k (eqb y x) (member x ys) (firstFrom (suc k) ys x) (member-from (suc k) ys x))
 
 pub member-place : (l : List ℕ) (x : ℕ) → member x l ≡ isPlace (firstPlace l x)
 member-place l x = member-from 0 l x

@@ -9,10 +9,11 @@ use native.Mathlib.Omega.{arith}
 use lib.ListN.{length, getD, take, length-take, List·getD-map}
 use lib.Seq.{getD-take}
 use Rattle.limits.specs.Limits.{mostIndexReads, mostWrites, mostRecords}
+use Rattle.model.specs.Lists.{member}
 use Rattle.tables.specs.declared.lists.Write.{Write}
 use Rattle.tables.specs.Lists.{Kind, reads, writes, records, readOf, writeOf, recordOf, entryAt, listAt, readAt, writeAt, recordAt, writesOf}
 use Rattle.scans.specs.declared.Found.the-variants.{At, Nothing}
-use Rattle.scans.specs.Scans.{member, firstPlace, lastBelow, lastPlace, rowsWritten, isActive, latestPending, alreadyRecorded, readPrefix}
+use Rattle.scans.specs.Scans.{firstPlace, lastBelow, lastPlace, rowsWritten, isActive, latestPending, alreadyRecorded, readPrefix}
 use Rattle.scans.specs.Upstream.{noWrite, lastWrite}
 use Rattle.scans.proofs.Laws.{fields-length, fields-at}
 use Rattle.scans.proofs.Places.{first-at, first-none, last-at, last-none, absent-last, member-present, present-member}

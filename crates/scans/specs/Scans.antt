@@ -1,21 +1,17 @@
--- Membership and places in lists of numbers, and the four scans as such.
+-- Places in lists of numbers, and the four scans as such.
 use Prim.Native.Nat.{ℕ, zero, suc, min}
 use mathlib.Core.List.{List, [], _∷_, map}
-use mathlib.Core.Bool.{Bool, false, cond, _||_}
+use mathlib.Core.Bool.{Bool, cond}
 use lib.ListN.{length, getD, take}
 use lib.Dec.{eqb}
 use Rattle.limits.specs.Limits.{mostIndexReads, mostWrites, mostRecords}
+use Rattle.model.specs.Lists.{member}
 use Rattle.tables.specs.declared.lists.IndexRead.{IndexRead}
 use Rattle.tables.specs.declared.lists.Write.{Write}
 use Rattle.tables.specs.declared.lists.ReadRecord.{ReadRecord}
 use Rattle.tables.specs.Lists.{readsOf, writesOf, recordsOf}
 use Rattle.scans.specs.declared.Found.{Found}
 use Rattle.scans.specs.declared.Found.the-variants.{At, Nothing}
-
--- x is one of the list's numbers
-unfoldable pub member : ℕ → List ℕ → Bool
-member x [] = false
-member x (y ∷ ys) = eqb y x || member x ys
 
 -- the first place of x, counted from k
 unfoldable pub firstFrom : ℕ → List ℕ → ℕ → Found

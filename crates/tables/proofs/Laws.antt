@@ -10,10 +10,10 @@ use native.Mathlib.Omega.{arith}
 use lib.ListN.{length, length-set, List·getD-eq-default}
 use lib.Seq.{getD-set-same, getD-set-other, set-out}
 use Rattle.tables.specs.Words.{field, setField}
-use Rattle.tables.specs.Table.{update, update-same, update-other}
+use Rattle.model.specs.Table.{update, update-same, update-other}
 
 -- a place past entry j's is past its words
-below : (w i j k : ℕ) → k < w → i < j → w * i + k < w * j
+pub below : (w i j k : ℕ) → k < w → i < j → w * i + k < w * j
 below w i j k h l = omega (arith, mul-le-mul-left {m = suc i} {n = j} w l, mul-suc w i)
 
 -- two places of one table are one only where entry and field are

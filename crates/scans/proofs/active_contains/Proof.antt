@@ -6,7 +6,8 @@ use Prim.Native.Nat.{_-_, _≤_}
 use mathlib.Core.Path.{_≡_, refl, _∙_}
 use native.Mathlib.Omega.{arith}
 use lib.ListN.{length, drop, take}
-use Rattle.scans.specs.Scans.{isActive, member}
+use Rattle.model.specs.Lists.{member}
+use Rattle.scans.specs.Scans.{isActive}
 use Rattle.scans.proofs.Laws.{active-next, active-end}
 use Rattle.scans.proofs.active_contains.Statement.{statement}
 use Rattle.scans.proofs.active_contains.Tie as tie
