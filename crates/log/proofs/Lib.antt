@@ -1,0 +1,5 @@
+pub mod Numbers
+pub mod Known
+pub mod Decoding
+pub mod Reading
+pub mod Exact
