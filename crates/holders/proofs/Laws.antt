@@ -7,8 +7,9 @@ use mathlib.Core.Option.{Option, none, some}
 use mathlib.Core.List.{List, [], _∷_, _++_, map}
 use native.Mathlib.Numerals.{add-one}
 use native.Mathlib.Omega.{arith}
-use lib.Dec.{eqb}
-use lib.ListN.{length, take, drop, getD, length-take, drop-of-length-le}
+use lib.Dec.{eqb, ltb}
+use borrow.Author.Tests.{ltb-true}
+use lib.ListN.{length, take, drop, getD, set, length-take, length-set, drop-of-length-le}
 use lib.Seq.{slice-cons, getD-take, drop-cons}
 use Rattle.model.specs.Lists.{some-of, join}
 use Rattle.model.specs.Store.{sameKey}
@@ -69,3 +70,12 @@ push-none st l e = rw e
 pub join-none : (f : ℕ → List ℕ) (st : Listed) (l : List ℕ) → l ≡ [] → pushAll st (join f l) ≡ st
 unfolding join pushAll
 join-none f st l e = rw e
+
+-- a count within its list stays within it
+pub push-fits : (st st′ : Listed) (v : ℕ) → st′ ≡ pushOne st v → st .n ≤ length (st .out) → st′ .n ≤ length (st′ .out)
+unfolding pushOne
+push-fits st st′ v e h = rw e (by (ltb (st .n) (length (st .out))) refl)
+  where
+    by : (b : Bool) → ltb (st .n) (length (st .out)) ≡ b → pushOne st v .n ≤ length (pushOne st v .out)
+    by true t = rw (t, length-set) (omega (arith, ltb-true (st .n) (length (st .out)) t))
+    by false t = rw t h
