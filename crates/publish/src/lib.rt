@@ -1,0 +1,204 @@
+// End, publish and abort: a transaction's last steps.
+use holders::new_key;
+use holders::push;
+use holders::push_changes;
+use holders::push_reads;
+use holders::push_writes;
+use holders::release_all;
+use holders::stamp_all;
+use holders::unclaim_all;
+use protocol::Answer;
+use protocol::WRONG_PHASE;
+use record::Answered;
+use record::Phase;
+use record::Transaction;
+use record::bucket_in;
+use record::idle;
+use record::phase_rank;
+use record::refused;
+use tables::lists::write_row_at;
+use tables::set_posted;
+use tables::set_posted_key;
+ghost use mathlib.Core.Path.{_≡_};
+ghost use lib.ListN.{length};
+ghost use Rattle.holders.specs.Needs.{pushAll, rowsWritten};
+ghost use Rattle.publish.specs.Publish.{endOf, postedOne, postedAll, stampedIn, freedIn, publishOf, abortOf};
+
+// Words for the buckets of 16 index reads and of the old and the new keys of 16 pending writes, and for the one that Holding carries.
+pub const MOST_NEEDED: usize = 49;
+
+// End (Installed): the number stops being active.
+pub fn end(t: Transaction) -> Answered
+    ensures { λ r. ⌜ r ≡ endOf t ⌝ }
+{
+    let phase = t.phase;
+    if phase_rank(phase) != 5 {
+        return refused(t, WRONG_PHASE);
+    }
+    Answered {
+        answer: Answer::Done,
+        txn: t.with_phase(Phase::Ended),
+    }
+}
+
+// The posting of one row follows its new key.
+fn post(rows: &mut [u64], lists: &[u64], slot: u32, count: u32, row: u64)
+    ensures { λ _. ⌜ now (rows .exit) ≡ postedOne (now (lists .entry)) slot count (now (rows .entry)) row ⌝ }
+{
+    let key = new_key(lists, slot, count, row);
+    set_posted(rows, row as usize, key.keyed);
+    set_posted_key(rows, row as usize, key.key);
+}
+
+// Postings follow the new keys.
+fn post_all(rows: &mut [u64], lists: &[u64], slot: u32, count: u32)
+    ensures { λ _. ⌜ now (rows .exit) ≡ postedAll (now (lists .entry)) slot count (now (rows .entry)) (rowsWritten (now (lists .entry)) slot count) ⌝ }
+{
+    let mut i: u32 = 0;
+    while i < count {
+        post(rows, lists, slot, count, write_row_at(lists, slot, i));
+        i += 1;
+    }
+}
+
+// Only where old and new key differ do both their buckets get the stamp.
+fn stamp_changes(
+    rows: &[u64],
+    versions: &[u64],
+    buckets: &mut [u64],
+    lists: &[u64],
+    bucket_count: u64,
+    slot: u32,
+    count: u32,
+    stamp: u64,
+)
+    ensures { λ _. ⌜ now (buckets .exit) ≡ stampedIn (now (rows .entry)) (now (versions .entry)) (now (lists .entry)) «bucket_count» slot count stamp (now (buckets .entry)) ⌝ }
+{
+    let mut list = [0u64; MOST_NEEDED];
+    let n = push_changes(
+        rows,
+        versions,
+        lists,
+        bucket_count,
+        slot,
+        count,
+        &mut list,
+        0,
+    );
+    stamp_all(buckets, &list, n, stamp);
+}
+
+// Frees what the transaction needs of the buckets: the one that Holding carries, the index reads', the old and the new keys'.
+fn free_needed(
+    rows: &[u64],
+    versions: &[u64],
+    buckets: &mut [u64],
+    lists: &[u64],
+    bucket_count: u64,
+    installed: bool,
+    bucket: u64,
+    slot: u32,
+    reads_n: u32,
+    writes_n: u32,
+    number: u64,
+)
+    ensures { λ _. ⌜ now (buckets .exit) ≡ freedIn (now (rows .entry)) (now (versions .entry)) (now (lists .entry)) «bucket_count» installed bucket slot «reads_n» «writes_n» number (now (buckets .entry)) ⌝ }
+{
+    let mut list = [0u64; MOST_NEEDED];
+    let held = push(&mut list, 0, bucket);
+    let read = push_reads(lists, slot, reads_n, &mut list, held);
+    let n = push_writes(
+        rows,
+        versions,
+        lists,
+        bucket_count,
+        installed,
+        slot,
+        writes_n,
+        &mut list,
+        read,
+    );
+    release_all(buckets, &list, n, number);
+}
+
+// Publish (Ended): the stamp is the clock; buckets and claims are freed, the record ends.
+pub fn publish(
+    rows: &mut [u64],
+    versions: &[u64],
+    buckets: &mut [u64],
+    lists: &[u64],
+    bucket_count: u64,
+    clock: u64,
+    t: Transaction,
+) -> Answered
+    ensures { λ r. ⌜ record { reply = r; rows = now (rows .exit); buckets = now (buckets .exit) } ≡ publishOf (now (versions .entry)) (now (lists .entry)) «bucket_count» clock t (now (rows .entry)) (now (buckets .entry)) ⌝ }
+{
+    let phase = t.phase;
+    if phase_rank(phase) != 6 {
+        return refused(t, WRONG_PHASE);
+    }
+    stamp_changes(
+        rows,
+        versions,
+        buckets,
+        lists,
+        bucket_count,
+        t.slot,
+        t.writes_n,
+        clock,
+    );
+    free_needed(
+        rows,
+        versions,
+        buckets,
+        lists,
+        bucket_count,
+        true,
+        bucket_in(phase),
+        t.slot,
+        t.reads_n,
+        t.writes_n,
+        t.number,
+    );
+    post_all(rows, lists, t.slot, t.writes_n);
+    unclaim_all(rows, lists, t.slot, t.writes_n, t.number);
+    Answered {
+        answer: Answer::Stamp(clock),
+        txn: idle(t.slot),
+    }
+}
+
+// Abort (Open, Holding, Collected, Prepared): buckets and claims are freed, the record ends.
+pub fn abort(
+    rows: &mut [u64],
+    versions: &[u64],
+    buckets: &mut [u64],
+    lists: &[u64],
+    bucket_count: u64,
+    t: Transaction,
+) -> Answered
+    ensures { λ r. ⌜ record { reply = r; rows = now (rows .exit); buckets = now (buckets .exit) } ≡ abortOf (now (versions .entry)) (now (lists .entry)) «bucket_count» t (now (rows .entry)) (now (buckets .entry)) ⌝ }
+{
+    let phase = t.phase;
+    if phase_rank(phase) >= 5 {
+        return refused(t, WRONG_PHASE);
+    }
+    free_needed(
+        rows,
+        versions,
+        buckets,
+        lists,
+        bucket_count,
+        false,
+        bucket_in(phase),
+        t.slot,
+        t.reads_n,
+        t.writes_n,
+        t.number,
+    );
+    unclaim_all(rows, lists, t.slot, t.writes_n, t.number);
+    Answered {
+        answer: Answer::Done,
+        txn: idle(t.slot),
+    }
+}
