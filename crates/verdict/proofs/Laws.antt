@@ -1,0 +1,81 @@
+-- The scans of the verdict at one place, and at the end.
+-- Assumes nothing.
+use Prim.Native.Nat.{ℕ, _+_, _*_, _<_, _≤_, min}
+use mathlib.Core.Path.{_≡_, refl, sym, _∙_}
+use mathlib.Core.Bool.{Bool, true, false, cond, not, _&&_, _||_, and-false, or-assoc, or-false}
+use mathlib.Core.List.{List, map}
+use native.Mathlib.Numerals.{add-one}
+use native.Mathlib.Decide.{decLt}
+use native.Mathlib.Omega.{arith}
+use lib.Dec.{eqb, leb}
+use lib.ListN.{length, getD, take, drop, drop-of-length-le}
+use lib.Seq.{take-all}
+use Rattle.limits.specs.Limits.{mostActive}
+use Rattle.model.specs.Lists.{member}
+use Rattle.model.specs.Table.{cond-elim}
+use Rattle.model.specs.Verdict.{badRecord}
+use Rattle.tables.specs.Fields.{xminOf, xmaxOf}
+use Rattle.tables.specs.declared.lists.ReadRecord.{ReadRecord}
+use Rattle.record.specs.View.{recordView, recordsIn}
+use Rattle.record.specs.declared.Transaction.{Transaction}
+use Rattle.tables.specs.Regions.{words}
+use Rattle.tables.specs.Lists.{Kind, records, recordOf, startOf, entryAt, listAt, recordAt}
+use Rattle.tables.proofs.Spans.{list-map, list-drop, list-length, list-at}
+use Rattle.scans.specs.declared.Found.the-variants.{At, Nothing}
+use Rattle.verdict.specs.Judged.{versionsView, firstWhere, badIn, endedBy, outright, lookedFor}
+
+-- the entries of a slot's list, each seen through `view`: how many there are, and which stands at a place
+module _ {A B : Type 0} (view : A → B) (f : List ℕ → A) (k : Kind) (xs : List ℕ) (s n : ℕ) where
+  pub entries-length : length (map view (listAt f k xs s n)) ≡ n
+  entries-length = rw (list-map view f (k .w) (startOf k s) xs n) (list-length (λ ws. view (f ws)) (k .w) (startOf k s) xs n)
+
+  pub entries-at : (i : ℕ) (d : B) → i < n → getD (map view (listAt f k xs s n)) i d ≡ view (entryAt f k xs s i)
+  entries-at i d h = rw (list-map view f (k .w) (startOf k s) xs n) (list-at (λ ws. view (f ws)) (k .w) (startOf k s) xs n i d h)
+
+-- a test on the entries of a slot's list, each seen through `view`, where x is read at entry i
+module _ {A B : Type 0} (test : B → Bool) (view : A → B) (f : List ℕ → A) (k : Kind) (xs : List ℕ) (s n i : ℕ) where
+  pub where-next : (x : A) → x ≡ entryAt f k xs s i → i < n
+      → firstWhere test i (drop i (map view (listAt f k xs s n))) ≡ cond (test (view x)) (At i) (firstWhere test (i + 1) (drop (i + 1) (map view (listAt f k xs s n))))
+  unfolding firstWhere
+  where-next x e h = rw (e, list-map view f (k .w) (startOf k s) xs n, list-drop (λ ws. view (f ws)) (k .w) (startOf k s) xs n i (view x) h, add-one)
+
+  pub where-end : n ≤ i → firstWhere test i (drop i (map view (listAt f k xs s n))) ≡ Nothing
+  unfolding firstWhere
+  where-end h =
+      let l : length (map view (listAt f k xs s n)) ≤ i = omega (arith, entries-length view f k xs s n) in
+      rw (drop-of-length-le (map view (listAt f k xs s n)) l)
+
+-- the numbers of the snapshot that are looked at, where the version was ended by another
+looked-same : (active : List ℕ) (n x : ℕ) → length active ≡ mostActive → member x (take (min n mostActive) active) ≡ member x (take n active)
+looked-same active n x e = elim (decLt n mostActive) [
+  | yes h ↦ let m : min n mostActive ≡ n = omega arith in rw m
+  | no h ↦ let m : min n mostActive ≡ mostActive = omega arith in rw (m, take-all mostActive active (omega arith), take-all n active (omega arith))
+]
+
+pub looked-few : (e n : ℕ) → lookedFor e n ≤ mostActive
+looked-few e n = cond-elim (λ m. m ≤ mostActive) (eqb e 0) 0 (min n mostActive) (λ t. omega arith) (λ t. omega arith)
+
+-- a read record is bad where it has changed outright, or where who ended it is active
+module _ (versions active : List ℕ) (n xmin xmax count : ℕ) (r : ReadRecord) (long : length active ≡ mostActive) where
+  bad-by : (x : ℕ) (own none : Bool) → eqb x n ≡ own → eqb x 0 ≡ none → (d : Bool)
+      → (d || (not (eqb x 0) && not (eqb x n) && (leb xmax x || member x (take count active))))
+      ≡ ((d || (not (eqb (cond own 0 x) 0) && leb xmax (cond own 0 x))) || member (cond own 0 x) (take (cond (eqb (cond own 0 x) 0) 0 (min count mostActive)) active))
+  unfolding member
+  bad-by x true none eo ez d = rw (eo, and-false) (sym (or-false (d || false)))
+  bad-by x false true eo ez d = rw (ez) (sym (or-false (d || false)))
+  bad-by x false false eo ez d = rw (eo, ez, looked-same active count x long) (sym (or-assoc d (leb xmax x) (member x (take count active))))
+
+  pub bad-split : badRecord (versionsView versions) n (record { xmin = xmin; xmax = xmax; active = take count active }) (recordView r)
+      ≡ (outright versions r (endedBy versions (r .ptr) n) xmax || member (endedBy versions (r .ptr) n) (take (lookedFor (endedBy versions (r .ptr) n) count) active))
+  unfolding badRecord
+  bad-split = bad-by (xmaxOf versions (r .ptr)) _ _ refl refl (not (eqb (xminOf versions (r .ptr)) (r .xmin)))
+
+-- the scan of the read records at place i, where x is read there and e ended its version
+module _ (versions lists : List ℕ) (t : Transaction) (long : length (t .snapshot .active) ≡ mostActive) (i : ℕ) (x : ReadRecord) (e : ℕ) where
+  pub records-next : x ≡ recordAt lists (t .slot) i → e ≡ endedBy versions (x .ptr) (t .number) → i < t .«records_n»
+      → firstWhere (badIn versions t) i (drop i (recordsIn lists t))
+      ≡ cond (outright versions x e (t .snapshot .xmax) || member e (take (lookedFor e (t .snapshot .«active_n»)) (t .snapshot .active))) (At i)
+      (firstWhere (badIn versions t) (i + 1) (drop (i + 1) (recordsIn lists t)))
+  records-next ex ee h =
+      where-next (badIn versions t) recordView recordOf records lists (t .slot) (t .«records_n») i x ex h
+      ∙ rw (bad-split versions (t .snapshot .active) (t .number) (t .snapshot .xmin) (t .snapshot .xmax) (t .snapshot .«active_n») x long, ee)
