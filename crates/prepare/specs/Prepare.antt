@@ -1,0 +1,99 @@
+-- What validate and prepare answer and leave.
+use Prim.Native.Nat.{ℕ, _+_, min}
+use mathlib.Core.Bool.{Bool, true, false, cond, not}
+use mathlib.Core.List.{List, [], _∷_, _++_}
+use lib.Dec.{eqb, ltb}
+use lib.ListN.{take, getD, replicate}
+use Rattle.limits.specs.Limits.{mostWrites}
+use Rattle.model.specs.Store.{rank}
+use Rattle.protocol.specs.declared.Answer.the-variants as tell
+use Rattle.protocol.specs.declared.Verdict.{Verdict}
+use Rattle.protocol.specs.declared.Verdict.the-variants as verdict
+use Rattle.record.specs.View.{phaseView}
+use Rattle.record.specs.Methods.{withPhase, refusedOf}
+use Rattle.record.specs.declared.Phase.the-variants as phase
+use Rattle.record.specs.declared.Transaction.{Transaction}
+use Rattle.record.specs.declared.Answered.{Answered}
+use Rattle.holders.specs.Needs.{Listed, pushAll, readsNeed, rowsWritten, writesNeed}
+use Rattle.holders.specs.Holders.{anyTaken, anyClaimed, holdAll, claimAll}
+use Rattle.install.specs.Install.{pendingInto}
+use Rattle.verdict.specs.Judged.{verdictOf}
+
+-- words for the buckets that prepare needs
+abbrev pub mostNeeded : ℕ
+mostNeeded = 48
+
+-- buckets listed in such words
+abbrev pub listedIn : List ℕ → Listed
+listedIn bs = pushAll (record { out = replicate mostNeeded 0; n = 0 }) bs
+
+abbrev pub front : Listed → List ℕ
+front l = take (l .n) (l .out)
+
+-- a bucket of an index read is held by another
+unfoldable pub readsTakenIn : List ℕ → List ℕ → ℕ → ℕ → ℕ → Bool
+readsTakenIn buckets lists slot reads number = anyTaken buckets number (front (listedIn (readsNeed lists slot reads)))
+
+-- validate: wrong phase, a needed bucket held by another; else the verdict
+unfoldable pub validateOf : List ℕ → List ℕ → List ℕ → Transaction → Answered
+validateOf versions buckets lists t =
+    cond (not (eqb (rank (phaseView (t .phase))) 1)) (refusedOf t 5)
+    (cond (readsTakenIn buckets lists (t .slot) (t .«reads_n») (t .number)) (refusedOf t 7)
+    (record { answer = tell.Judged (verdictOf versions buckets lists t); txn = t }))
+
+-- no conflict
+abbrev pub isClear : Verdict → Bool
+isClear verdict.Clear = true
+isClear (verdict.Bucket b captured present) = false
+isClear (verdict.Row r p) = false
+isClear verdict.Mark = false
+
+-- how many distinct rows the pending writes of a slot have; at most sixteen
+unfoldable pub distinctIn : List ℕ → ℕ → ℕ → ℕ
+distinctIn lists slot n = min (pendingInto lists slot n (replicate mostWrites 0) .n) mostWrites
+
+-- of each slot, of its first pending writes, as many as are said
+unfoldable pub reservedIn : List ℕ → List ℕ → ℕ
+reservedIn lists prepared =
+    distinctIn lists 0 (getD prepared 0 0)
+    + distinctIn lists 1 (getD prepared 1 0)
+    + distinctIn lists 2 (getD prepared 2 0)
+    + distinctIn lists 3 (getD prepared 3 0)
+    + distinctIn lists 4 (getD prepared 4 0)
+    + distinctIn lists 5 (getD prepared 5 0)
+    + distinctIn lists 6 (getD prepared 6 0)
+    + distinctIn lists 7 (getD prepared 7 0)
+
+-- three numbers together are above a limit
+abbrev pub exceeds : ℕ → ℕ → ℕ → ℕ → Bool
+exceeds used reserved own limit = ltb limit (used + reserved + own)
+
+unfoldable pub lacks : List ℕ → List ℕ → ℕ → ℕ → ℕ → ℕ → Bool
+lacks lists prepared slot n used limit = exceeds used (reservedIn lists prepared) (distinctIn lists slot n) limit
+
+-- the buckets that prepare needs, listed
+unfoldable pub neededInto : List ℕ → List ℕ → List ℕ → ℕ → ℕ → ℕ → ℕ → List ℕ → Listed
+neededInto rows versions lists count slot reads writes out = pushAll (record { out = out; n = 0 }) (readsNeed lists slot reads ++ writesNeed rows versions lists count false slot writes)
+
+-- an answer, rows and buckets
+pub record Left : Type 0 where
+  pub reply : Answered
+  pub rows : List ℕ
+  pub buckets : List ℕ
+
+abbrev pub left : Answered → List ℕ → List ℕ → Left
+left a rows buckets = record { reply = a; rows = rows; buckets = buckets }
+
+-- prepare, with the needed buckets listed: wrong phase; a bucket held or a row claimed by another; a conflict; too few versions; else all is taken
+unfoldable pub prepareWith : List ℕ → List ℕ → ℕ → ℕ → List ℕ → Transaction → List ℕ → List ℕ → Listed → Left
+prepareWith versions lists limit used prepared t rows buckets needed =
+    cond (anyTaken buckets (t .number) (front needed)) (left (refusedOf t 7) rows buckets)
+    (cond (anyClaimed rows (t .number) (rowsWritten lists (t .slot) (t .«writes_n»))) (left (refusedOf t 7) rows buckets)
+    (cond (not (isClear (verdictOf versions buckets lists t))) (left (refusedOf t 14) rows buckets)
+    (cond (lacks lists prepared (t .slot) (t .«writes_n») used limit) (left (refusedOf t 13) rows buckets)
+    (left (record { answer = tell.Done; txn = withPhase t phase.Prepared }) (claimAll rows (t .number) (rowsWritten lists (t .slot) (t .«writes_n»))) (holdAll buckets (t .number) (front needed))))))
+
+unfoldable pub prepareOf : List ℕ → List ℕ → ℕ → ℕ → ℕ → List ℕ → Transaction → List ℕ → List ℕ → Left
+prepareOf versions lists count limit used prepared t rows buckets =
+    cond (not (eqb (rank (phaseView (t .phase))) 1)) (left (refusedOf t 5) rows buckets)
+    (prepareWith versions lists limit used prepared t rows buckets (neededInto rows versions lists count (t .slot) (t .«reads_n») (t .«writes_n») (replicate mostNeeded 0)))

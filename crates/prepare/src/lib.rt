@@ -1,0 +1,200 @@
+// Validate and prepare: the verdict once nobody else has what the transaction needs; then it takes it all.
+use holders::any_claimed;
+use holders::any_taken;
+use holders::claim_all;
+use holders::hold_all;
+use holders::push_reads;
+use holders::push_writes;
+use install::pending_rows;
+use protocol::Answer;
+use protocol::CONFLICT;
+use protocol::NO_VERSIONS;
+use protocol::TAKEN;
+use protocol::Verdict;
+use protocol::WRONG_PHASE;
+use record::Answered;
+use record::Phase;
+use record::Transaction;
+use record::phase_rank;
+use record::refused;
+use verdict::verdict;
+ghost use mathlib.Core.Path.{_≡_};
+ghost use Prim.Native.Nat.{_≤_};
+ghost use Rattle.limits.specs.Limits.{mostWrites};
+ghost use Rattle.prepare.specs.Prepare.{readsTakenIn, validateOf, isClear, distinctIn, reservedIn, exceeds, lacks, neededInto, prepareOf};
+
+// Words for the buckets of 16 index reads and of the old and the new keys of 16 pending writes.
+pub const MOST_NEEDED: usize = 48;
+
+// Whether a bucket of an index read is held by another.
+fn reads_taken(buckets: &[u64], lists: &[u64], slot: u32, reads_n: u32, number: u64) -> bool
+    ensures { λ r. ⌜ r ≡ readsTakenIn (now (buckets .entry)) (now (lists .entry)) slot «reads_n» number ⌝ }
+{
+    let mut list = [0u64; MOST_NEEDED];
+    let n = push_reads(lists, slot, reads_n, &mut list, 0);
+    any_taken(buckets, &list, n, number)
+}
+
+// Validate (Open): the verdict; changes nothing.
+pub fn validate(versions: &[u64], buckets: &[u64], lists: &[u64], t: Transaction) -> Answered
+    ensures { λ r. ⌜ r ≡ validateOf (now (versions .entry)) (now (buckets .entry)) (now (lists .entry)) t ⌝ }
+{
+    let phase = t.phase;
+    if phase_rank(phase) != 1 {
+        return refused(t, WRONG_PHASE);
+    }
+    if reads_taken(buckets, lists, t.slot, t.reads_n, t.number) {
+        return refused(t, TAKEN);
+    }
+    Answered {
+        answer: Answer::Judged(verdict(versions, buckets, lists, t)),
+        txn: t,
+    }
+}
+
+// Whether a verdict is that there is no conflict.
+fn is_clear(v: Verdict) -> bool
+    ensures { λ r. ⌜ r ≡ isClear v ⌝ }
+{
+    match v {
+        Verdict::Clear => true,
+        Verdict::Bucket {
+            bucket: _,
+            captured: _,
+            present: _,
+        } => false,
+        Verdict::Row { row: _, ptr: _ } => false,
+        Verdict::Mark => false,
+    }
+}
+
+// How many distinct rows the pending writes of a slot have.
+fn distinct_rows(lists: &[u64], slot: u32, count: u32) -> u64
+    ensures { λ r. ⌜ (r ≡ distinctIn (now (lists .entry)) slot count) × (r ≤ mostWrites) ⌝ }
+{
+    let mut list = [0u64; 16];
+    let n = pending_rows(lists, slot, count, &mut list);
+    if n < 16 {
+        return n as u64;
+    }
+    16
+}
+
+// The versions that Prepared transactions have reserved: of each slot the distinct rows of its first pending writes, as many as `prepared` says.
+fn reserved(lists: &[u64], prepared: [u32; 8]) -> u64
+    ensures { λ r. ⌜ r ≡ reservedIn (now (lists .entry)) prepared ⌝ }
+{
+    distinct_rows(lists, 0, prepared[0])
+        + distinct_rows(lists, 1, prepared[1])
+        + distinct_rows(lists, 2, prepared[2])
+        + distinct_rows(lists, 3, prepared[3])
+        + distinct_rows(lists, 4, prepared[4])
+        + distinct_rows(lists, 5, prepared[5])
+        + distinct_rows(lists, 6, prepared[6])
+        + distinct_rows(lists, 7, prepared[7])
+}
+
+// Whether three numbers together are above a limit.
+fn exceed(used: u64, reserved: u64, own: u64, limit: u64) -> bool
+    ensures { λ r. ⌜ r ≡ exceeds used reserved own limit ⌝ }
+{
+    if limit < used {
+        return true;
+    }
+    if limit - used < reserved {
+        return true;
+    }
+    limit - used - reserved < own
+}
+
+// Whether there are too few versions: used, reserved by others, and the own distinct pending rows are above the limit.
+fn no_versions(
+    lists: &[u64],
+    prepared: [u32; 8],
+    slot: u32,
+    count: u32,
+    used: u64,
+    version_count: u64,
+) -> bool
+    ensures { λ r. ⌜ r ≡ lacks (now (lists .entry)) prepared slot count used «version_count» ⌝ }
+{
+    let others = reserved(lists, prepared);
+    let own = distinct_rows(lists, slot, count);
+    exceed(used, others, own, version_count)
+}
+
+// The buckets that prepare needs: of the index reads, and of the old and the new key of every pending row.
+fn push_needed(
+    rows: &[u64],
+    versions: &[u64],
+    lists: &[u64],
+    bucket_count: u64,
+    slot: u32,
+    reads_n: u32,
+    writes_n: u32,
+    out: &mut [u64],
+) -> usize
+    ensures { λ r. ⌜ record { out = now (out .exit); n = r } ≡ neededInto (now (rows .entry)) (now (versions .entry)) (now (lists .entry)) «bucket_count» slot «reads_n» «writes_n» (now (out .entry)) ⌝ }
+{
+    let read = push_reads(lists, slot, reads_n, out, 0);
+    push_writes(
+        rows,
+        versions,
+        lists,
+        bucket_count,
+        false,
+        slot,
+        writes_n,
+        out,
+        read,
+    )
+}
+
+// Prepare (Open): takes every bucket it needs and claims every pending row.
+pub fn prepare(
+    rows: &mut [u64],
+    versions: &[u64],
+    buckets: &mut [u64],
+    lists: &[u64],
+    bucket_count: u64,
+    version_count: u64,
+    used: u64,
+    prepared: [u32; 8],
+    t: Transaction,
+) -> Answered
+    ensures { λ r. ⌜ record { reply = r; rows = now (rows .exit); buckets = now (buckets .exit) } ≡ prepareOf (now (versions .entry)) (now (lists .entry)) «bucket_count» «version_count» used prepared t (now (rows .entry)) (now (buckets .entry)) ⌝ }
+{
+    let phase = t.phase;
+    if phase_rank(phase) != 1 {
+        return refused(t, WRONG_PHASE);
+    }
+    let mut list = [0u64; MOST_NEEDED];
+    let n = push_needed(
+        rows,
+        versions,
+        lists,
+        bucket_count,
+        t.slot,
+        t.reads_n,
+        t.writes_n,
+        &mut list,
+    );
+    if any_taken(buckets, &list, n, t.number) {
+        return refused(t, TAKEN);
+    }
+    if any_claimed(rows, lists, t.slot, t.writes_n, t.number) {
+        return refused(t, TAKEN);
+    }
+    if !is_clear(verdict(versions, buckets, lists, t)) {
+        return refused(t, CONFLICT);
+    }
+    if no_versions(lists, prepared, t.slot, t.writes_n, used, version_count) {
+        return refused(t, NO_VERSIONS);
+    }
+    hold_all(buckets, &list, n, t.number);
+    claim_all(rows, lists, t.slot, t.writes_n, t.number);
+    Answered {
+        answer: Answer::Done,
+        txn: t.with_phase(Phase::Prepared),
+    }
+}
