@@ -1,15 +1,15 @@
 -- The model's verdict by the places that the two scans answer.
 -- Assumes nothing.
-use Prim.Native.Nat.{ℕ, zero, suc, _+_, _<_}
-use mathlib.Core.Path.{_≡_, refl, sym, _∙_}
+use Prim.Native.Nat.{ℕ, suc, _+_, _<_}
+use mathlib.Core.Path.{_≡_, refl, _∙_}
 use mathlib.Core.Bool.{Bool, true, false, cond}
 use mathlib.Core.List.{List, [], _∷_, map}
 use native.Mathlib.Omega.{arith}
 use lib.ListN.{length, getD}
 use Rattle.model.specs.Store as model
-use Rattle.model.specs.Verdict.{Clear, badRead, badRecord, judgeReads, judgeRecords, verdict}
+use Rattle.model.specs.Verdict.{Clear, badRead, judgeReads, judgeRecords, verdict}
 use Rattle.model.specs.Verdict as judged
-use Rattle.tables.specs.Lists.{Kind, reads, records, readOf, recordOf, startOf, entryAt, listAt}
+use Rattle.tables.specs.Lists.{Kind, reads, records, readOf, recordOf, entryAt, listAt}
 use Rattle.scans.specs.declared.Found.{Found}
 use Rattle.scans.specs.declared.Found.the-variants.{At, Nothing}
 use Rattle.scans.proofs.Places.{not-both}

@@ -1,6 +1,6 @@
 -- The scans of the verdict at one place, and at the end.
 -- Assumes nothing.
-use Prim.Native.Nat.{ℕ, _+_, _*_, _<_, _≤_, min}
+use Prim.Native.Nat.{ℕ, _+_, _<_, _≤_, min}
 use mathlib.Core.Path.{_≡_, refl, sym, _∙_}
 use mathlib.Core.Bool.{Bool, true, false, cond, not, _&&_, _||_, and-false, or-assoc, or-false}
 use mathlib.Core.List.{List, map}
@@ -18,7 +18,6 @@ use Rattle.tables.specs.Fields.{xminOf, xmaxOf}
 use Rattle.tables.specs.declared.lists.ReadRecord.{ReadRecord}
 use Rattle.record.specs.View.{recordView, recordsIn}
 use Rattle.record.specs.declared.Transaction.{Transaction}
-use Rattle.tables.specs.Regions.{words}
 use Rattle.tables.specs.Lists.{Kind, records, recordOf, startOf, entryAt, listAt, recordAt}
 use Rattle.tables.proofs.Spans.{list-map, list-drop, list-length, list-at}
 use Rattle.scans.specs.declared.Found.the-variants.{At, Nothing}
