@@ -25,5 +25,9 @@ pub mod Remains
 pub mod Cleared
 pub mod Stands
 pub mod Validated
+pub mod FirstTest
+pub mod Conditions
+pub mod Refused
+pub mod Outcomes
 pub mod Promises
 pub mod Reached

@@ -86,7 +86,7 @@ tests-below s (publish t) = refl
 tests-below s (validate t) = refl
 tests-below s (abort t) = refl
 
-accepted-answers : (s : Store) (a : Step) → refuses (accepted s a .answer) ≡ false
+pub accepted-answers : (s : Store) (a : Step) → refuses (accepted s a .answer) ≡ false
 unfolding accepted
 accepted-answers s begin = refl
 accepted-answers s (capture t k) = refl

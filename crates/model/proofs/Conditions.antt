@@ -1,0 +1,348 @@
+-- The conditions of document 01's table of numbers, as facts, and how a step's number is read off its tests. Assumes nothing.
+use mathlib.Core.Path.{_≡_, refl, sym, _∙_}
+use mathlib.Core.Bool.{Bool, true, false, cond, not, _&&_, _||_, true≢false}
+use mathlib.Core.Logic.{_↔_, _≢_, _⊎_, inl, inr, ⊎-elim}
+use mathlib.Core.Option.{Option, none, some}
+use mathlib.Core.List.{List, [], _∷_}
+use Prim.Native.Nat.{ℕ, zero, suc, _+_, _≤_, _<_}
+use native.Mathlib.Omega.{arith}
+use native.Mathlib.Decide.{ℕ-discrete}
+use lib.Dec.{eqb, ltb, leb}
+use lib.ListN.{length}
+use borrow.Author.Tests.{eq-eqb, ltb-true, ltb-false, lt-ltb, not-true, not-false}
+use Rattle.limits.specs.Limits.{mostRows, mostVersions, mostBuckets, mostLive, mostIndexReads}
+use Rattle.model.specs.Lists.{first, every, all-of}
+use Rattle.model.specs.Table.{cond-elim}
+use Rattle.model.specs.Store.{Sizes, Store, rank, bucketOf}
+use Rattle.model.specs.Verdict.{verdict, verdictNumber}
+use Rattle.model.specs.Steps.{hasRead, pendingRows}
+use Rattle.model.specs.Refusals.{Refusal, WrongSize, NoNumbers, Full, NoSuch, WrongPhase, NoRow, Taken, Stale, Marked, ManyReads, NoRoom, ManyRecords, ManyWrites, NoVersions, Conflict, Malformed, WrongShape, refusalNumber, Step, begin, capture, collect, rows, put, erase, prepare, install, end, publish, validate, abort, placeOf, txnOf, byAnother, reserved, found, bucketsTaken, rowsClaimed, checks, refusal}
+use Rattle.model.specs.Shape.{within, goodSizes, distinctNumbers, rightShape}
+use Rattle.model.specs.Machine.{Answer, Done, Number, Stamp, Count, Rows, Judged, Refused, answerNumber, actor, gives, accepted, carried, step, stepIn, canOpen}
+use Rattle.model.proofs.ListLaws.{and-l, and-r, or-cases, is-false, or-r, Among}
+use Rattle.model.proofs.Move.{place-number, live-test}
+use Rattle.model.proofs.Unrefused.{refuses, accepted-answers}
+use Rattle.model.proofs.FirstTest.{_and_, Test, itself, opposite, either, both, less, at-most, equal, any, code, without, stop, skip}
+
+-- the number that a step gives
+abbrev pub number : Store → Step → ℕ
+number s a = answerNumber (step s a .answer)
+
+-- the shape is right
+abbrev pub Shaped : Store → Type 0
+Shaped s = rightShape s ≡ true
+
+-- a live transaction has this number
+abbrev pub Lives : Store → ℕ → Type 0
+Lives s t = (i : ℕ) × (i < mostLive) × (s .txns i .number ≡ t) × (1 ≤ t)
+
+-- a step names a transaction: all but begin do
+abbrev pub Names : Step → Type 0
+Names begin = ⊥
+Names (capture t k) = Unit {0}
+Names (collect t) = Unit {0}
+Names (rows t room) = Unit {0}
+Names (put t r k payload) = Unit {0}
+Names (erase t r) = Unit {0}
+Names (prepare t) = Unit {0}
+Names (install t) = Unit {0}
+Names (end t) = Unit {0}
+Names (publish t) = Unit {0}
+Names (validate t) = Unit {0}
+Names (abort t) = Unit {0}
+
+-- the phases in which a step is right, by rank: 1 Open, 2 Holding, 3 Collected, 4 Prepared, 5 Installed, 6 Ended
+abbrev pub Right : Step → ℕ → Type 0
+Right begin n = Unit {0}
+Right (capture t k) n = n ≡ 1
+Right (collect t) n = n ≡ 2
+Right (rows t room) n = n ≡ 3
+Right (put t r k payload) n = n ≡ 1
+Right (erase t r) n = n ≡ 1
+Right (prepare t) n = n ≡ 1
+Right (install t) n = n ≡ 4
+Right (end t) n = n ≡ 5
+Right (publish t) n = n ≡ 6
+Right (validate t) n = n ≡ 1
+Right (abort t) n = n < 5
+
+abbrev pub RightPhase : Store → Step → Type 0
+RightPhase s a = Right a (rank (txnOf s (actor a) .phase))
+
+-- neither 16 nor 4 nor 5
+abbrev pub Ready : Store → Step → Type 0
+Ready s a = Shaped s × Lives s (actor a) × RightPhase s a
+
+-- held, or claimed, by another; free, or the own number's
+abbrev pub ByAnother : (ℕ → ℕ) → ℕ → ℕ → Type 0
+ByAnother f t j = (f j ≢ 0) × (f j ≢ t)
+
+abbrev pub Free : (ℕ → ℕ) → ℕ → ℕ → Type 0
+Free f t j = (f j ≡ 0) ⊎ (f j ≡ t)
+
+-- a bucket of the list is held by another; none is
+abbrev pub BucketTaken : Store → ℕ → List ℕ → Type 0
+BucketTaken s t bs = (b : ℕ) × Among b bs × ByAnother (s .held .holder) t b
+
+abbrev pub BucketsFree : Store → ℕ → List ℕ → Type 0
+BucketsFree s t bs = (b : ℕ) → Among b bs → Free (s .held .holder) t b
+
+-- a pending row is claimed by another; none is
+abbrev pub RowTaken : Store → ℕ → Type 0
+RowTaken s t = (r : ℕ) × Among r (pendingRows (s .sizes) (txnOf s t .writes)) × ByAnother (s .held .claim) t r
+
+abbrev pub RowsFree : Store → ℕ → Type 0
+RowsFree s t = (r : ℕ) → Among r (pendingRows (s .sizes) (txnOf s t .writes)) → Free (s .held .claim) t r
+
+-- capture: the bucket, and its stamp
+abbrev pub bucketFor : Store → ℕ → ℕ
+bucketFor s k = bucketOf (s .sizes) k
+
+abbrev pub stampFor : Store → ℕ → ℕ
+stampFor s k = s .index .stamp (bucketFor s k)
+
+-- capture would add a 17th index read; or it adds none, or there is room
+abbrev pub Seventeenth : Store → ℕ → ℕ → Type 0
+Seventeenth s t k = (hasRead (txnOf s t .reads) (bucketFor s k) ≡ false) × (mostIndexReads ≤ length (txnOf s t .reads))
+
+abbrev pub RoomForRead : Store → ℕ → ℕ → Type 0
+RoomForRead s t k = (hasRead (txnOf s t .reads) (bucketFor s k) ≡ true) ⊎ (length (txnOf s t .reads) < mostIndexReads)
+
+-- the verdict's number; versions used, reserved by others Prepared, and the own distinct pending rows
+abbrev pub verdictOf : Store → ℕ → ℕ
+verdictOf s t = verdictNumber (verdict (s .chains) (s .index) (txnOf s t))
+
+abbrev pub versionsAfter : Store → ℕ → ℕ
+versionsAfter s t = s .chains .used + reserved (s .sizes) (s .txns) mostLive + length (pendingRows (s .sizes) (txnOf s t .writes))
+
+-- open: a size outside its range
+abbrev pub Outside : ℕ → ℕ → Type 0
+Outside n most = (n < 1) ⊎ (most < n)
+
+-- the number that open gives
+abbrev pub openNumber : Sizes → ℕ → ℕ
+openNumber z clock = cond (canOpen z clock) 0 (refusalNumber WrongSize)
+
+-- HOW A STEP'S NUMBER IS READ OFF ITS TESTS
+
+-- the shape's test stands before all others
+abbrev pub all-tests : Store → Step → List (Bool × Refusal)
+all-tests s a = (not (rightShape s), WrongShape) ∷ checks s a
+
+is-true : (b : Bool) → (b ≡ false → ⊥) → b ≡ true
+is-true true h = refl
+is-true false h = absurd (h refl)
+
+-- what a refusal is told as: its number, and 0 for none
+abbrev told : Option Refusal → ℕ
+told none = 0
+told (some r) = refusalNumber r
+
+code-refusal : (cs : List (Bool × Refusal)) → code cs ≡ told (refusal cs)
+unfolding refusal code
+code-refusal [] = refl
+code-refusal (c ∷ cs) = go (c .0) (code-refusal cs)
+  where
+    go : (b : Bool) → code cs ≡ told (refusal cs) → cond b (refusalNumber (c .1)) (code cs) ≡ told (cond b (some (c .1)) (refusal cs))
+    go true later = refl
+    go false later = later
+
+-- what is no refusal has number 0, and a refusal has none below 1
+zero-unless : (a : Answer) → refuses a ≡ false → answerNumber a ≡ 0
+zero-unless Done e = refl
+zero-unless (Number n) e = refl
+zero-unless (Stamp n) e = refl
+zero-unless (Count n) e = refl
+zero-unless (Rows rs) e = refl
+zero-unless (Judged v) e = refl
+zero-unless (Refused r) e = absurd (true≢false e)
+
+refusal-pos : (r : Refusal) → 1 ≤ refusalNumber r
+refusal-pos WrongSize = omega arith
+refusal-pos NoNumbers = omega arith
+refusal-pos Full = omega arith
+refusal-pos NoSuch = omega arith
+refusal-pos WrongPhase = omega arith
+refusal-pos NoRow = omega arith
+refusal-pos Taken = omega arith
+refusal-pos Stale = omega arith
+refusal-pos Marked = omega arith
+refusal-pos ManyReads = omega arith
+refusal-pos NoRoom = omega arith
+refusal-pos ManyRecords = omega arith
+refusal-pos ManyWrites = omega arith
+refusal-pos NoVersions = omega arith
+refusal-pos Conflict = omega arith
+refusal-pos Malformed = omega arith
+refusal-pos WrongShape = omega arith
+
+pub unless-zero : (a : Answer) → answerNumber a ≡ 0 → refuses a ≡ false
+unless-zero Done e = refl
+unless-zero (Number n) e = refl
+unless-zero (Stamp n) e = refl
+unless-zero (Count n) e = refl
+unless-zero (Rows rs) e = refl
+unless-zero (Judged v) e = refl
+unless-zero (Refused r) e = absurd (omega (arith, refusal-pos r))
+
+pub number-is : (s : Store) (a : Step) → number s a ≡ code (all-tests s a)
+unfolding step stepIn carried code
+number-is s a = go (rightShape s)
+  where
+    carried-number : (o : Option Refusal) → answerNumber (carried s a o .answer) ≡ told o
+    carried-number none = zero-unless (accepted s a .answer) (accepted-answers s a)
+    carried-number (some r) = refl
+
+    go : (b : Bool) → answerNumber (cond b (carried s a (refusal (checks s a))) (gives s (Refused WrongShape)) .answer) ≡ cond (not b) 16 (code (checks s a))
+    go true = carried-number (refusal (checks s a)) ∙ sym (code-refusal (checks s a))
+    go false = refl
+
+pub no-sixteen : (s : Store) (a : Step) → without 16 (checks s a) ≡ true
+unfolding checks all-of
+no-sixteen s begin = refl
+no-sixteen s (capture t k) = refl
+no-sixteen s (collect t) = refl
+no-sixteen s (rows t room) = refl
+no-sixteen s (put t r k payload) = refl
+no-sixteen s (erase t r) = refl
+no-sixteen s (prepare t) = refl
+no-sixteen s (install t) = refl
+no-sixteen s (end t) = refl
+no-sixteen s (publish t) = refl
+no-sixteen s (validate t) = refl
+no-sixteen s (abort t) = refl
+
+pub shape-test : (s : Store) → Test (not (rightShape s)) (rightShape s ≡ false) (Shaped s)
+shape-test s = opposite (itself (rightShape s))
+
+-- who has the number is found
+found-first : (test : ℕ → Bool) (k n i : ℕ) → k ≤ i → i < k + n → test i ≡ true → first test k n < k + n
+unfolding first
+found-first test k zero i l u e = absurd (omega arith)
+found-first test k (suc n) i l u e = cond-elim (λ p. p < k + suc n) (test k) k (first test (suc k) n) (λ t. omega arith)
+    (λ t. elim (ℕ-discrete i k) [ yes d ↦ absurd (true≢false (sym e ∙ (rw d t))) | no d ↦ omega (arith, found-first test (suc k) n i (omega arith) (omega arith) e) ])
+
+placed : (s : Store) (t : ℕ) → Test (not (ltb (placeOf (s .txns) t) mostLive)) ((i : ℕ) × (i < mostLive) × (s .txns i .number ≡ t) → ⊥) ((i : ℕ) × (i < mostLive) × (s .txns i .number ≡ t))
+unfolding placeOf
+placed s t = opposite (record {
+  holds = λ e. let l = ltb-true _ _ e in (placeOf (s .txns) t, l, place-number s t l);
+  fails = λ e w. omega (arith, ltb-false (placeOf (s .txns) t) mostLive e, found-first (λ i. eqb (s .txns i .number) t) 0 mostLive (w .0) (omega arith) (w .1) (eq-eqb _ _ (w .2)));
+  if-yes = λ w. lt-ltb _ _ (found-first (λ i. eqb (s .txns i .number) t) 0 mostLive (w .0) (omega arith) (w .1) (eq-eqb _ _ (w .2)));
+  if-no = λ h. is-false _ (λ e. let l = ltb-true _ _ e in h (placeOf (s .txns) t, l, place-number s t l));
+})
+
+pub lives-test : (s : Store) (t : ℕ) → Test (eqb t 0 || not (ltb (placeOf (s .txns) t) mostLive)) (Lives s t → ⊥) (Lives s t)
+lives-test s t = let e = either (equal t 0) (placed s t) in record {
+  holds = λ y w. ⊎-elim (λ z. omega (arith, w .3)) (λ h. h (w .0, w .1, w .2)) (e .holds y);
+  fails = λ n. let w = e .fails n in (w .1 .0, w .1 .1, w .1 .2, positive (w .0));
+  if-yes = λ h. is-true _ (λ n. let w = e .fails n in h (w .1 .0, w .1 .1, w .1 .2, positive (w .0)));
+  if-no = λ w. e .if-no ((λ z. omega (arith, w .3)), (w .0, w .1, w .2));
+}
+  where
+    positive : t ≢ 0 → 1 ≤ t
+    positive z = omega arith
+
+-- who lives has its number
+pub lives-number : (s : Store) (t : ℕ) → Lives s t → txnOf s t .number ≡ t
+lives-number s t w = place-number s t (ltb-true _ _ (not-false _ (or-r (eqb t 0) _ (lives-test s t .if-no w))))
+
+-- the shape's live numbers differ, so the one found is the only one
+each-below : (n : ℕ) (test : ℕ → Bool) → every n test ≡ true → (i : ℕ) → i < n → test i ≡ true
+unfolding every
+each-below zero test e i l = absurd (omega arith)
+each-below (suc n) test e i l = elim (ℕ-discrete i n) [ yes d ↦ rw d (and-r (every n test) (test n) e) | no d ↦ each-below n test (and-l (every n test) (test n) e) i (omega arith) ]
+
+apart : (s : Store) → Shaped s → (i j : ℕ) → i < mostLive → j < i → 1 ≤ s .txns i .number → s .txns i .number ≢ s .txns j .number
+unfolding rightShape distinctNumbers
+apart s e i j l m p q =
+    let d : distinctNumbers (s .txns) ≡ true = search (and-l, and-r) depth 8 in
+    let w = each-below i _ (each-below mostLive _ d i l) j m in
+    ⊎-elim (λ dead. true≢false (sym (live-test (s .txns i) p) ∙ not-true _ dead)) (λ differ. true≢false (sym (eq-eqb _ _ q) ∙ not-true _ differ)) (or-cases _ _ w)
+
+pub the-one : (s : Store) (t : ℕ) → Shaped s → (w : Lives s t) → placeOf (s .txns) t ≡ w .0
+the-one s t e w = go (ltb p (w .0)) refl (ltb (w .0) p) refl
+  where
+    p : ℕ
+    p = placeOf (s .txns) t
+
+    n : s .txns p .number ≡ t
+    n = lives-number s t w
+
+    l : p < mostLive
+    l = ltb-true _ _ (not-false _ (or-r (eqb t 0) _ (lives-test s t .if-no w)))
+
+    go : (a : Bool) → ltb p (w .0) ≡ a → (b : Bool) → ltb (w .0) p ≡ b → p ≡ w .0
+    go true f b g = absurd (apart s e (w .0) p (w .1) (ltb-true _ _ f) (omega (arith, w .2, w .3)) (w .2 ∙ sym n))
+    go false f true g = absurd (apart s e p (w .0) l (ltb-true _ _ g) (omega (arith, n, w .3)) (n ∙ sym (w .2)))
+    go false f false g = omega (arith, ltb-false p (w .0) f, ltb-false (w .0) p g)
+
+-- past 16, 4 and 5: the shape is right, the transaction lives and its phase is right
+pub past : (n : ℕ) {Wrong P : Type 0} (s : Store) (a : Step) (phase : Bool) (more : List (Bool × Refusal)) → (n ≢ 16) × (n ≢ 4) × (n ≢ 5) → Test phase (RightPhase s a) Wrong → (Lives s (actor a) → code more ≡ n ↔ P)
+    → code ((not (rightShape s), WrongShape) ∷ found s (actor a) phase more) ≡ n ↔ Ready s a and P
+past n s a phase more d p later =
+    let w = skip n _ WrongShape _ (shape-test s) (λ e. d .0 (sym e)) (λ sh. skip n _ NoSuch _ (lives-test s (actor a)) (λ e. d .1 (sym e)) (λ l. skip n _ WrongPhase more (opposite p) (λ e. d .2 (sym e)) (λ ph. later l))) in
+    (λ e. let q = w .0 e in ((q .0, q .1 .0, q .1 .1 .0), q .1 .1 .1), λ q. w .1 (q .0 .0, (q .0 .1, (q .0 .2, q .1))))
+
+-- the phase's test
+pub in-phase : (s : Store) (t n : ℕ) → Test (eqb (rank (txnOf s t .phase)) n) (rank (txnOf s t .phase) ≡ n) (rank (txnOf s t .phase) ≢ n)
+in-phase s t n = equal (rank (txnOf s t .phase)) n
+
+pub early : (s : Store) (t : ℕ) → Test (ltb (rank (txnOf s t .phase)) 5) (rank (txnOf s t .phase) < 5) (rank (txnOf s t .phase) < 5 → ⊥)
+early s t = let e = less (rank (txnOf s t .phase)) 5 in record { holds = e .holds; fails = λ f l. omega (arith, e .fails f); if-yes = e .if-yes; if-no = λ h. is-false _ (λ f. h (e .holds f)) }
+
+-- held, or claimed, by another than the one who acts
+pub another : (f : ℕ → ℕ) (n t j : ℕ) → n ≡ t → Test (byAnother f n j) (ByAnother f t j) (Free f t j)
+unfolding byAnother
+another f n t j e = rw e (both (opposite (equal (f j) 0)) (opposite (equal (f j) t)))
+
+pub bucket-taken : (s : Store) (t : ℕ) (bs : List ℕ) → Lives s t → Test (bucketsTaken s t bs) (BucketTaken s t bs) (BucketsFree s t bs)
+bucket-taken s t bs l = any _ bs (λ b. another (s .held .holder) (txnOf s t .number) t b (lives-number s t l))
+
+pub row-taken : (s : Store) (t : ℕ) → Lives s t → Test (rowsClaimed s t) (RowTaken s t) (RowsFree s t)
+row-taken s t l = any _ (pendingRows (s .sizes) (txnOf s t .writes)) (λ r. another (s .held .claim) (txnOf s t .number) t r (lives-number s t l))
+
+-- a stamp that is not below the number
+pub stale-test : (s : Store) (t k : ℕ) → Lives s t → Test (not (ltb (stampFor s k) (txnOf s t .number))) (t ≤ stampFor s k) (stampFor s k < t)
+stale-test s t k l = rw (lives-number s t l) (opposite (less (stampFor s k) t))
+
+pub read-test : (s : Store) (t k : ℕ) → Test (not (hasRead (txnOf s t .reads) (bucketFor s k)) && leb mostIndexReads (length (txnOf s t .reads))) (Seventeenth s t k) (RoomForRead s t k)
+read-test s t k = both (opposite (itself (hasRead (txnOf s t .reads) (bucketFor s k)))) (at-most mostIndexReads (length (txnOf s t .reads)))
+
+-- 4 and 5 of a step that names a transaction
+pub unknown : {Wrong : Type 0} (s : Store) (a : Step) (phase : Bool) (more : List (Bool × Refusal)) → Test phase (RightPhase s a) Wrong → without 4 more ≡ true
+    → code ((not (rightShape s), WrongShape) ∷ found s (actor a) phase more) ≡ 4 ↔ Shaped s and (Lives s (actor a) → ⊥)
+unfolding all-of
+unknown s a phase more p w = skip 4 _ WrongShape _ (shape-test s) (omega arith) (λ sh. stop 4 _ NoSuch _ (lives-test s (actor a)) (omega arith) w)
+
+pub wrong-phase : {Wrong : Type 0} (s : Store) (a : Step) (phase : Bool) (more : List (Bool × Refusal)) → Test phase (RightPhase s a) Wrong → without 5 more ≡ true
+    → code ((not (rightShape s), WrongShape) ∷ found s (actor a) phase more) ≡ 5 ↔ Shaped s and Lives s (actor a) and Wrong
+wrong-phase s a phase more p w = skip 5 _ WrongShape _ (shape-test s) (omega arith) (λ sh. skip 5 _ NoSuch _ (lives-test s (actor a)) (omega arith) (λ l. stop 5 _ WrongPhase more (opposite p) (omega arith) w))
+
+-- a step with no other test
+pub ready-only : {Wrong : Type 0} (s : Store) (a : Step) (phase : Bool) → Test phase (RightPhase s a) Wrong → code ((not (rightShape s), WrongShape) ∷ found s (actor a) phase []) ≡ 0 ↔ Ready s a
+unfolding code
+ready-only s a phase p =
+    let w = past 0 s a phase [] (omega arith) p (λ l. ((λ e. e), (λ e. e))) in
+    (λ e. w .0 e .0, λ r. w .1 (r, refl))
+
+-- a size within its range, and the test of open
+inside : (n most : ℕ) → Test (within n most) ((1 ≤ n) × (n ≤ most)) (Outside n most)
+inside n most = both (at-most 1 n) (at-most n most)
+
+pub cannot-open : (z : Sizes) (clock : ℕ) → canOpen z clock ≡ false ↔ Outside (z .rows) mostRows ⊎ Outside (z .versions) mostVersions ⊎ Outside (z .buckets) mostBuckets ⊎ (clock < 1)
+unfolding canOpen goodSizes
+cannot-open z clock =
+    let t = both (both (both (inside (z .rows) mostRows) (inside (z .versions) mostVersions)) (inside (z .buckets) mostBuckets)) (at-most 1 clock) in
+    (λ e. right (t .fails e), λ o. t .if-no (left o))
+  where
+    right : {A B C D : Type 0} → ((A ⊎ B) ⊎ C) ⊎ D → A ⊎ B ⊎ C ⊎ D
+    right (inl (inl (inl a))) = inl a
+    right (inl (inl (inr b))) = inr (inl b)
+    right (inl (inr c)) = inr (inr (inl c))
+    right (inr d) = inr (inr (inr d))
+
+    left : {A B C D : Type 0} → A ⊎ B ⊎ C ⊎ D → ((A ⊎ B) ⊎ C) ⊎ D
+    left (inl a) = inl (inl (inl a))
+    left (inr (inl b)) = inl (inl (inr b))
+    left (inr (inr (inl c))) = inl (inr c)
+    left (inr (inr (inr d))) = inr d
