@@ -29,5 +29,6 @@ pub mod FirstTest
 pub mod Conditions
 pub mod Refused
 pub mod Outcomes
+pub mod UpstreamLaws
 pub mod Promises
 pub mod Reached

@@ -4,6 +4,7 @@ pub mod Store
 pub mod Seeing
 pub mod Verdict
 pub mod Steps
+pub mod Upstream
 pub mod Refusals
 pub mod Shape
 pub mod Machine
