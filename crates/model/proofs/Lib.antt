@@ -30,5 +30,6 @@ pub mod Conditions
 pub mod Refused
 pub mod Outcomes
 pub mod UpstreamLaws
+pub mod Verdicts
 pub mod Promises
 pub mod Reached
