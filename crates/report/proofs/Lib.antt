@@ -1,0 +1,5 @@
+pub mod Laid
+pub mod Digits
+pub mod Spaced
+pub mod Answers
+pub mod Writing

@@ -1,0 +1,36 @@
+-- The numbers of a line as the code holds them.
+-- the first `count` of the list, and then the first `rows` of the lent rows
+use Prim.Native.Nat.{ℕ}
+use mathlib.Core.List.{List, [], _∷_, _++_}
+use lib.ListN.{take}
+use Rattle.protocol.specs.declared.Verdict.{Verdict}
+use Rattle.protocol.specs.declared.Answer.{Answer}
+use Rattle.report.specs.declared.Numbers.{Numbers}
+use Rattle.protocol.specs.declared.Verdict.the-variants as verdict
+use Rattle.protocol.specs.declared.Answer.the-variants as tell
+
+abbrev pub numbersWith : Numbers → List ℕ → List ℕ
+numbersWith s rows = take (s .count) (s .list) ++ take (s .rows) rows
+
+abbrev pub verdictHeld : Verdict → Numbers
+verdictHeld verdict.Clear = record { list = 0 ∷ 0 ∷ 0 ∷ 0 ∷ 0 ∷ []; count = 2; rows = 0 }
+verdictHeld (verdict.Bucket bucket captured present) = record { list = 0 ∷ 1 ∷ bucket ∷ captured ∷ present ∷ []; count = 5; rows = 0 }
+verdictHeld (verdict.Row row ptr) = record { list = 0 ∷ 2 ∷ row ∷ ptr ∷ 0 ∷ []; count = 4; rows = 0 }
+verdictHeld verdict.Mark = record { list = 0 ∷ 3 ∷ 0 ∷ 0 ∷ 0 ∷ []; count = 2; rows = 0 }
+
+-- a number with nothing after it
+abbrev pub numberHeld : ℕ → Numbers
+numberHeld number = record { list = number ∷ 0 ∷ 0 ∷ 0 ∷ 0 ∷ []; count = 1; rows = 0 }
+
+-- 0 and a value, and then so many rows
+abbrev pub valueHeld : ℕ → ℕ → Numbers
+valueHeld value rows = record { list = 0 ∷ value ∷ 0 ∷ 0 ∷ 0 ∷ []; count = 2; rows = rows }
+
+abbrev pub heldOf : Answer → Numbers
+heldOf tell.Done = numberHeld 0
+heldOf (tell.Number n) = valueHeld n 0
+heldOf (tell.Stamp n) = valueHeld n 0
+heldOf (tell.Count n) = valueHeld n 0
+heldOf (tell.Rows n) = valueHeld n n
+heldOf (tell.Judged v) = verdictHeld v
+heldOf (tell.Refused number) = numberHeld number

@@ -1,0 +1,69 @@
+-- The line of an answer, and a line in the lent report.
+-- document 01's number for each answer
+use Prim.Native.Nat.{ℕ, _+_, min}
+use mathlib.Core.Bool.{cond}
+use mathlib.Core.List.{List, [], _∷_, _++_}
+use lib.Dec.{leb}
+use lib.ListN.{length, take, drop}
+use Rattle.model.specs.Report.{openWord, badWord, wordOf, line}
+use Rattle.model.specs.Replay.{mostRoom}
+use Rattle.protocol.specs.View.{asked}
+use Rattle.protocol.specs.declared.Step.{Step}
+use Rattle.protocol.specs.declared.Verdict.{Verdict}
+use Rattle.protocol.specs.declared.Answer.{Answer}
+use Rattle.report.specs.declared.Wrote.{Wrote}
+use Rattle.report.specs.declared.Wrote.the-variants.{Next, Full}
+use Rattle.protocol.specs.declared.Verdict.the-variants as verdict
+use Rattle.protocol.specs.declared.Answer.the-variants as tell
+
+abbrev pub numberOf : Answer → ℕ
+numberOf tell.Done = 0
+numberOf (tell.Number n) = 0
+numberOf (tell.Stamp n) = 0
+numberOf (tell.Count n) = 0
+numberOf (tell.Rows n) = 0
+numberOf (tell.Judged v) = 0
+numberOf (tell.Refused number) = number
+
+-- a verdict and its values
+abbrev pub verdictValues : Verdict → List ℕ
+verdictValues verdict.Clear = 0 ∷ []
+verdictValues (verdict.Bucket bucket captured present) = 1 ∷ bucket ∷ captured ∷ present ∷ []
+verdictValues (verdict.Row row ptr) = 2 ∷ row ∷ ptr ∷ []
+verdictValues verdict.Mark = 3 ∷ []
+
+-- the values that come after 0; the found rows stand at the front of the lent list
+abbrev pub valuesOf : Answer → List ℕ → List ℕ
+valuesOf tell.Done rows = []
+valuesOf (tell.Number n) rows = n ∷ []
+valuesOf (tell.Stamp n) rows = n ∷ []
+valuesOf (tell.Count n) rows = n ∷ []
+valuesOf (tell.Rows n) rows = n ∷ take n rows
+valuesOf (tell.Judged v) rows = verdictValues v
+valuesOf (tell.Refused number) rows = []
+
+-- the kind's name, then the number, then the values
+abbrev pub lineFor : Step → Answer → List ℕ → List ℕ
+lineFor step answer rows = line (wordOf (asked step)) (numberOf answer ∷ valuesOf answer rows)
+
+abbrev pub openLine : ℕ → List ℕ
+openLine number = line openWord (number ∷ [])
+
+abbrev pub badLine : List ℕ
+badLine = line badWord (15 ∷ [])
+
+-- old, with the text over it from `at` on
+abbrev pub laid : List ℕ → ℕ → List ℕ → List ℕ
+laid old at text = take at old ++ text ++ drop (at + length text) old
+
+-- where the next line begins, and the lent report afterwards
+pub record Written : Type 0 where
+  pub wrote : Wrote
+  pub report : List ℕ
+
+-- a line from `at` on, or nothing where it does not fit; room beyond 4,294,967,295 bytes is not used
+unfoldable pub writtenAt : List ℕ → ℕ → List ℕ → Written
+writtenAt old at text =
+    cond (leb (at + length text) (min (length old) mostRoom))
+    (record { wrote = Next (at + length text); report = laid old at text })
+    (record { wrote = Full; report = old })
