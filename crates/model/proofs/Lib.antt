@@ -31,5 +31,6 @@ pub mod Refused
 pub mod Outcomes
 pub mod UpstreamLaws
 pub mod Verdicts
+pub mod Events
 pub mod Promises
 pub mod Reached

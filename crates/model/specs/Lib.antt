@@ -5,6 +5,7 @@ pub mod Seeing
 pub mod Verdict
 pub mod Steps
 pub mod Upstream
+pub mod History
 pub mod Refusals
 pub mod Shape
 pub mod Machine
