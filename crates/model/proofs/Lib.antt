@@ -32,5 +32,6 @@ pub mod Outcomes
 pub mod UpstreamLaws
 pub mod Verdicts
 pub mod Events
+pub mod Edges
 pub mod Promises
 pub mod Reached
