@@ -1,17 +1,18 @@
 -- What a refusal leaves and what an accepted step answers. Assumes nothing.
-use mathlib.Core.Path.{_≡_, sym, ap, _∙_}
+use mathlib.Core.Path.{_≡_, refl, sym, ap, _∙_}
 use mathlib.Core.Bool.{Bool, true, false, cond, true≢false}
-use mathlib.Core.Logic.{_↔_, ⊎-elim}
+use mathlib.Core.Logic.{_↔_, _≢_, ⊎-elim}
 use mathlib.Core.Option.{Option, none, some}
 use mathlib.Core.List.{List, [], _∷_, _++_}
 use Prim.Native.Nat.{ℕ, suc, _≤_}
 use native.Mathlib.Omega.{arith}
-use lib.ListN.{length}
+use lib.ListN.{length, take, drop}
+use lib.Seq.{take-at, drop-at}
 use Rattle.model.specs.Table.{update-same}
 use Rattle.model.specs.Store.{Write, Store, Holding, Collected, rank, keyIn}
 use Rattle.model.specs.Verdict.{verdict}
 use Rattle.model.specs.Steps.{stale, addRead, postedRows, foundRows}
-use Rattle.model.specs.Refusals.{Refusal, Stale, Marked, WrongShape, Step, begin, capture, collect, rows, put, erase, prepare, install, end, publish, validate, abort, txnOf, checks, refusal}
+use Rattle.model.specs.Refusals.{Refusal, WrongSize, NoNumbers, Full, NoSuch, WrongPhase, NoRow, Taken, Stale, Marked, ManyReads, NoRoom, ManyRecords, ManyWrites, NoVersions, Conflict, Malformed, WrongShape, Step, begin, capture, collect, rows, put, erase, prepare, install, end, publish, validate, abort, txnOf, checks, refusal}
 use Rattle.model.specs.Shape.{rightShape}
 use Rattle.model.specs.Machine.{Answer, Done, Number, Stamp, Count, Rows, Judged, Refused, answerNumber, lentAfter, at, actor, isStale, gives, accepted, afterRefusal, carried, step, stepIn}
 use Rattle.model.proofs.Unrefused.{refuses, is-accepted, accepted-answers}
@@ -32,16 +33,41 @@ refused-leaves s a r = go (rightShape s) (refusal (checks s a))
     go false o e = let p : WrongShape ≡ r = cc in rw (← p)
 
 -- every refusal but a stale 8 leaves the store as found
-pub unchanged : (s : Store) (a : Step) (r : Refusal) → step s a .answer ≡ Refused r → isStale r ≡ false → step s a .store ≡ s
-unchanged s a r e f = rw f at (refused-leaves s a r e)
+only-stale : (r : Refusal) → r ≢ Stale → isStale r ≡ false
+only-stale WrongSize d = refl
+only-stale NoNumbers d = refl
+only-stale Full d = refl
+only-stale NoSuch d = refl
+only-stale WrongPhase d = refl
+only-stale NoRow d = refl
+only-stale Taken d = refl
+only-stale Stale d = absurd (d refl)
+only-stale Marked d = refl
+only-stale ManyReads d = refl
+only-stale NoRoom d = refl
+only-stale ManyRecords d = refl
+only-stale ManyWrites d = refl
+only-stale NoVersions d = refl
+only-stale Conflict d = refl
+only-stale Malformed d = refl
+only-stale WrongShape d = refl
+
+pub unchanged : (s : Store) (a : Step) (r : Refusal) → step s a .answer ≡ Refused r → r ≢ Stale → step s a .store ≡ s
+unchanged s a r e d = rw (only-stale r d) at (refused-leaves s a r e)
 
 -- a stale 8 sets the mark of its transaction and nothing else
 pub stale-marks : (s : Store) (a : Step) → step s a .answer ≡ Refused Stale → step s a .store ≡ stale s (at s (actor a))
 stale-marks s a e = refused-leaves s a Stale e
 
--- a refusal leaves the lent list as found, and so does every answer but that of rows
+-- a refusal leaves the lent list as found; rows writes the found ones to its front and leaves the rest
 pub lent-kept : (s : Store) (a : Step) (r : Refusal) (lent : List ℕ) → step s a .answer ≡ Refused r → lentAfter (step s a .answer) lent ≡ lent
 lent-kept s a r lent e = rw e
+
+pub lent-front : (rs lent : List ℕ) → take (length rs) (lentAfter (Rows rs) lent) ≡ rs
+lent-front rs lent = take-at rs (drop (length rs) lent) (length rs) refl
+
+pub lent-rest : (rs lent : List ℕ) → drop (length rs) (lentAfter (Rows rs) lent) ≡ drop (length rs) lent
+lent-rest rs lent = drop-at rs (drop (length rs) lent) (length rs) refl
 
 -- the two kinds of 8: the mark, and a stale stamp
 marked-answer : (s : Store) (t k : ℕ) → Ready s (capture t k) → txnOf s t .marked ≡ true → step s (capture t k) .answer ≡ Refused Marked

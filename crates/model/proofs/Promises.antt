@@ -16,7 +16,7 @@ use Rattle.model.specs.Steps.{stale, postedRows, readBuckets, oldKey, ke
 use Rattle.model.specs.Upstream.{creatorVisible, rowVisible, firstRow, matchesRow, Event, postingsOf, postingReplay, liveRows, Coherent, stampAt, rawCandidates}
 use Rattle.model.specs.Refusals.{Step, rows, validate, prepare, Refusal, Stale, WrongShape, txnOf}
 use Rattle.model.specs.Shape.{rightShape}
-use Rattle.model.specs.Machine.{Rows, Judged, Done, Refused, answerNumber, lentAfter, at, actor, isStale, accepted, step, stepIn, run, canOpen}
+use Rattle.model.specs.Machine.{Rows, Judged, Done, Refused, answerNumber, lentAfter, at, actor, accepted, step, stepIn, run, canOpen}
 use Rattle.model.specs.History.{history, changing}
 use Rattle.model.proofs.ListLaws.{Among, Rising}
 use Rattle.model.proofs.Move.{Live}
@@ -39,7 +39,7 @@ use Rattle.model.proofs.Validated.{validate-passed, validated-shows, pr
 pub record ExactAnswer (s : Store) (a : Step) : Type 0 where
   pub shape-first : number s a ≡ 16 ↔ rightShape s ≡ false
   pub listed : Among (number s a) (inOrder a)
-  pub unchanged-by : (r : Refusal) → step s a .answer ≡ Refused r → isStale r ≡ false → step s a .store ≡ s
+  pub unchanged-by : (r : Refusal) → step s a .answer ≡ Refused r → r ≢ Stale → step s a .store ≡ s
   pub marked-by : step s a .answer ≡ Refused Stale → step s a .store ≡ stale s (at s (actor a))
   pub lent-by : (r : Refusal) (lent : List ℕ) → step s a .answer ≡ Refused r → lentAfter (step s a .answer) lent ≡ lent
   pub answer-is : number s a ≡ 0 → step s a .answer ≡ documented s a
