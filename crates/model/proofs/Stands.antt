@@ -71,7 +71,7 @@ module _ (s : Store) (g : Good s) (i : ℕ) (l : Live (s .txns i)) (a : rank (s 
 
   -- a row that was read is headed by the version that it was read at
   read-head : (r : ℕ) → r < s .sizes .rows → keyAt c (versionOf c v r) ≡ some k → versionOf c v r ≡ c .head r
-  read-head r u e = finds-top c v (g .chained) (c .head r) (versionOf c v r) walked pos (ended (record-open c (s .txns i .number) v (recordOf c v r) good) (finds-open c v (g .chained) (c .head r) (versionOf c v r) walked pos (inl (g .chained .head-open r (λ f. pos (zero-finds c v (c .head r) (versionOf c v r) walked f))))))
+  read-head r u e = finds-top c v (g .chained) (c .head r) (versionOf c v r) walked pos (ended (record-open c (s .txns i) (recordOf c v r) good) (finds-open c v (g .chained) (c .head r) (versionOf c v r) walked pos (inl (g .chained .head-open r (λ f. pos (zero-finds c v (c .head r) (versionOf c v r) walked f))))))
     where
       walked : Finds c v (c .head r) (versionOf c v r)
       walked = version-finds c v (g .chained) r

@@ -45,11 +45,11 @@ AllRecordsGood c x = (q : ReadRecord) → Among q (x .records) → RecordGood c 
 among-test : (n : ℕ) (xs : List ℕ) → Test (member n xs) (Among n xs) (Among n xs → ⊥)
 among-test n xs = record { holds = member-among n xs; fails = λ e m. true≢false (sym (among-member n xs m) ∙ e); if-yes = among-member n xs; if-no = not-member n xs }
 
-read-bad : (i : Index) (n : ℕ) (r : IndexRead) → Test (badRead i n r) (ReadBad i n r) (ReadGood i n r)
+pub read-bad : (i : Index) (n : ℕ) (r : IndexRead) → Test (badRead i n r) (ReadBad i n r) (ReadGood i n r)
 unfolding badRead
 read-bad i n r = either (opposite (equal (i .stamp (r .bucket)) (r .stamp))) (opposite (less (i .stamp (r .bucket)) n))
 
-record-bad : (c : Chains) (x : Txn) (q : ReadRecord) → Test (badRecord c (x .number) (x .snapshot) q) (RecordBad c x q) (RecordGood c x q)
+pub record-bad : (c : Chains) (x : Txn) (q : ReadRecord) → Test (badRecord c (x .number) (x .snapshot) q) (RecordBad c x q) (RecordGood c x q)
 unfolding badRecord
 record-bad c x q = let m = c .xmax (q .ptr) in
     either (opposite (equal (c .xmin (q .ptr)) (q .xmin))) (both (both (opposite (equal m 0)) (opposite (equal m (x .number)))) (either (at-most (x .snapshot .xmax) m) (among-test m (x .snapshot .active))))
