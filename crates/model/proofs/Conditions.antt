@@ -148,7 +148,7 @@ code-refusal (c ∷ cs) = go (c .0) (code-refusal cs)
     go false later = later
 
 -- what is no refusal has number 0, and a refusal has none below 1
-zero-unless : (a : Answer) → refuses a ≡ false → answerNumber a ≡ 0
+pub zero-unless : (a : Answer) → refuses a ≡ false → answerNumber a ≡ 0
 zero-unless Done e = refl
 zero-unless (Number n) e = refl
 zero-unless (Stamp n) e = refl

@@ -1,7 +1,7 @@
 -- In every reached store the postings are upstream's replay of the run's events, these are coherent, and the stamps are those of the events that change a key. Assumes nothing.
 use mathlib.Core.Path.{_≡_, refl, sym, ap, _∙_}
 use mathlib.Core.Bool.{Bool, true, false, cond, not, _&&_, _||_}
-use mathlib.Core.Logic.{_≢_, inl, inr}
+use mathlib.Core.Logic.{_≢_, inl, inr, ⊎-elim}
 use mathlib.Core.Option.{Option, none, some}
 use mathlib.Core.List.{List, [], _∷_, _++_}
 use Prim.Native.Nat.{ℕ, suc, _≤_}
@@ -11,12 +11,11 @@ use lib.Dec.{eqb, ltb}
 use borrow.Author.Tests.{eqb-true, eqb-false, eq-eqb, ne-eqb, ltb-true, lt-ltb}
 use Rattle.limits.specs.Limits.{lastNumber}
 use Rattle.model.specs.Lists.{member, join}
-use Rattle.model.specs.Table.{update, updateAll, update-same, update-other, cond-elim}
+use Rattle.model.specs.Table.{update, updateAll, update-same, update-other}
 use Rattle.model.specs.Store.{Sizes, Txn, Store, fresh, rank, sameKey}
-use Rattle.model.specs.Steps.{postedRows, pendingRows, keyBefore, newKey, keyBuckets, repost, changedBuckets, published, stale}
-use Rattle.model.specs.Refusals.{Refusal, WrongShape, checks, refusal, Step, begin, capture, collect, rows, put, erase, prepare, install, end, publish, validate, abort, txnOf}
-use Rattle.model.specs.Shape.{rightShape}
-use Rattle.model.specs.Machine.{Refused, answerNumber, at, actor, gives, accepted, isStale, afterRefusal, carried, stepIn, step, run, canOpen}
+use Rattle.model.specs.Steps.{postedRows, pendingRows, keyBefore, newKey, keyBuckets, repost, changedBuckets, published}
+use Rattle.model.specs.Refusals.{Step, begin, capture, collect, rows, put, erase, prepare, install, end, publish, validate, abort, txnOf}
+use Rattle.model.specs.Machine.{at, accepted, step, run, canOpen}
 use Rattle.model.specs.Upstream.{Event, Postings, postingsOf, remove, insert, postingStep, postingReplay, liveRows, Coherent, stampAt, rawCandidates}
 use Rattle.model.specs.History.{eventOf, addEvents, stepEvents, historyOver, history, changing}
 use Rattle.model.proofs.ListLaws.{and-l, and-r, and-both, same-test, Among, member-among, among-member, pick-which, which-pick, Rising, rising-above, pick-rising}
@@ -24,7 +23,7 @@ use Rattle.model.proofs.Move.{Live}
 use Rattle.model.proofs.Good.{Good, sizes-run, good-run, opened-good}
 use Rattle.model.proofs.Conditions.{number, lives-number}
 use Rattle.model.proofs.Refused.{publish-0}
-use Rattle.model.proofs.Outcomes.{done-does}
+use Rattle.model.proofs.Outcomes.{refused-store, done-does}
 
 -- a pair is removed, or inserted, where the key is the one named and the row is
 same-number : (j k : ℕ) → eqb k j ≡ eqb j k
@@ -141,19 +140,11 @@ recorded-kept s s′ es e f g = record {
 }
 
 -- what is not an accepted publish leaves the index
-index-at : (s : Store) (a : Step) (b : Bool) (o : Option Refusal) → let w = cond b (carried s a o) (gives s (Refused WrongShape)) in (answerNumber (w .answer) ≡ 0 → accepted s a .store .index ≡ s .index) → answerNumber (accepted s a .answer) ≡ 0 → w .store .index ≡ s .index
-unfolding carried afterRefusal
-index-at s a true none h z = h z
-index-at s a true (some r) h z = cond-elim (λ w. w .index ≡ s .index) (isStale r) (stale s (at s (actor a))) s (λ t. refl) (λ t. refl)
-index-at s a false o h z = refl
+index-refused : (s : Store) (a : Step) → number s a ≢ 0 → step s a .store .index ≡ s .index
+index-refused s a d = ⊎-elim (λ e. ap (λ w. w .index) e) (λ e. ap (λ w. w .index) e) (refused-store s a d)
 
-index-kept : (s : Store) (a : Step) → accepted s a .store .index ≡ s .index → answerNumber (accepted s a .answer) ≡ 0 → step s a .store .index ≡ s .index
-unfolding step stepIn
-index-kept s a e z = index-at s a (rightShape s) (refusal (checks s a)) (λ f. e) z
-
-index-refused : (s : Store) (t : ℕ) → number s (publish t) ≢ 0 → step s (publish t) .store .index ≡ s .index
-unfolding step stepIn accepted
-index-refused s t d = index-at s (publish t) (rightShape s) (refusal (checks s (publish t))) (λ f. absurd (d f)) refl
+index-kept : (s : Store) (a : Step) → accepted s a .store .index ≡ s .index → step s a .store .index ≡ s .index
+index-kept s a e = elim (ℕ-discrete (number s a) 0) [ yes z ↦ ap (λ w. w .store .index) (done-does s a z) ∙ e | no d ↦ index-refused s a d ]
 
 sizes-kept : (s : Store) (a : Step) → step s a .store .sizes ≡ s .sizes
 unfolding run
@@ -177,22 +168,22 @@ published-or-not s t es g h = go (eqb (number s (publish t)) 0) refl
         let z = eqb-true _ _ e in
         let r = publish-0 s t .0 z in
         rw (done-does s (publish t) z) (recorded-publish s (at s t) es g (rw (lives-number s t (r .1)) (r .1 .3)) (r .2) h)
-    go false e = recorded-kept s (step s (publish t) .store) es (index-refused s t (eqb-false _ _ e)) (sizes-kept s (publish t)) h
+    go false e = recorded-kept s (step s (publish t) .store) es (index-refused s (publish t) (eqb-false _ _ e)) (sizes-kept s (publish t)) h
 
 recorded-step : (s : Store) (a : Step) (es : List Event) → Good s → Recorded s es → Recorded (step s a .store) (stepEvents s a es)
 unfolding stepEvents accepted
-recorded-step s begin es g h = recorded-kept s (step s begin .store) es (index-kept s begin refl refl) (sizes-kept s begin) h
-recorded-step s (capture t k) es g h = recorded-kept s (step s (capture t k) .store) es (index-kept s (capture t k) refl refl) (sizes-kept s (capture t k)) h
-recorded-step s (collect t) es g h = recorded-kept s (step s (collect t) .store) es (index-kept s (collect t) refl refl) (sizes-kept s (collect t)) h
-recorded-step s (rows t room) es g h = recorded-kept s (step s (rows t room) .store) es (index-kept s (rows t room) refl refl) (sizes-kept s (rows t room)) h
-recorded-step s (put t r k payload) es g h = recorded-kept s (step s (put t r k payload) .store) es (index-kept s (put t r k payload) refl refl) (sizes-kept s (put t r k payload)) h
-recorded-step s (erase t r) es g h = recorded-kept s (step s (erase t r) .store) es (index-kept s (erase t r) refl refl) (sizes-kept s (erase t r)) h
-recorded-step s (prepare t) es g h = recorded-kept s (step s (prepare t) .store) es (index-kept s (prepare t) refl refl) (sizes-kept s (prepare t)) h
-recorded-step s (install t) es g h = recorded-kept s (step s (install t) .store) es (index-kept s (install t) refl refl) (sizes-kept s (install t)) h
-recorded-step s (end t) es g h = recorded-kept s (step s (end t) .store) es (index-kept s (end t) refl refl) (sizes-kept s (end t)) h
+recorded-step s begin es g h = recorded-kept s (step s begin .store) es (index-kept s begin refl) (sizes-kept s begin) h
+recorded-step s (capture t k) es g h = recorded-kept s (step s (capture t k) .store) es (index-kept s (capture t k) refl) (sizes-kept s (capture t k)) h
+recorded-step s (collect t) es g h = recorded-kept s (step s (collect t) .store) es (index-kept s (collect t) refl) (sizes-kept s (collect t)) h
+recorded-step s (rows t room) es g h = recorded-kept s (step s (rows t room) .store) es (index-kept s (rows t room) refl) (sizes-kept s (rows t room)) h
+recorded-step s (put t r k payload) es g h = recorded-kept s (step s (put t r k payload) .store) es (index-kept s (put t r k payload) refl) (sizes-kept s (put t r k payload)) h
+recorded-step s (erase t r) es g h = recorded-kept s (step s (erase t r) .store) es (index-kept s (erase t r) refl) (sizes-kept s (erase t r)) h
+recorded-step s (prepare t) es g h = recorded-kept s (step s (prepare t) .store) es (index-kept s (prepare t) refl) (sizes-kept s (prepare t)) h
+recorded-step s (install t) es g h = recorded-kept s (step s (install t) .store) es (index-kept s (install t) refl) (sizes-kept s (install t)) h
+recorded-step s (end t) es g h = recorded-kept s (step s (end t) .store) es (index-kept s (end t) refl) (sizes-kept s (end t)) h
 recorded-step s (publish t) es g h = published-or-not s t es g h
-recorded-step s (validate t) es g h = recorded-kept s (step s (validate t) .store) es (index-kept s (validate t) refl refl) (sizes-kept s (validate t)) h
-recorded-step s (abort t) es g h = recorded-kept s (step s (abort t) .store) es (index-kept s (abort t) refl refl) (sizes-kept s (abort t)) h
+recorded-step s (validate t) es g h = recorded-kept s (step s (validate t) .store) es (index-kept s (validate t) refl) (sizes-kept s (validate t)) h
+recorded-step s (abort t) es g h = recorded-kept s (step s (abort t) .store) es (index-kept s (abort t) refl) (sizes-kept s (abort t)) h
 
 recorded-run : (s : Store) (es : List Event) (more : List Step) → Good s → Recorded s es → Recorded (run s more) (historyOver es s more)
 unfolding run historyOver

@@ -33,5 +33,7 @@ pub mod UpstreamLaws
 pub mod Verdicts
 pub mod Events
 pub mod Edges
+pub mod Snapshots
+pub mod Traces
 pub mod Promises
 pub mod Reached

@@ -1,14 +1,14 @@
 -- What a refusal leaves and what an accepted step answers. Assumes nothing.
 use mathlib.Core.Path.{_≡_, refl, sym, ap, _∙_}
 use mathlib.Core.Bool.{Bool, true, false, cond, true≢false}
-use mathlib.Core.Logic.{_↔_, _≢_, ⊎-elim}
+use mathlib.Core.Logic.{_↔_, _≢_, _⊎_, inl, inr, ⊎-elim}
 use mathlib.Core.Option.{Option, none, some}
 use mathlib.Core.List.{List, [], _∷_, _++_}
 use Prim.Native.Nat.{ℕ, suc, _≤_}
 use native.Mathlib.Omega.{arith}
 use lib.ListN.{length, take, drop}
 use lib.Seq.{take-at, drop-at}
-use Rattle.model.specs.Table.{update-same}
+use Rattle.model.specs.Table.{update-same, cond-elim}
 use Rattle.model.specs.Store.{Write, Store, Holding, Collected, rank, keyIn}
 use Rattle.model.specs.Verdict.{verdict}
 use Rattle.model.specs.Steps.{stale, addRead, postedRows, foundRows}
@@ -17,7 +17,7 @@ use Rattle.model.specs.Shape.{rightShape}
 use Rattle.model.specs.Machine.{Answer, Done, Number, Stamp, Count, Rows, Judged, Refused, answerNumber, lentAfter, at, actor, isStale, gives, accepted, afterRefusal, carried, step, stepIn}
 use Rattle.model.proofs.Unrefused.{refuses, is-accepted, accepted-answers}
 use Rattle.model.proofs.FirstTest.{_and_}
-use Rattle.model.proofs.Conditions.{number, Ready, Free, bucketFor, stampFor, lives-test, lives-number, in-phase, another, stale-test, unless-zero}
+use Rattle.model.proofs.Conditions.{number, Ready, Free, bucketFor, stampFor, lives-test, lives-number, in-phase, another, stale-test, zero-unless, unless-zero}
 use Rattle.model.proofs.Refused.{capture-8, put-0, erase-0, validate-0}
 
 -- WHAT A REFUSAL LEAVES
@@ -31,6 +31,15 @@ refused-leaves s a r = go (rightShape s) (refusal (checks s a))
     go true none e = absurd (true≢false (sym (ap refuses e) ∙ accepted-answers s a))
     go true (some q) e = let p : q ≡ r = cc in rw p
     go false o e = let p : WrongShape ≡ r = cc in rw (← p)
+
+pub refused-store : (s : Store) (a : Step) → number s a ≢ 0 → (step s a .store ≡ s) ⊎ (step s a .store ≡ stale s (at s (actor a)))
+unfolding step stepIn carried afterRefusal
+refused-store s a = go (rightShape s) (refusal (checks s a))
+  where
+    go : (b : Bool) (o : Option Refusal) → let w = cond b (carried s a o) (gives s (Refused WrongShape)) in answerNumber (w .answer) ≢ 0 → (w .store ≡ s) ⊎ (w .store ≡ stale s (at s (actor a)))
+    go true none d = absurd (d (zero-unless (accepted s a .answer) (accepted-answers s a)))
+    go true (some r) d = cond-elim (λ w. (w ≡ s) ⊎ (w ≡ stale s (at s (actor a)))) (isStale r) (stale s (at s (actor a))) s (λ t. inr refl) (λ t. inl refl)
+    go false o d = inl refl
 
 -- every refusal but a stale 8 leaves the store as found
 only-stale : (r : Refusal) → r ≢ Stale → isStale r ≡ false

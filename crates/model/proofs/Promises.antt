@@ -10,10 +10,10 @@ use lib.Dec.{ltb}
 use Rattle.limits.specs.Limits.{lastNumber}
 use Rattle.model.specs.Lists.{member, pick}
 use Rattle.model.specs.Store.{Sizes, ReadRecord, Txn, Collected, Store, fresh, rank, keyIn, sameKey}
-use Rattle.model.specs.Seeing.{seen, visible, firstVisible, pending, matches, recordOf, shows, snapshotNow}
+use Rattle.model.specs.Seeing.{seen, visible, firstVisible, versionOf, keyAt, pending, matches, recordOf, shows, snapshotNow}
 use Rattle.model.specs.Verdict.{Verdict, Clear, verdict}
 use Rattle.model.specs.Steps.{stale, postedRows, readBuckets, oldKey, keyBefore}
-use Rattle.model.specs.Upstream.{creatorVisible, rowVisible, firstRow, matchesRow, Event, postingsOf, postingReplay, liveRows, Coherent, stampAt, rawCandidates}
+use Rattle.model.specs.Upstream.{creatorVisible, rowVisible, firstRow, matchesRow, Event, postingsOf, postingReplay, liveRows, snapshotRows, Coherent, stampAt, rawCandidates}
 use Rattle.model.specs.Refusals.{Step, rows, validate, prepare, Refusal, Stale, WrongShape, txnOf}
 use Rattle.model.specs.Shape.{rightShape}
 use Rattle.model.specs.Machine.{Rows, Judged, Done, Refused, answerNumber, lentAfter, at, actor, accepted, step, stepIn, run, canOpen}
@@ -32,6 +32,8 @@ use Rattle.model.proofs.Outcomes.{unchanged, stale-marks, lent-kept, do
 use Rattle.model.proofs.Verdicts.{Cause, verdict-cause}
 use Rattle.model.proofs.UpstreamLaws.{creator-seen, visible-same, pointer, first-same, matches-same}
 use Rattle.model.proofs.Events.{replay-live, recorded-opened, candidates-raw}
+use Rattle.model.proofs.Snapshots.{Unpublished, snapshot-same}
+use Rattle.model.proofs.Traces.{traced-opened}
 use Rattle.model.proofs.Finished.{found-whole, rows-done, rows-recorded, found-rising}
 use Rattle.model.proofs.Validated.{validate-passed, validated-shows, prepare-passed, prepared-shows, standing}
 
@@ -106,6 +108,9 @@ pub record HistoryStands (s : Store) (es : List Event) : Type 0 where
   pub coherent : Coherent (λ q. none) es
   pub stamps-are : (b : ℕ) → s .index .stamp b ≡ stampAt (s .sizes) (λ c. 0) (changing es) b
   pub candidates-are : (k r : ℕ) → member r (postedRows s k) ≡ ltb r (s .sizes .rows) && rawCandidates (postingReplay (postingsOf (λ q. none)) es) k r
+  -- what a live transaction sees of a row, unless it sees a version of it that is still unpublished
+  pub snapshots-are : (j r : ℕ) → Live (s .txns j) → ((w : ℕ) → Unpublished (s .sizes) (s .txns w) r → seen (s .txns j .snapshot) (s .chains .xmin (s .chains .head r)) ≡ false)
+      → snapshotRows (λ q. none) es (s .txns j) r ≡ keyAt (s .chains) (versionOf (s .chains) (s .txns j .snapshot) r)
 
 pub kept-history : (z : Sizes) (clock : ℕ) (before : List Step) → canOpen z clock ≡ true → clock ≤ lastNumber → HistoryStands (run (fresh z clock) before) (history (fresh z clock) before)
 kept-history z clock before e l = let h = recorded-opened z clock before e l in record {
@@ -114,6 +119,7 @@ kept-history z clock before e l = let h = recorded-opened z clock before e l in 
   coherent = h .coherent;
   stamps-are = h .stamps;
   candidates-are = candidates-raw _ _ h;
+  snapshots-are = λ j r a. snapshot-same _ _ (opened-good z clock before e l) (traced-opened z clock before e l) j a r;
 }
 
 -- A live transaction sees what upstream's definitions say.
