@@ -329,20 +329,20 @@ ready-only s a phase p =
 inside : (n most : ℕ) → Test (within n most) ((1 ≤ n) × (n ≤ most)) (Outside n most)
 inside n most = both (at-most 1 n) (at-most n most)
 
-pub cannot-open : (z : Sizes) (clock : ℕ) → canOpen z clock ≡ false ↔ Outside (z .rows) mostRows ⊎ Outside (z .versions) mostVersions ⊎ Outside (z .buckets) mostBuckets ⊎ (clock < 1)
+pub cannot-open : (z : Sizes) (clock : ℕ) → canOpen z clock ≡ false ↔ Outside (z .rows) mostRows ⊎ Outside (z .versions) mostVersions ⊎ Outside (z .buckets) mostBuckets ⊎ (clock ≡ 0)
 unfolding canOpen goodSizes
 cannot-open z clock =
     let t = both (both (both (inside (z .rows) mostRows) (inside (z .versions) mostVersions)) (inside (z .buckets) mostBuckets)) (at-most 1 clock) in
     (λ e. right (t .fails e), λ o. t .if-no (left o))
   where
-    right : {A B C D : Type 0} → ((A ⊎ B) ⊎ C) ⊎ D → A ⊎ B ⊎ C ⊎ D
+    right : {A B C : Type 0} → ((A ⊎ B) ⊎ C) ⊎ (clock < 1) → A ⊎ B ⊎ C ⊎ (clock ≡ 0)
     right (inl (inl (inl a))) = inl a
     right (inl (inl (inr b))) = inr (inl b)
     right (inl (inr c)) = inr (inr (inl c))
-    right (inr d) = inr (inr (inr d))
+    right (inr d) = inr (inr (inr (omega arith)))
 
-    left : {A B C D : Type 0} → A ⊎ B ⊎ C ⊎ D → ((A ⊎ B) ⊎ C) ⊎ D
+    left : {A B C : Type 0} → A ⊎ B ⊎ C ⊎ (clock ≡ 0) → ((A ⊎ B) ⊎ C) ⊎ (clock < 1)
     left (inl a) = inl (inl (inl a))
     left (inr (inl b)) = inl (inl (inr b))
     left (inr (inr (inl c))) = inl (inr c)
-    left (inr (inr (inr d))) = inr d
+    left (inr (inr (inr d))) = inr (omega arith)

@@ -1,12 +1,15 @@
--- Runs that meet the premises of the promises: a read that finds a row, another transaction that publishes meanwhile, and a clear verdict. Assumes nothing.
+-- Runs that meet the premises of the promises: a read that finds a row, another transaction that publishes meanwhile, a clear verdict; and the history of that run. Assumes nothing.
 use mathlib.Core.Path.{_≡_, refl}
-use mathlib.Core.Bool.{true}
-use mathlib.Core.List.{List, [], _∷_}
+use mathlib.Core.Bool.{true, false}
+use mathlib.Core.Option.{none, some}
+use mathlib.Core.List.{List, [], _∷_, _++_}
 use Rattle.model.specs.Store.{Sizes, Store, Collected, fresh}
 use Rattle.model.specs.Verdict.{Clear}
 use Rattle.model.specs.Refusals.{Step, begin, capture, collect, rows, put, prepare, install, end, publish, validate, txnOf}
 use Rattle.model.specs.Seeing.{shows, snapshotNow}
 use Rattle.model.specs.Machine.{Done, Rows, Judged, step, run, canOpen}
+use Rattle.model.specs.Upstream.{postingsOf, remove, insert, postingReplay}
+use Rattle.model.specs.History.{addEvents, stepEvents, historyOver, history}
 use Rattle.model.proofs.Computes.{computes}
 
 abbrev sizes : Sizes
@@ -30,3 +33,9 @@ met : (canOpen sizes 1 ≡ true) × (step s₁ (rows 3 4) .answer ≡ Rows (2 �
     × (shows (s₂ .chains) 4 (snapshotNow s₂) 6 ≡ record { row = 2; ptr = 1; xmin = 1 } ∷ [])
 unfolding computes
 met = (refl, refl, refl, refl, refl, refl, refl)
+
+-- the history of the run up to s₂: the two publishes
+told : (history (fresh sizes 1) (before ++ (rows 3 4 ∷ between)) ≡ record { row = 0; before = none; after = some 3; creator = 4; stamp = 5 } ∷ record { row = 2; before = none; after = some 6; creator = 1; stamp = 2 } ∷ [])
+    × (postingReplay (postingsOf (λ r. none)) (history (fresh sizes 1) before) 6 2 ≡ true) × (postingReplay (postingsOf (λ r. none)) (history (fresh sizes 1) before) 6 0 ≡ false)
+unfolding computes addEvents stepEvents historyOver postingReplay postingsOf remove insert
+told = (refl, refl, refl)

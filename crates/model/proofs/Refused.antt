@@ -199,7 +199,7 @@ unfolding checks
 abort-0 s t = rw (number-is s (abort t)) (ready-only s (abort t) _ (early s t))
 
 -- open: 1 exactly where a size is outside its range or the clock is 0
-pub open-1 : (z : Sizes) (clock : ℕ) → openNumber z clock ≡ 1 ↔ Outside (z .rows) mostRows ⊎ Outside (z .versions) mostVersions ⊎ Outside (z .buckets) mostBuckets ⊎ (clock < 1)
+pub open-1 : (z : Sizes) (clock : ℕ) → openNumber z clock ≡ 1 ↔ Outside (z .rows) mostRows ⊎ Outside (z .versions) mostVersions ⊎ Outside (z .buckets) mostBuckets ⊎ (clock ≡ 0)
 open-1 z clock = let c = cannot-open z clock in (λ e. c .0 (shut (canOpen z clock) e), λ o. rw (c .1 o))
   where
     shut : (b : Bool) → _≡_ {A = ℕ} (cond b 0 1) 1 → b ≡ false
