@@ -2,9 +2,10 @@
 KIT := rattle-kit-5b logic 064da1ca440f63e7
 LOGIC := $(lastword $(KIT))
 
-.PHONY: help kit test
+.PHONY: help kit demo test
 
 help:
+	@echo 'make demo    prove and build the program edges, and run it: the edges of document 01 on the leaf functions'
 	@echo 'make test    prove every crate, try the must-fail edits, run the programs'
 	@echo 'make help    this list'
 
@@ -12,6 +13,10 @@ help:
 kit:
 	@have=$$(rt version 2>/dev/null) || have='no rt on the PATH'; \
 	case "$$have" in *' $(LOGIC)') ;; *) echo "toruxeng is proved with '$(KIT)'; found: $$have" >&2; exit 1 ;; esac
+
+demo: kit
+	@rt check edges
+	@target/bin/edges
 
 test: kit
 	@rt ci
