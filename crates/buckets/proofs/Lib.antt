@@ -6,4 +6,3 @@ pub mod Checks
 pub mod Answers
 pub mod Indexed
 pub mod Upstream
-pub mod Edges

@@ -32,7 +32,6 @@ pub mod Outcomes
 pub mod UpstreamLaws
 pub mod Verdicts
 pub mod Events
-pub mod Edges
 pub mod Snapshots
 pub mod Traces
 pub mod Promises

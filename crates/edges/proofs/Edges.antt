@@ -1,24 +1,26 @@
--- The edges of document 01 that speak of the store: P1, P2 and P7 to P13, and the clock's, one table and one claim. Assumes nothing.
--- P3 to P6 speak of bucket lists: they stand with P1 and P2 in the crate `buckets`, which this one does not lean on.
+-- The edges of document 01, P1 to P13 and the clock's: one table, one claim.
+-- Assumes nothing.
 use mathlib.Core.Path.{_≡_, refl}
 use mathlib.Core.Bool.{Bool, true, false}
 use mathlib.Core.Option.{none, some}
 use mathlib.Core.List.{List, [], _∷_, map}
 use Prim.Native.Nat.{ℕ}
 use Rattle.model.specs.Lists.{least}
 use Rattle.model.specs.Table.{update}
 use Rattle.model.specs.Store.{Sizes, Chains, Write, Txn, Store, Open, noTxn, fresh}
 use Rattle.model.specs.Seeing.{firstVisible, matches}
 use Rattle.model.specs.Verdict.{badRecord}
 use Rattle.model.specs.Refusals.{begin, capture}
 use Rattle.model.specs.Machine.{answerNumber, step}
 use Rattle.model.proofs.Computes.{computes}
+use Rattle.buckets.specs.Buckets.{precedes, Told, listed, error, told, canonicalOf}
 
--- an answer of the model: a test's, a pointer (0 for none), or a number of the table
+-- what is said: a test's answer, a pointer (0 for none), a number of the table, or what a bucket list gives
 pub data Said : Type 0 where
   is : Bool → Said
   points : ℕ → Said
   numbered : ℕ → Said
+  buckets : Told → Said
 
 -- what the definitions say of an edge, and what document 01 says
 pub record Edge : Type 0 where
@@ -61,10 +63,20 @@ abbrev stamped : ℕ → Store
 stamped n = let s = fresh small 6 in
     record { sizes = small; clock = 6; chains = s .chains; index = record { stamp = λ b. n; posted = λ r. none }; held = s .held; txns = update (λ i. noTxn) 0 (five [] []) }
 
+-- a bucket list of a count, in a place as long as the list
+abbrev list : List ℕ → ℕ → Said
+list input count = let m = canonicalOf input count input in buckets (told (m .answer) (m .out))
+
 abbrev pub edges : List Edge
 edges =
     edge (numbered (answerNumber (step (stamped 4) (capture 5 1) .answer))) (numbered 0)  -- P1: accepted
     ∷ edge (numbered (answerNumber (step (stamped 5) (capture 5 1) .answer))) (numbered 8)  -- P2: refused
+    ∷ edge (is (precedes 4 5)) (is true)  -- P1, the leaf function
+    ∷ edge (is (precedes 5 5)) (is false)  -- P2, the leaf function
+    ∷ edge (list (3 ∷ 1 ∷ 3 ∷ []) 4) (buckets (listed (1 ∷ 3 ∷ [])))  -- P3
+    ∷ edge (list (1 ∷ 9 ∷ 4 ∷ []) 4) (buckets (error 9))  -- P4
+    ∷ edge (list (4095 ∷ []) 4096) (buckets (listed (4095 ∷ [])))  -- P5: kept
+    ∷ edge (list (4096 ∷ []) 4096) (buckets (error 4096))  -- P6
     ∷ edge (is (bad 5)) (is false)  -- P7: clear
     ∷ edge (is (bad 6)) (is true)  -- P8: bad
     ∷ edge (is (bad 3)) (is true)  -- P9: bad
@@ -78,5 +90,5 @@ edges =
     ∷ []
 
 pub edges-hold : map (λ (e : Edge). e .here) edges ≡ map (λ (e : Edge). e .paper) edges
-unfolding computes
+unfolding computes canonicalOf
 edges-hold = refl
