@@ -1,10 +1,14 @@
 -- What the code holds of an answer are its number and its values, and the line is the model's.
 -- Assumes nothing.
-use Prim.Native.Nat.{ℕ}
+use borrow.Author.Tests.{leb-true, leb-false}
+use Prim.Native.Nat.{ℕ, min}
+use mathlib.Core.Bool.{Bool, true, false}
+use mathlib.Core.List.{_++_, List, _∷_}
 use mathlib.Core.Path.{_≡_, refl}
-use mathlib.Core.List.{List, [], _∷_}
-use lib.ListN.{length, drop}
-use lib.Seq.{take-append-seam}
+use native.Mathlib.Omega.{arith}
+use lib.Dec.{leb}
+use lib.ListN.{length, take, drop}
+use lib.Seq.{take-all, take-append-seam}
 use Rattle.model.specs.Report.{wordOf, line, answerLine}
 use Rattle.protocol.specs.View.{asked, told}
 use Rattle.protocol.specs.declared.Step.{Step}
@@ -12,7 +16,7 @@ use Rattle.protocol.specs.declared.Verdict.{Verdict}
 use Rattle.protocol.specs.declared.Answer.{Answer}
 use Rattle.report.specs.declared.Numbers.{Numbers}
 use Rattle.report.specs.Lines.{numberOf, verdictValues, valuesOf, lineFor}
-use Rattle.report.specs.Held.{verdictHeld, numberHeld, heldOf, numbersWith}
+use Rattle.report.specs.Held.{verdictHeld, heldOf, numbersWith}
 use Rattle.model.specs.Verdict as judged
 use Rattle.model.specs.Machine as machine
 use Rattle.protocol.specs.declared.Verdict.the-variants as verdict
@@ -34,12 +38,18 @@ says (tell.Rows n) rows = refl
 says (tell.Judged v) rows = verdict-says v rows
 says (tell.Refused number) rows = refl
 
--- the line that is written for an answer
-pub line-said : (s : Step) (a : Answer) (rows w : List ℕ) (n : Numbers) → n ≡ heldOf a → w ≡ wordOf (asked s) → line w (numbersWith n rows) ≡ lineFor s a rows
-line-said s a rows w n en ew = rw (en, ew, says a rows)
+-- as many rows as there are
+take-least-by : (l : List ℕ) (n : ℕ) (b : Bool) → leb n (length l) ≡ b → take (min n (length l)) l ≡ take n l
+take-least-by l n true t = let h = leb-true n (length l) t in let e : min n (length l) ≡ n = omega arith in rw e
+take-least-by l n false t =
+    let h = leb-false n (length l) t in
+    let e : min n (length l) ≡ length l = omega arith in
+    rw (e, take-all (length l) l (omega arith), take-all n l (omega arith))
 
-pub line-alone : (m : ℕ) (w rows : List ℕ) (n : Numbers) → n ≡ numberHeld m → line w (numbersWith n rows) ≡ line w (m ∷ [])
-line-alone m w rows n en = rw en
+-- the line that is written for an answer: the word, what is held of the answer, and k rows
+pub line-said : (s : Step) (a : Answer) (rows w : List ℕ) (n : Numbers) (k : ℕ) → w ≡ wordOf (asked s) → n ≡ heldOf a → k ≡ min (n .rows) (length rows)
+    → line w (take (n .count) (n .list) ++ take k rows) ≡ lineFor s a rows
+line-said s a rows w n k ew en ek = rw (ew, ek, take-least-by rows (n .rows) (leb (n .rows) (length rows)) refl, en, says a rows)
 
 -- the line of an answer of the model, told with its rows at the front of the lent list, is the model's
 judged-line : (s : Step) (v : judged.Verdict) (lent : List ℕ) → lineFor s (told (machine.Judged v)) lent ≡ answerLine (asked s) (machine.Judged v)

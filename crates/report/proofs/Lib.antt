@@ -1,5 +1,1 @@
-pub mod Laid
-pub mod Digits
-pub mod Spaced
 pub mod Answers
-pub mod Writing

@@ -1,18 +1,13 @@
--- The line of an answer, and a line in the lent report.
+-- The line of an answer, with document 01's number and values for each.
 -- document 01's number for each answer
-use Prim.Native.Nat.{ℕ, _+_, min}
-use mathlib.Core.Bool.{cond}
-use mathlib.Core.List.{List, [], _∷_, _++_}
-use lib.Dec.{leb}
-use lib.ListN.{length, take, drop}
+use Prim.Native.Nat.{ℕ}
+use mathlib.Core.List.{List, [], _∷_}
+use lib.ListN.{take}
 use Rattle.model.specs.Report.{openWord, badWord, wordOf, line}
-use Rattle.model.specs.Replay.{mostRoom}
 use Rattle.protocol.specs.View.{asked}
 use Rattle.protocol.specs.declared.Step.{Step}
 use Rattle.protocol.specs.declared.Verdict.{Verdict}
 use Rattle.protocol.specs.declared.Answer.{Answer}
-use Rattle.report.specs.declared.Wrote.{Wrote}
-use Rattle.report.specs.declared.Wrote.the-variants.{Next, Full}
 use Rattle.protocol.specs.declared.Verdict.the-variants as verdict
 use Rattle.protocol.specs.declared.Answer.the-variants as tell
 
@@ -51,19 +46,3 @@ openLine number = line openWord (number ∷ [])
 
 abbrev pub badLine : List ℕ
 badLine = line badWord (15 ∷ [])
-
--- old, with the text over it from `at` on
-abbrev pub laid : List ℕ → ℕ → List ℕ → List ℕ
-laid old at text = take at old ++ text ++ drop (at + length text) old
-
--- where the next line begins, and the lent report afterwards
-pub record Written : Type 0 where
-  pub wrote : Wrote
-  pub report : List ℕ
-
--- a line from `at` on, or nothing where it does not fit; room beyond 4,294,967,295 bytes is not used
-unfoldable pub writtenAt : List ℕ → ℕ → List ℕ → Written
-writtenAt old at text =
-    cond (leb (at + length text) (min (length old) mostRoom))
-    (record { wrote = Next (at + length text); report = laid old at text })
-    (record { wrote = Full; report = old })

@@ -6,11 +6,11 @@ use mathlib.Core.List.{List, [], _∷_, _++_, append-assoc, append-nil}
 use native.Mathlib.Numerals.{add-one}
 use native.Mathlib.Omega.{arith}
 use lib.ListN.{length, take, drop, getD, set, length-append, take-append-drop}
-use lib.Seq.{take-suc, take-take}
+use lib.Seq.{take-suc}
 use Rattle.model.specs.Report.{decimal, spaced, line}
-use Rattle.report.specs.Lines.{laid}
-use Rattle.report.proofs.Laid.{then-store, then-text}
-use Rattle.report.proofs.Digits.{some-long}
+use Rattle.lines.specs.Lines.{laid}
+use Rattle.lines.proofs.Laid.{then-store, then-text}
+use Rattle.lines.proofs.Digits.{some-long}
 
 pub spaced-append : (a b : List ℕ) → spaced (a ++ b) ≡ spaced a ++ spaced b
 unfolding spaced
@@ -25,27 +25,26 @@ module _ (l : List ℕ) (i : ℕ) where
   pub next-long : i < length l → length (spaced (take (i + 1) l)) ≡ length (spaced (take i l)) + 1 + length (decimal (getD l i 0))
   next-long h = rw (spaced-next h, length-append, length-append)
 
-  pub spaced-within : (n : ℕ) → i ≤ n → length (spaced (take i l)) ≤ length (spaced (take n l))
-  spaced-within n h =
-      let e : take i l ++ drop i (take n l) ≡ take n l = rw (← take-take i n l h) (take-append-drop i (take n l)) in
-      rw (← e, spaced-append (take i l) (drop i (take n l)), length-append) (omega arith)
-
--- the next number has its room
-pub spaced-room : (l : List ℕ) (i n : ℕ) → i < n → n ≤ length l → length (spaced (take i l)) + 1 + length (decimal (getD l i 0)) ≤ length (spaced (take n l))
-spaced-room l i n h k = let next = next-long l i (omega arith) in let within = spaced-within l (i + 1) n (omega arith) in omega arith
+  -- the next number has its room
+  pub spaced-room : i < length l → length (spaced (take i l)) + 1 + length (decimal (getD l i 0)) ≤ length (spaced l)
+  spaced-room h =
+      let next = next-long h in
+      let whole : length (spaced l) ≡ length (spaced (take (i + 1) l)) + length (spaced (drop (i + 1) l)) =
+      rw (← length-append, ← spaced-append, take-append-drop (i + 1) l) in
+      omega arith
 
 -- a space and the next number, laid after those before it
-pub spaced-laid : (old l new list : List ℕ) (at p r i n : ℕ) → i < n → n ≤ length list → at + length (spaced (take n list)) ≤ length old
+pub spaced-laid : (old l new list : List ℕ) (at p r i : ℕ) → i < length list → at + length (spaced list) ≤ length old
     → l ≡ laid old at (spaced (take i list)) → p ≡ at + length (spaced (take i list))
     → new ≡ laid (set l p 32) (p + 1) (decimal (getD list i 0)) → r ≡ p + 1 + length (decimal (getD list i 0))
     → (r ≡ at + length (spaced (take (i + 1) list))) × (new ≡ laid old at (spaced (take (i + 1) list)))
-spaced-laid old l new list at p r i n h k fits el ep en er =
+spaced-laid old l new list at p r i h fits el ep en er =
     let s = spaced (take i list) in
-    let room = spaced-room list i n h k in
-    let next = next-long list i (omega arith) in
+    let room = spaced-room list i h in
+    let next = next-long list i h in
     let long : length (s ++ (32 ∷ [])) ≡ length s + 1 = simp length-append in
     let space = then-store old at s l p el ep 32 (omega arith) in
-    (omega arith, rw (spaced-next list i (omega arith)) (then-text old at (s ++ (32 ∷ [])) (set l p 32) (p + 1) space (omega arith) (decimal (getD list i 0)) new (omega arith) en))
+    (omega arith, rw (spaced-next list i h) (then-text old at (s ++ (32 ∷ [])) (set l p 32) (p + 1) space (omega arith) (decimal (getD list i 0)) new (omega arith) en))
 
 -- each number has a space and a digit
 pub spaced-least : (l : List ℕ) → 2 * length l ≤ length (spaced l)

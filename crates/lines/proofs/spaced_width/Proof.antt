@@ -1,20 +1,21 @@
--- `report::spaced_width` meets its contract.
+-- `lines::spaced_width` meets its contract.
 -- Assumes nothing.
 use borrow.Author.Needs.{needs}
 use Prim.Native.Nat.{_*_, _-_, _≤_}
 use mathlib.Core.Path.{_≡_, refl}
 use native.Mathlib.Omega.{arith}
 use lib.ListN.{length, take}
+use lib.Seq.{take-length}
 use Rattle.model.specs.Report.{spaced}
-use Rattle.report.proofs.Spaced.{next-long}
-use Rattle.report.proofs.spaced_width.Statement.{statement}
-use Rattle.report.proofs.spaced_width.Tie as tie
+use Rattle.lines.proofs.Spaced.{next-long}
+use Rattle.lines.proofs.spaced_width.Statement.{statement}
+use Rattle.lines.proofs.spaced_width.Tie as tie
 
 abbrev Inv-loop : tie.InvT-loop
-Inv-loop list n long₀ i₀ long i = (i ≤ n) × (long ≡ length (spaced (take i list))) × (long ≤ 21 * i)
+Inv-loop list long₀ i₀ long i = (i ≤ length list) × (long ≡ length (spaced (take i list))) × (long ≤ 21 * i)
 
 abbrev μ-loop : tie.MeasureT-loop
-μ-loop list n long₀ i₀ long i = n - i
+μ-loop list long₀ i₀ long i = length list - i
 
 loop-holds : tie.Need-loop-holds Inv-loop μ-loop
 unfolding spaced
@@ -42,10 +43,10 @@ loop-less : tie.Need-loop-less Inv-loop μ-loop
 loop-less c = search needs
 
 loop-again : tie.Need-loop-again Inv-loop μ-loop
-loop-again c = let a = c .before .before .before .before .before .args in let l = c .before .before .before .loop in let next = next-long (a .list .now) (l .i) (omega arith) in let w = c .width .ensures .0 in (omega arith, omega arith, omega arith)
+loop-again c = let a = c .before .before .before .before .before .args in let l = c .before .before .before .loop in let next = next-long (a .list .now) (l .i) (c .before .before .loop-test .taken) in let w = c .width .ensures .0 in (omega arith, omega arith, omega arith)
 
 returns : tie.Need-returns Inv-loop μ-loop
-returns c = let l = c .before .loop in let e : l .i ≡ c .before .before .before .args .n = omega arith in (rw e at (l .inv .1), omega arith)
+returns c = let a = c .before .before .before .args in let l = c .before .loop in let e : l .i ≡ length (a .list .now) = omega arith in (rw (take-length (a .list .now)) at (rw e at (l .inv .1)), omega arith)
 
 pub spaced-width-spec : {M : Type 1} → statement M
 spaced-width-spec =

@@ -1,20 +1,18 @@
 -- A line written at the front of the rest of the report is laid in the whole report, or it does not fit.
 -- Assumes nothing.
-use borrow.Author.Tests.{leb-true, leb-false, le-leb, lt-leb}
+use borrow.Author.Tests.{le-leb, lt-leb}
 use Prim.Native.Nat.{ℕ, _+_, _-_, _<_, _≤_, min}
-use mathlib.Core.Path.{_≡_, refl, _∙_}
-use mathlib.Core.Bool.{Bool, true, false}
+use mathlib.Core.Path.{_≡_, _∙_}
 use mathlib.Core.List.{List, [], _++_, append-assoc, append-nil}
 use native.Mathlib.Omega.{arith}
-use lib.Dec.{leb}
 use lib.ListN.{length, take, drop, set, length-append, length-drop, drop-of-length-le}
 use lib.Seq.{take-all, drop-drop}
 use Rattle.model.specs.Report.{spaced, line}
 use Rattle.model.specs.Replay.{mostRoom}
-use Rattle.report.specs.declared.Wrote.the-variants.{Next, Full}
-use Rattle.report.specs.Lines.{laid, writtenAt}
-use Rattle.report.proofs.Laid.{then-store, then-text}
-use Rattle.report.proofs.Spaced.{spaced-append, line-long}
+use Rattle.lines.specs.declared.Wrote.the-variants.{Next, Full}
+use Rattle.lines.specs.Lines.{laid, writtenAt}
+use Rattle.lines.proofs.Laid.{then-store, then-text}
+use Rattle.lines.proofs.Spaced.{spaced-append, line-long}
 
 pub line-two-long : (w a b : List ℕ) → length (line w (a ++ b)) ≡ length w + length (spaced a) + length (spaced b) + 1
 line-two-long w a b = line-long w (a ++ b) ∙ rw (spaced-append a b, length-append) (omega arith)
@@ -34,16 +32,6 @@ module _ (old w a b l₁ l₂ l₃ : List ℕ) (p₁ p₂ p₃ : ℕ) (fits : le
       let s₃ = then-text old 0 (w ++ spaced a) l₂ p₂ s₂ (omega arith) (spaced b) l₃ (omega arith) e₃ in
       let text : w ++ spaced (a ++ b) ≡ w ++ spaced a ++ spaced b = rw (spaced-append a b) (simp append-assoc) in
       rw text (then-store old 0 (w ++ spaced a ++ spaced b) l₃ p₃ s₃ (omega arith) 10 (omega arith))
-
-take-least-by : (l : List ℕ) (n : ℕ) (b : Bool) → leb n (length l) ≡ b → take (min n (length l)) l ≡ take n l
-take-least-by l n true t = let h = leb-true n (length l) t in let e : min n (length l) ≡ n = omega arith in rw e
-take-least-by l n false t =
-    let h = leb-false n (length l) t in
-    let e : min n (length l) ≡ length l = omega arith in
-    rw (e, take-all (length l) l (omega arith), take-all n l (omega arith))
-
-pub take-least : (l : List ℕ) (n : ℕ) → take (min n (length l)) l ≡ take n l
-take-least l n = take-least-by l n (leb n (length l)) refl
 
 module _ (old : List ℕ) (at : ℕ) (text : List ℕ) where
   pub written-full : min (length old) mostRoom < at + length text → record { wrote = Full; report = old } ≡ writtenAt old at text

@@ -1,4 +1,4 @@
--- `report::put_digits` meets its contract.
+-- `lines::put_digits` meets its contract.
 -- Assumes nothing.
 use borrow.Author.Needs.{needs}
 use borrow.Fn.Kinds.{In}
@@ -7,13 +7,13 @@ use Prim.Native.Nat.{_/_, _%_, _+_, ℕ, _<_}
 use native.Mathlib.Omega.{arith}
 use lib.ListN.{length-set}
 use Rattle.model.specs.Report.{decimal}
-use Rattle.report.proofs.Digits.{decimal-one, decimal-more, one-long, more-long}
-use Rattle.report.proofs.Laid.{set-laid, then-store}
-use Rattle.report.proofs.+put_digits.{statement}
-use Rattle.report.proofs.put_digits.Reads as put-digits
-use Rattle.report.proofs.put_digits.Kinds as put-digits-kinds
-use Rattle.report.proofs.+put_digits.Lts-put_digits as put-digits-lts
-use Rattle.report.proofs.+put_digits.Tie.{close}
+use Rattle.lines.proofs.Digits.{decimal-one, decimal-more, one-long, more-long}
+use Rattle.lines.proofs.Laid.{set-laid, then-store}
+use Rattle.lines.proofs.+put_digits.{statement}
+use Rattle.lines.proofs.put_digits.Reads as put-digits
+use Rattle.lines.proofs.put_digits.Kinds as put-digits-kinds
+use Rattle.lines.proofs.+put_digits.Lts-put_digits as put-digits-lts
+use Rattle.lines.proofs.+put_digits.Tie.{close}
 
 abbrev μ-put-digits : Measures 1 put-digits-kinds.ps ℕ
 μ-put-digits κs a = a .1 .1 .0

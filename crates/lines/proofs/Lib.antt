@@ -1,0 +1,4 @@
+pub mod Laid
+pub mod Digits
+pub mod Spaced
+pub mod Writing
