@@ -157,3 +157,38 @@ pub fn record_at(log: &[u8], at: usize) -> Decoded
         next: at + 2 + size,
     }
 }
+
+// The log reader keeps the caller's bytes and its place.
+pub struct Reader<'a> {
+    pub log: &'a [u8],
+    pub at: usize,
+}
+
+impl<'a> Reader<'a> {
+    pub fn new(log: &'a [u8], at: usize) -> Reader<'a>
+        ensures { λ r. ⌜ (r .log ≡ log .entry) × (r .at ≡ at) ⌝ }
+    {
+        Reader { log, at }
+    }
+
+    // The record at its place.
+    pub fn next(self) -> Decoded
+        ensures { λ d. ⌜ d ≡ decodedOf (now (self .entry .log)) (self .entry .at) ⌝ }
+    {
+        record_at(self.log, self.at)
+    }
+
+    // The same bytes, from another place on.
+    pub fn moved(self, at: usize) -> Reader<'a>
+        ensures { λ r. ⌜ (r .log ≡ self .entry .log) × (r .at ≡ at) ⌝ }
+    {
+        Reader { log: self.log, at }
+    }
+}
+
+// The record that a reader gives at a place of the log.
+pub fn read_at(log: &[u8], at: usize) -> Decoded
+    ensures { λ d. ⌜ d ≡ decodedOf (now (log .entry)) at ⌝ }
+{
+    Reader::new(log, at).next()
+}
