@@ -1,0 +1,97 @@
+-- The step rows: what it answers, and the record, the lists and the lent list that it leaves.
+use Prim.Native.Nat.{ℕ, _+_, min}
+use mathlib.Core.Bool.{cond, not, _&&_, _||_}
+use mathlib.Core.List.{List, [], _∷_, _++_}
+use lib.Dec.{eqb, ltb}
+use lib.ListN.{length}
+use Rattle.limits.specs.Limits.{mostRows, mostWrites, mostRecords}
+use Rattle.model.specs.Lists.{member, pick}
+use Rattle.model.specs.Store.{rank, keyIn}
+use Rattle.protocol.specs.declared.Answer.the-variants as tell
+use Rattle.tables.specs.Fields.{xminOf}
+use Rattle.tables.specs.Lists.{records, candidatesOf, writesOf, recordsOf, stored}
+use Rattle.tables.specs.declared.lists.ReadRecord.{ReadRecord}
+use Rattle.scans.specs.Scans.{rowsWritten, pointers}
+use Rattle.buckets.specs.Buckets.{laid}
+use Rattle.record.specs.View.{phaseView}
+use Rattle.record.specs.Methods.{refusedOf}
+use Rattle.record.specs.declared.Phase.the-variants as phase
+use Rattle.record.specs.declared.Transaction.{Transaction}
+use Rattle.record.specs.declared.Answered.{Answered}
+use Rattle.reads.specs.Matching.{Look, look, matchOf, isMatch, throughOf}
+
+-- the rows kept as candidates, the own pending rows, and both; a count above its list's room acts as the room
+abbrev pub candidateRows : List ℕ → ℕ → ℕ → List ℕ
+candidateRows lists slot n = candidatesOf lists slot (min n mostRows)
+
+abbrev pub pendingRows : List ℕ → ℕ → ℕ → List ℕ
+pendingRows lists slot n = rowsWritten (writesOf lists slot (min n mostWrites))
+
+abbrev pub wantedRows : List ℕ → Transaction → List ℕ
+wantedRows lists t = candidateRows lists (t .slot) (t .«candidates_n») ++ pendingRows lists (t .slot) (t .«writes_n»)
+
+-- the rows of the store that are wanted and match, ascending; a row count above 256 acts as 256
+unfoldable pub matchedRows : Look → ℕ → List ℕ
+matchedRows l rowCount = pick (λ r. member r (wantedRows (l .lists) (l .txn)) && isMatch (matchOf l r)) 0 (min rowCount mostRows)
+
+-- the pointers that are recorded
+abbrev pub knownPointers : List ℕ → ℕ → ℕ → List ℕ
+knownPointers lists slot n = pointers (recordsOf lists slot (min n mostRecords))
+
+-- the pointer that a row is matched through, and its version as a read record
+abbrev pub through : Look → ℕ → ℕ
+through l r = throughOf (matchOf l r)
+
+abbrev pub recordFor : List ℕ → ℕ → ℕ → ReadRecord
+recordFor versions r p = record { row = r; ptr = p; xmin = xminOf versions p }
+
+-- for each row matched through a version whose pointer is not yet recorded, a record, in row order
+unfoldable pub newRecords : Look → List ℕ → List ℕ → List ReadRecord
+newRecords l known [] = []
+newRecords l known (r ∷ rs) =
+    cond (eqb (through l r) 0 || member (through l r) known) (newRecords l known rs)
+    (recordFor (l .versions) r (through l r) ∷ newRecords l (through l r ∷ known) rs)
+
+-- read records stored one behind the other, from entry n on
+unfoldable pub putRecords : List ℕ → ℕ → ℕ → List ReadRecord → List ℕ
+putRecords lists slot n [] = lists
+putRecords lists slot n (r ∷ rs) = putRecords (stored records lists slot n (r .row ∷ r .ptr ∷ r .xmin ∷ [])) slot (n + 1) rs
+
+-- a room above 256 counts as 256; the lent list may be shorter
+abbrev pub roomFor : ℕ → ℕ → ℕ
+roomFor room len = min (min room mostRows) len
+
+-- the transaction once its read is done: Open, without candidates
+abbrev pub readDone : Transaction → ℕ → Transaction
+readDone t n = record { number = t .number; snapshot = t .snapshot; marked = t .marked; phase = phase.Open; slot = t .slot; «reads_n» = t .«reads_n»; «writes_n» = t .«writes_n»; «records_n» = n; «candidates_n» = 0 }
+
+-- an answer, the lists and the lent list
+pub record LeftRows : Type 0 where
+  pub reply : Answered
+  pub lists : List ℕ
+  pub found : List ℕ
+
+abbrev pub refusedRows : Transaction → ℕ → List ℕ → List ℕ → LeftRows
+refusedRows t why lists found = record { reply = refusedOf t why; lists = lists; found = found }
+
+-- the rows and the new records, where they fit: a lent list too short, then more than 64 read records
+abbrev pub answerOf : List ℕ → List ℕ → Transaction → ℕ → List ℕ → List ReadRecord → LeftRows
+answerOf lists found t room rs new =
+    cond (ltb (roomFor room (length found)) (length rs)) (refusedRows t 10 lists found)
+    (cond (ltb mostRecords (t .«records_n» + length new)) (refusedRows t 11 lists found)
+    (record {
+      reply = record { answer = tell.Rows (length rs); txn = readDone t (t .«records_n» + length new) };
+      lists = putRecords lists (t .slot) (t .«records_n») new;
+      found = laid rs found;
+    }))
+
+-- a read of what is looked at
+unfoldable pub readOf : Look → ℕ → ℕ → List ℕ → LeftRows
+readOf l rowCount room found =
+    answerOf (l .lists) found (l .txn) room (matchedRows l rowCount) (newRecords l (knownPointers (l .lists) (l .txn .slot) (l .txn .«records_n»)) (matchedRows l rowCount))
+
+-- rows: wrong phase first
+unfoldable pub rowsOf : List ℕ → List ℕ → List ℕ → List ℕ → ℕ → ℕ → ℕ → Transaction → LeftRows
+rowsOf rows versions lists found rowCount used room t =
+    cond (not (eqb (rank (phaseView (t .phase))) 3)) (refusedRows t 5 lists found)
+    (readOf (look rows versions lists used t (keyIn (phaseView (t .phase)))) rowCount room found)
