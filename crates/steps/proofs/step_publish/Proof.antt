@@ -1,0 +1,37 @@
+-- `steps::step_publish` meets its contract.
+-- Assumes nothing.
+use borrow.Author.Needs.{needs}
+use Prim.Native.Nat.{_-_}
+use Rattle.steps.specs.Steps.{publishStep}
+use Rattle.steps.proofs.step_publish.Statement.{statement}
+use Rattle.steps.proofs.step_publish.Tie as tie
+
+publish-requires : tie.Need-publish-requires
+publish-requires c κs = search needs
+
+published-clock-requires : tie.Need-published-clock-requires
+published-clock-requires c κs = search needs
+
+with-clock-requires : tie.Need-with-clock-requires
+with-clock-requires c κs = search needs
+
+same-length : tie.Need-same-length
+same-length c = search needs
+
+same-length-2 : tie.Need-same-length-2
+same-length-2 c = search needs
+
+returns : tie.Need-returns
+unfolding publishStep
+returns c = rw (c .with-clock .ensures, c .before .published-clock .ensures, ← c .before .before .before .before .before .before .publish .ensures)
+
+pub step-publish-spec : {M : Type 1} → statement M
+step-publish-spec =
+    tie.close
+    (tie.spec
+    publish-requires
+    published-clock-requires
+    with-clock-requires
+    same-length
+    same-length-2
+    returns)

@@ -1,0 +1,178 @@
+-- One step over the words: what it answers, the record that goes back, and the tables.
+use Prim.Native.Nat.{ℕ, suc, _+_}
+use mathlib.Core.Bool.{Bool, true, false, cond, not, _&&_, _||_}
+use mathlib.Core.List.{List, [], _∷_}
+use lib.Dec.{eqb}
+use Rattle.model.specs.Store.{rank}
+use Rattle.protocol.specs.declared.Step.{Step}
+use Rattle.protocol.specs.declared.Step.the-variants as ask
+use Rattle.protocol.specs.declared.Answer.{Answer}
+use Rattle.protocol.specs.declared.Answer.the-variants as tell
+use Rattle.record.specs.View.{phaseView}
+use Rattle.record.specs.Methods as methods
+use Rattle.record.specs.declared.Phase.{Phase}
+use Rattle.record.specs.declared.Transaction.{Transaction}
+use Rattle.record.specs.declared.Answered.{Answered}
+use Rattle.begin.specs.Begin.{beginOf}
+use Rattle.begin.specs.declared.Begun.{Begun}
+use Rattle.install.specs.Install as install
+use Rattle.install.specs.declared.Installed.{Installed}
+use Rattle.publish.specs.Publish as publish
+use Rattle.prepare.specs.Prepare as prepare
+use Rattle.reads.specs.Rows as reads
+use Rattle.steps.specs.declared.Sizes.{Sizes}
+use Rattle.steps.specs.declared.Others.{Others}
+use Rattle.steps.specs.declared.Stepped.{Stepped}
+
+-- the number that a step names; 0, a free place's, for begin
+abbrev pub wantedOf : Step → ℕ
+wantedOf ask.Begin = 0
+wantedOf (ask.Capture t k) = t
+wantedOf (ask.Collect t) = t
+wantedOf (ask.Rows t room) = t
+wantedOf (ask.Put t r k payload) = t
+wantedOf (ask.Erase t r) = t
+wantedOf (ask.Prepare t) = t
+wantedOf (ask.Install t) = t
+wantedOf (ask.End t) = t
+wantedOf (ask.Publish t) = t
+wantedOf (ask.Validate t) = t
+wantedOf (ask.Abort t) = t
+
+abbrev pub isBegin : Step → Bool
+isBegin ask.Begin = true
+isBegin (ask.Capture t k) = false
+isBegin (ask.Collect t) = false
+isBegin (ask.Rows t room) = false
+isBegin (ask.Put t r k payload) = false
+isBegin (ask.Erase t r) = false
+isBegin (ask.Prepare t) = false
+isBegin (ask.Install t) = false
+isBegin (ask.End t) = false
+isBegin (ask.Publish t) = false
+isBegin (ask.Validate t) = false
+isBegin (ask.Abort t) = false
+
+-- the record that comes in is not the one that the step names
+unfoldable pub missesOf : ℕ → Step → Bool
+missesOf number s = not (isBegin s) && (eqb (wantedOf s) 0 || not (eqb number (wantedOf s)))
+
+-- the first place with this number, counted from k; place 0 where there is none
+unfoldable pub placeFrom : ℕ → List ℕ → ℕ → ℕ
+placeFrom k [] n = 0
+placeFrom k (x ∷ xs) n = cond (eqb x n) k (placeFrom (suc k) xs n)
+
+abbrev pub placeIn : List ℕ → ℕ → ℕ
+placeIn numbers n = placeFrom 0 numbers n
+
+-- a place's number while it is active
+abbrev pub activeNumber : ℕ → Phase → ℕ
+activeNumber n ph = cond (eqb (rank (phaseView ph)) 6) 0 n
+
+-- the pending writes that a live Prepared transaction has reserved versions for
+abbrev pub preparedCount : ℕ → Phase → ℕ → ℕ
+preparedCount n ph writes = cond (eqb n 0) 0 (cond (eqb (rank (phaseView ph)) 4) writes 0)
+
+-- how many places are not free
+abbrev pub oneLive : ℕ → ℕ → ℕ
+oneLive n x = cond (eqb x 0) n (n + 1)
+
+unfoldable pub liveFrom : ℕ → List ℕ → ℕ
+liveFrom n [] = n
+liveFrom n (x ∷ xs) = liveFrom (oneLive n x) xs
+
+abbrev pub liveIn : List ℕ → ℕ
+liveIn numbers = liveFrom 0 numbers
+
+-- the parts that a step leaves alone put beside the others
+abbrev pub withClock : Answered → ℕ → ℕ → Stepped
+withClock a clock used = record { answer = a .answer; txn = a .txn; clock = clock; used = used }
+
+abbrev pub withBegun : Begun → ℕ → Stepped
+withBegun b used = record { answer = b .answer; txn = b .txn; clock = b .clock; used = used }
+
+abbrev pub withInstalled : Installed → ℕ → Stepped
+withInstalled i clock = record { answer = i .answer; txn = i .txn; clock = clock; used = i .used }
+
+-- clock up by 1 where a stamp was given
+abbrev pub clockAfter : Answer → ℕ → ℕ
+clockAfter (tell.Stamp n) clock = install.oneMore clock
+clockAfter tell.Done clock = clock
+clockAfter (tell.Number n) clock = clock
+clockAfter (tell.Count n) clock = clock
+clockAfter (tell.Rows n) clock = clock
+clockAfter (tell.Judged v) clock = clock
+clockAfter (tell.Refused n) clock = clock
+
+pub record Published : Type 0 where
+  pub stepped : Stepped
+  pub rows : List ℕ
+  pub buckets : List ℕ
+
+abbrev pub publishedFrom : publish.Left → ℕ → ℕ → Published
+publishedFrom l clock used = record { stepped = withClock (l .reply) (clockAfter (l .reply .answer) clock) used; rows = l .rows; buckets = l .buckets }
+
+unfoldable pub publishStep : List ℕ → List ℕ → ℕ → Transaction → ℕ → ℕ → List ℕ → List ℕ → Published
+publishStep versions lists count t clock used rows buckets = publishedFrom (publish.publishOf versions lists count clock t rows buckets) clock used
+
+-- the lent tables, and the lent row list
+pub record Tables : Type 0 where
+  pub rows : List ℕ
+  pub versions : List ℕ
+  pub buckets : List ℕ
+  pub lists : List ℕ
+  pub found : List ℕ
+
+-- all that a step leaves
+pub record Moved : Type 0 where
+  pub stepped : Stepped
+  pub rows : List ℕ
+  pub versions : List ℕ
+  pub buckets : List ℕ
+  pub lists : List ℕ
+  pub found : List ℕ
+
+abbrev pub stays : Stepped → Tables → Moved
+stays st b = record { stepped = st; rows = b .rows; versions = b .versions; buckets = b .buckets; lists = b .lists; found = b .found }
+
+abbrev pub inBuckets : methods.Left → ℕ → ℕ → Tables → Moved
+inBuckets l clock used b = record { stepped = withClock (l .reply) clock used; rows = b .rows; versions = b .versions; buckets = l .buckets; lists = l .lists; found = b .found }
+
+abbrev pub inLists : methods.LeftLists → ℕ → ℕ → Tables → Moved
+inLists l clock used b = record { stepped = withClock (l .reply) clock used; rows = b .rows; versions = b .versions; buckets = b .buckets; lists = l .lists; found = b .found }
+
+abbrev pub inFound : reads.LeftRows → ℕ → ℕ → Tables → Moved
+inFound l clock used b = record { stepped = withClock (l .reply) clock used; rows = b .rows; versions = b .versions; buckets = b .buckets; lists = l .lists; found = l .found }
+
+abbrev pub inPrepared : prepare.Left → ℕ → ℕ → Tables → Moved
+inPrepared l clock used b = record { stepped = withClock (l .reply) clock used; rows = l .rows; versions = b .versions; buckets = l .buckets; lists = b .lists; found = b .found }
+
+abbrev pub inInstalled : install.Left → ℕ → Tables → Moved
+inInstalled l clock b = record { stepped = withInstalled (l .reply) clock; rows = l .rows; versions = l .versions; buckets = b .buckets; lists = b .lists; found = b .found }
+
+abbrev pub inPublished : Published → Tables → Moved
+inPublished l b = record { stepped = l .stepped; rows = l .rows; versions = b .versions; buckets = l .buckets; lists = b .lists; found = b .found }
+
+abbrev pub inAborted : publish.Left → ℕ → ℕ → Tables → Moved
+inAborted l clock used b = record { stepped = withClock (l .reply) clock used; rows = l .rows; versions = b .versions; buckets = l .buckets; lists = b .lists; found = b .found }
+
+-- by the kind of step
+abbrev pub doneBy : Sizes → Others → Transaction → ℕ → ℕ → Step → Tables → Moved
+doneBy z o t clock used ask.Begin b = stays (withBegun (beginOf (o .active) (liveIn (o .numbers)) clock t) used) b
+doneBy z o t clock used (ask.Capture n k) b = inBuckets (methods.captureOf (z .buckets) t k (b .buckets) (b .lists)) clock used b
+doneBy z o t clock used (ask.Collect n) b = inBuckets (methods.collectOf (b .rows) (z .rows) t (b .buckets) (b .lists)) clock used b
+doneBy z o t clock used (ask.Rows n room) b = inFound (reads.rowsOf (b .rows) (b .versions) (b .lists) (b .found) (z .rows) used room t) clock used b
+doneBy z o t clock used (ask.Put n r k payload) b = inLists (methods.writeOf (z .rows) t (record { row = r; keyed = 1; key = k; payload = payload }) (b .lists)) clock used b
+doneBy z o t clock used (ask.Erase n r) b = inLists (methods.writeOf (z .rows) t (record { row = r; keyed = 0; key = 0; payload = 0 }) (b .lists)) clock used b
+doneBy z o t clock used (ask.Prepare n) b = inPrepared (prepare.prepareOf (b .versions) (b .lists) (z .buckets) (z .versions) used (o .prepared) t (b .rows) (b .buckets)) clock used b
+doneBy z o t clock used (ask.Install n) b = inInstalled (install.installOf (b .lists) t (record { rows = b .rows; versions = b .versions; used = used })) clock b
+doneBy z o t clock used (ask.End n) b = stays (withClock (publish.endOf t) clock used) b
+doneBy z o t clock used (ask.Publish n) b = inPublished (publishStep (b .versions) (b .lists) (z .buckets) t clock used (b .rows) (b .buckets)) b
+doneBy z o t clock used (ask.Validate n) b = stays (withClock (prepare.validateOf (b .versions) (b .buckets) (b .lists) t) clock used) b
+doneBy z o t clock used (ask.Abort n) b = inAborted (publish.abortOf (b .versions) (b .lists) (z .buckets) t (b .rows) (b .buckets)) clock used b
+
+-- no live transaction has this number; else the step
+unfoldable pub stepOf : Sizes → Others → Transaction → ℕ → ℕ → Step → Tables → Moved
+stepOf z o t clock used s b =
+    cond (missesOf (t .number) s) (stays (record { answer = tell.Refused 4; txn = t; clock = clock; used = used }) b)
+    (doneBy z o t clock used s b)
