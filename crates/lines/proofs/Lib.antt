@@ -2,3 +2,4 @@ pub mod Laid
 pub mod Digits
 pub mod Spaced
 pub mod Writing
+pub mod Reported

@@ -1,5 +1,4 @@
 -- A line in the lent report.
--- old, with the text over it from `at` on
 use Prim.Native.Nat.{ℕ, _+_, min}
 use mathlib.Core.Bool.{cond}
 use mathlib.Core.List.{List, _++_}
@@ -9,6 +8,7 @@ use Rattle.model.specs.Replay.{mostRoom}
 use Rattle.lines.specs.declared.Wrote.{Wrote}
 use Rattle.lines.specs.declared.Wrote.the-variants.{Next, Full}
 
+-- old, with the text over it from `at` on
 abbrev pub laid : List ℕ → ℕ → List ℕ → List ℕ
 laid old at text = take at old ++ text ++ drop (at + length text) old
 

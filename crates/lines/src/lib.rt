@@ -59,11 +59,11 @@ fn put_digits(out: &mut [u8], at: usize, n: u64) -> usize
     ensures { λ r. ⌜ (r ≡ at + length (decimal n)) × (now (out .exit) ≡ laid (now (out .entry)) at (decimal n)) ⌝ }
 {
     if n < 10 {
-        out[at] = 48 + n as u8;
+        out[at] = b'0' + n as u8;
         return at + 1;
     }
     let p = put_digits(out, at, n / 10);
-    out[p] = 48 + (n % 10) as u8;
+    out[p] = b'0' + (n % 10) as u8;
     p + 1
 }
 
@@ -75,7 +75,7 @@ fn put_spaced(out: &mut [u8], at: usize, list: &[u64]) -> usize
     let mut p = at;
     let mut i = 0;
     while i < list.len() {
-        out[p] = 32;
+        out[p] = b' ';
         p = put_digits(out, p + 1, list[i]);
         i += 1;
     }
@@ -90,9 +90,10 @@ fn put_line(rest: &mut [u8], word: &[u8], numbers: &[u64], rows: &[u64])
     let a = put_word(rest, word);
     let b = put_spaced(rest, a, numbers);
     let end = put_spaced(rest, b, rows);
-    rest[end] = 10;
+    rest[end] = b'\n';
 }
 
+// The lesser of two lengths.
 pub fn least(a: usize, b: usize) -> usize
     ensures { λ r. ⌜ r ≡ min a b ⌝ }
 {

@@ -1,6 +1,5 @@
 -- What is read at a place of the log, from the length and the kind that stand there.
 -- Assumes nothing.
--- the fields of the records that have more than one, each from its place
 use borrow.Author.Tests.{ne-eqb, eq-eqb, lt-leb, le-leb}
 use Prim.Native.Nat.{ℕ, _+_, _-_, _≤_, _<_}
 use mathlib.Core.Path.{_≡_, _∙_}
@@ -16,6 +15,7 @@ use Rattle.log.specs.Records.{lengthOf, fieldIn, askedOf, commandIn, mal
 use Rattle.log.proofs.Known.{fits-length}
 use Rattle.protocol.specs.declared.Step.the-variants as ask
 
+-- the fields of the records that have more than one, each from its place
 module _ (log : List ℕ) (at : ℕ) where
   pub opened : commandIn 1 (drop at log)
       ≡ Open (number (take 4 (drop at log))) (number (take 4 (drop (at + 4) log))) (number (take 4 (drop (at + 8) log))) (number (take 8 (drop (at + 12) log)))

@@ -1,6 +1,5 @@
 -- Both ways: what is read are the bytes of its command, and every command within the limits is read from its bytes.
 -- Assumes nothing.
--- ---- a number and its bytes
 use borrow.Author.Tests.{eqb-true, le-leb, eq-eqb}
 use Prim.Native.Nat.{ℕ, zero, suc, _+_, _*_, _/_, _%_, _^_, _≤_, _<_}
 use mathlib.Core.Path.{_≡_, refl, sym, ap, _∙_}
@@ -18,6 +17,7 @@ use Rattle.log.specs.Records.{lengthOf, fieldIn}
 use Rattle.log.proofs.Known.{Each, one-of, known-of}
 use Rattle.log.proofs.Reading.{whole-facts, read-whole, read-none}
 
+-- ---- a number and its bytes
 pub in-long : (w n : ℕ) → length (inBytes w n) ≡ w
 unfolding inBytes
 in-long zero n = refl

@@ -1,6 +1,5 @@
 -- The known kinds, and the lengths of their records.
 -- Assumes nothing.
--- P holds of k, and of the n - 1 numbers after it
 use borrow.Author.Tests.{eqb-true, eqb-false, leb-true, leb-false, ne-eqb, lt-leb, le-leb}
 use Prim.Native.Nat.{ℕ, zero, suc, _+_, _≤_, _<_}
 use mathlib.Core.Path.{_≡_, refl, sym}
@@ -12,6 +11,7 @@ use lib.Dec.{eqb, leb}
 use Rattle.model.specs.Log.{widths, total, fits}
 use Rattle.log.specs.Records.{lengthOf, lengthWith}
 
+-- P holds of k, and of the n - 1 numbers after it
 abbrev pub Each : (ℕ → Type 0) → ℕ → ℕ → Type 0
 Each P k zero = Unit {0}
 Each P k (suc n) = P k × Each P (suc k) n

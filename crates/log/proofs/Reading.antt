@@ -1,6 +1,5 @@
 -- What a caller knows of a record that was read: the model's command, and that its place moves on within the log.
 -- Assumes nothing.
--- a step that is told is the one that is asked for
 use borrow.Author.Tests.{leb-true}
 use Prim.Native.Nat.{ℕ, _+_, _-_, _≤_, _<_}
 use mathlib.Core.Path.{_≡_, refl, sym, ap, _∙_}
@@ -20,6 +19,7 @@ use Rattle.log.specs.declared.Command.the-variants.{Open, Ask, Malformed
 use Rattle.log.specs.Records.{stepTold, commandTold, malformedAt, decodedOf, fieldIn}
 use Rattle.model.specs.Refusals as model
 
+-- a step that is told is the one that is asked for
 pub asked-told : (a : model.Step) → asked (stepTold a) ≡ a
 asked-told model.begin = refl
 asked-told (model.capture t k) = refl

@@ -1,11 +1,11 @@
 -- The bytes of a record, as document 01 lays them out.
--- n in w bytes, the lowest first
 use Prim.Native.Nat.{ℕ, zero, suc, _+_, _/_, _%_, _<_, _^_}
 use mathlib.Core.List.{List, [], _∷_, _++_}
 use lib.ListN.{length}
 use Rattle.model.specs.Refusals.{begin, capture, collect, rows, put, erase, prepare, install, end, publish, validate, abort}
 use Rattle.model.specs.Log.{Command, Opening, Asking}
 
+-- n in w bytes, the lowest first
 unfoldable pub inBytes : ℕ → ℕ → List ℕ
 inBytes zero n = []
 inBytes (suc w) n = n % 256 ∷ inBytes w (n / 256)
@@ -21,6 +21,7 @@ eight n = (8, n)
 abbrev pub four : ℕ → Field
 four n = (4, n)
 
+-- the kinds
 abbrev pub kindOf : Command → ℕ
 kindOf (Opening z clock) = 1
 kindOf (Asking begin) = 2
@@ -36,6 +37,7 @@ kindOf (Asking (publish t)) = 11
 kindOf (Asking (validate t)) = 12
 kindOf (Asking (abort t)) = 13
 
+-- the fields behind the kind, in their order
 abbrev pub fieldsIn : Command → List Field
 fieldsIn (Opening z clock) = four (z .rows) ∷ four (z .versions) ∷ four (z .buckets) ∷ eight clock ∷ []
 fieldsIn (Asking begin) = []
@@ -60,6 +62,7 @@ laidOut (f ∷ fs) = inBytes (f .0) (f .1) ++ laidOut fs
 unfoldable pub framed : ℕ → List Field → List ℕ
 framed kind fs = inBytes 2 (2 + length (laidOut fs)) ++ inBytes 2 kind ++ laidOut fs
 
+-- a command's bytes
 unfoldable pub bytesOf : Command → List ℕ
 bytesOf c = framed (kindOf c) (fieldsIn c)
 

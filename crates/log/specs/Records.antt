@@ -1,5 +1,4 @@
 -- A record of the log as the code tells it: the model's `readRecord` at a place of the bytes.
--- how a step is told
 use Prim.Native.Nat.{ℕ, _+_}
 use mathlib.Core.Option.{Option, none, some}
 use mathlib.Core.List.{List}
@@ -12,6 +11,7 @@ use Rattle.model.specs.Refusals as model
 use Rattle.model.specs.Log as bytes
 use Rattle.protocol.specs.declared.Step.the-variants as ask
 
+-- how a step is told
 abbrev pub stepTold : model.Step → Step
 stepTold model.begin = ask.Begin
 stepTold (model.capture t k) = ask.Capture t k
@@ -40,14 +40,16 @@ abbrev pub decodedAs : List ℕ → ℕ → Option (bytes.Command × List ℕ) �
 decodedAs log at none = malformedAt at
 decodedAs log at (some c) = record { command = commandTold (c .0); next = at + 2 + bytes.lengthIn (drop at log) }
 
+-- the record at a place of the log
 unfoldable pub decodedOf : List ℕ → ℕ → Decoded
 decodedOf log at = decodedAs log at (bytes.readRecord (drop at log))
 
--- the length of a record of this kind: 2 for the kind, and its fields; of an unknown kind one that two bytes cannot say
+-- 2 for the kind, and its fields; for an unknown kind a length that two bytes cannot say
 abbrev pub lengthWith : Option (List ℕ) → ℕ
 lengthWith none = 65536
 lengthWith (some ws) = 2 + bytes.total ws
 
+-- the length that a kind's record says
 unfoldable pub lengthOf : ℕ → ℕ
 lengthOf kind = lengthWith (bytes.widths kind)
 
@@ -59,10 +61,11 @@ fieldIn kind l i = getD (bytes.fieldsOf (bytes.widths kind) l) i 0
 unfoldable pub commandIn : ℕ → List ℕ → Command
 commandIn kind l = commandTold (bytes.commandOf kind (fieldIn kind l))
 
--- its step
+-- the step of a command that asks for one
 abbrev pub stepOf : bytes.Command → Step
 stepOf (bytes.Opening z clock) = ask.Begin
 stepOf (bytes.Asking a) = stepTold a
 
+-- the step of a kind, from the bytes of its fields
 unfoldable pub askedOf : ℕ → List ℕ → Step
 askedOf kind l = stepOf (bytes.commandOf kind (fieldIn kind l))

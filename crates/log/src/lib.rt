@@ -27,12 +27,14 @@ pub struct Decoded {
 // A length that two bytes cannot say.
 const NO_LENGTH: u64 = 65536;
 
+// A byte as a number.
 fn wide(b: u8) -> u64
     ensures { λ r. ⌜ (r ≡ b) × (r < 256) ⌝ }
 {
     b as u64
 }
 
+// The number of the two bytes from `at` on, the lowest first; and so of four, and of eight.
 fn u16_at(log: &[u8], at: usize) -> u64
     requires { ⌜ at + 2 ≤ length (now log) ⌝ }
     ensures { λ r. ⌜ (r ≡ number (take 2 (drop at (now (log .entry))))) × (r < 65536) ⌝ }
@@ -123,6 +125,7 @@ fn command_at(log: &[u8], kind: u64, at: usize) -> Command
     }
 }
 
+// What is told of a malformed record.
 fn malformed(at: usize) -> Decoded
     ensures { λ r. ⌜ r ≡ malformedAt at ⌝ }
 {
@@ -165,6 +168,7 @@ pub struct Reader<'a> {
 }
 
 impl<'a> Reader<'a> {
+    // A reader of these bytes that stands at this place.
     pub fn new(log: &'a [u8], at: usize) -> Reader<'a>
         ensures { λ r. ⌜ (r .log ≡ log .entry) × (r .at ≡ at) ⌝ }
     {

@@ -1,5 +1,4 @@
 -- The numbers of a line as the code holds them.
--- the first `count` of the list, and then the first `rows` of the lent rows
 use Prim.Native.Nat.{ℕ}
 use mathlib.Core.List.{List, [], _∷_, _++_}
 use lib.ListN.{take}
@@ -9,9 +8,11 @@ use Rattle.report.specs.declared.Numbers.{Numbers}
 use Rattle.protocol.specs.declared.Verdict.the-variants as verdict
 use Rattle.protocol.specs.declared.Answer.the-variants as tell
 
+-- the first `count` of the list, and then the first `rows` of the lent rows
 abbrev pub numbersWith : Numbers → List ℕ → List ℕ
 numbersWith s rows = take (s .count) (s .list) ++ take (s .rows) rows
 
+-- 0, the verdict and its values
 abbrev pub verdictHeld : Verdict → Numbers
 verdictHeld verdict.Clear = record { list = 0 ∷ 0 ∷ 0 ∷ 0 ∷ 0 ∷ []; count = 2; rows = 0 }
 verdictHeld (verdict.Bucket bucket captured present) = record { list = 0 ∷ 1 ∷ bucket ∷ captured ∷ present ∷ []; count = 5; rows = 0 }
@@ -26,6 +27,7 @@ numberHeld number = record { list = number ∷ 0 ∷ 0 ∷ 0 ∷ 0 ∷ []; count
 abbrev pub valueHeld : ℕ → ℕ → Numbers
 valueHeld value rows = record { list = 0 ∷ value ∷ 0 ∷ 0 ∷ 0 ∷ []; count = 2; rows = rows }
 
+-- what is held of an answer
 abbrev pub heldOf : Answer → Numbers
 heldOf tell.Done = numberHeld 0
 heldOf (tell.Number n) = valueHeld n 0

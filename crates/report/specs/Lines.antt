@@ -1,8 +1,8 @@
 -- The line of an answer, with document 01's number and values for each.
--- document 01's number for each answer
 use Prim.Native.Nat.{ℕ}
 use mathlib.Core.List.{List, [], _∷_}
 use lib.ListN.{take}
+use Rattle.model.specs.Refusals.{Malformed, refusalNumber}
 use Rattle.model.specs.Report.{openWord, badWord, wordOf, line}
 use Rattle.protocol.specs.View.{asked}
 use Rattle.protocol.specs.declared.Step.{Step}
@@ -11,6 +11,7 @@ use Rattle.protocol.specs.declared.Answer.{Answer}
 use Rattle.protocol.specs.declared.Verdict.the-variants as verdict
 use Rattle.protocol.specs.declared.Answer.the-variants as tell
 
+-- document 01's number for each answer
 abbrev pub numberOf : Answer → ℕ
 numberOf tell.Done = 0
 numberOf (tell.Number n) = 0
@@ -41,8 +42,10 @@ valuesOf (tell.Refused number) rows = []
 abbrev pub lineFor : Step → Answer → List ℕ → List ℕ
 lineFor step answer rows = line (wordOf (asked step)) (numberOf answer ∷ valuesOf answer rows)
 
+-- `open` and its number
 abbrev pub openLine : ℕ → List ℕ
 openLine number = line openWord (number ∷ [])
 
+-- `bad 15`
 abbrev pub badLine : List ℕ
-badLine = line badWord (15 ∷ [])
+badLine = line badWord (refusalNumber Malformed ∷ [])

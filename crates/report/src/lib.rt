@@ -22,6 +22,7 @@ struct Numbers {
     rows: usize,
 }
 
+// 0, the verdict and its values.
 fn verdict_numbers(verdict: Verdict) -> Numbers
     ensures { λ r. ⌜ (r ≡ verdictHeld verdict) × (r .count ≤ 5) ⌝ }
 {
@@ -53,7 +54,7 @@ fn verdict_numbers(verdict: Verdict) -> Numbers
     }
 }
 
-// A number with nothing after it, and 0 with one value.
+// A number with nothing after it.
 fn number_alone(number: u64) -> Numbers
     ensures { λ r. ⌜ r ≡ numberHeld number ⌝ }
 {
@@ -64,6 +65,7 @@ fn number_alone(number: u64) -> Numbers
     }
 }
 
+// 0 and a value, and then so many of the lent rows.
 fn value_numbers(value: u64, rows: usize) -> Numbers
     ensures { λ r. ⌜ r ≡ valueHeld value rows ⌝ }
 {
@@ -74,6 +76,7 @@ fn value_numbers(value: u64, rows: usize) -> Numbers
     }
 }
 
+// The answer's number and its values.
 fn numbers_of(answer: Answer) -> Numbers
     ensures { λ r. ⌜ (r ≡ heldOf answer) × (r .count ≤ 5) ⌝ }
 {
