@@ -18,7 +18,7 @@ use Rattle.record.specs.Methods.{refusedOf}
 use Rattle.record.specs.declared.Phase.the-variants as phase
 use Rattle.record.specs.declared.Transaction.{Transaction}
 use Rattle.record.specs.declared.Answered.{Answered}
-use Rattle.reads.specs.Matching.{Look, look, matchOf, isMatch, throughOf}
+use Rattle.matching.specs.Matching.{Look, look, matchOf, isMatch, throughOf}
 
 -- the rows kept as candidates, the own pending rows, and both; a count above its list's room acts as the room
 abbrev pub candidateRows : List ℕ → ℕ → ℕ → List ℕ

@@ -12,8 +12,8 @@ use Rattle.chain.specs.Chain.{firstVisible}
 use Rattle.chain.specs.declared.Pointer.{Pointer}
 use Rattle.chain.specs.declared.Pointer.the-variants as pointer
 use Rattle.record.specs.declared.Transaction.{Transaction}
-use Rattle.reads.specs.declared.Match.{Match}
-use Rattle.reads.specs.declared.Match.the-variants.{No, Write, Version}
+use Rattle.matching.specs.declared.Match.{Match}
+use Rattle.matching.specs.declared.Match.the-variants.{No, Write, Version}
 
 -- what a read looks at: the tables, the lists, the last used pointer, the transaction and its key
 pub record Look : Type 0 where
