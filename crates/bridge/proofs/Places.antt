@@ -11,7 +11,7 @@ use native.Mathlib.Omega.{arith}
 use lib.Dec.{eqb}
 use lib.ListN.{length, getD, set, List·getD-map, List·getD-eq-default}
 use lib.Seq.{sets, getD-set-same, getD-set-other}
-use borrow.Author.Tests.{eqb-false}
+use borrow.Author.Tests.{eqb-false, ne-eqb}
 use Rattle.limits.specs.Limits.{mostLive}
 use Rattle.model.specs.Lists.{first}
 use Rattle.model.specs.Table.{update, update-same, update-other, cond-elim}
@@ -93,6 +93,14 @@ module _ (w : Words) (z : Sized w) where
   pub not-there : (n : ℕ) → mostLive ≤ standing w n → (i : ℕ) → i < mostLive → txnAt w i .number ≢ n
   unfolding placeOf
   not-there n l i h = eqb-false _ n (first-none (λ i. eqb (txnAt w i .number) n) 0 mostLive l i (omega arith) h)
+
+  pub nowhere : (s : Step) → mostLive ≤ standing w (wantedOf s) → placeFor (w .txns) s ≡ 0
+  unfolding placeFor
+  nowhere s l = place-none 0 (wantedOf s) (map (λ (t : Transaction). t .number) (w .txns))
+      (λ i h. rw (number-at (w .txns) i) (ne-eqb _ _ (not-there (wantedOf s) l i (omega (arith, numbers-eight)))))
+
+  pub place-in : (s : Step) → placeFor (w .txns) s < mostLive
+  place-in s = elim (decLt (standing w (wantedOf s)) mostLive) [ yes l ↦ rw (there s l) l | no l ↦ rw (nowhere s (omega (arith, l))) (omega arith) ]
 
   -- every record is in order, a free one past the eighth too
   pub sized-at : (j : ℕ) → SizedTxn j (txnAt w j)
