@@ -1,3 +1,4 @@
 pub mod Places
 pub mod Placed
 pub mod Same
+pub mod Writing

@@ -73,18 +73,19 @@ module _ (w : Words) (z : Sized w) (p : ℕ) (l : p < mostLive) where
       by j (no n) = rw (update-other (view w .txns) p (txnView xs t) j n) (ap (txnView xs) (getD-set-other (w .txns) p j t (idleOf j) n) ∙ h j n)
 
   -- what is left is in order
-  pub sized-set : (m : Moved) → SizedTxn p (m .stepped .txn) → length (m .rows) ≡ length (w .tables .rows) → length (m .versions) ≡ length (w .tables .versions)
-      → length (m .buckets) ≡ length (w .tables .buckets) → length (m .lists) ≡ length (w .tables .lists) → length (m .found) ≡ length (w .tables .found) → Sized (after w p m)
-  sized-set m t a b c d e = record {
-    eight = length-set (w .txns) p (m .stepped .txn) ∙ z .eight;
-    rows = rw a (z .rows);
-    versions = rw b (z .versions);
+  pub sized-set : (t : Transaction) (b : Tables) (clock used : ℕ) → SizedTxn p t → length (b .rows) ≡ length (w .tables .rows) → length (b .versions) ≡ length (w .tables .versions)
+      → length (b .buckets) ≡ length (w .tables .buckets) → length (b .lists) ≡ length (w .tables .lists) → length (b .found) ≡ length (w .tables .found)
+      → Sized (record { tables = b; txns = set (w .txns) p t; sizes = w .sizes; clock = clock; used = used })
+  sized-set t b clock used h r v c d e = record {
+    eight = length-set (w .txns) p t ∙ z .eight;
+    rows = rw r (z .rows);
+    versions = rw v (z .versions);
     buckets = rw c (z .buckets);
     lists = rw d (z .lists);
     found = rw e (z .found);
-    txns = λ i h. by i (ℕ-discrete i p);
+    txns = λ i k. by i (ℕ-discrete i p);
   }
     where
-      by : (i : ℕ) → Dec (i ≡ p) → SizedTxn i (getD (set (w .txns) p (m .stepped .txn)) i (idleOf i))
-      by i (yes e) = rw (e, at-place (m .stepped .txn)) t
-      by i (no n) = rw (getD-set-other (w .txns) p i (m .stepped .txn) (idleOf i) n) (sized-at w z i)
+      by : (i : ℕ) → Dec (i ≡ p) → SizedTxn i (getD (set (w .txns) p t) i (idleOf i))
+      by i (yes q) = rw (q, at-place t) h
+      by i (no n) = rw (getD-set-other (w .txns) p i t (idleOf i) n) (sized-at w z i)
