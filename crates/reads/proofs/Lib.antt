@@ -1,2 +1,4 @@
 pub mod Laws
 pub mod Sorting
+pub mod Appended
+pub mod Model

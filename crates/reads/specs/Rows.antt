@@ -74,24 +74,28 @@ pub record LeftRows : Type 0 where
 abbrev pub refusedRows : Transaction → ℕ → List ℕ → List ℕ → LeftRows
 refusedRows t why lists found = record { reply = refusedOf t why; lists = lists; found = found }
 
--- the rows and the new records, where they fit: a lent list too short, then more than 64 read records
+-- a read that is done: the rows go to the front of the lent list, the new records behind the old
+abbrev pub doneRows : Transaction → List ℕ → List ℕ → List ℕ → List ReadRecord → LeftRows
+doneRows t lists found rs new = record {
+  reply = record { answer = tell.Rows (length rs); txn = readDone t (t .«records_n» + length new) };
+  lists = putRecords lists (t .slot) (t .«records_n») new;
+  found = laid rs found;
+}
+
+-- the tests: a lent list too short, then more than 64 read records
 abbrev pub answerOf : List ℕ → List ℕ → Transaction → ℕ → List ℕ → List ReadRecord → LeftRows
 answerOf lists found t room rs new =
     cond (ltb (roomFor room (length found)) (length rs)) (refusedRows t 10 lists found)
     (cond (ltb mostRecords (t .«records_n» + length new)) (refusedRows t 11 lists found)
-    (record {
-      reply = record { answer = tell.Rows (length rs); txn = readDone t (t .«records_n» + length new) };
-      lists = putRecords lists (t .slot) (t .«records_n») new;
-      found = laid rs found;
-    }))
+    (doneRows t lists found rs new))
 
 -- a read of what is looked at
-unfoldable pub readOf : Look → ℕ → ℕ → List ℕ → LeftRows
-readOf l rowCount room found =
+unfoldable pub readingOf : Look → ℕ → ℕ → List ℕ → LeftRows
+readingOf l rowCount room found =
     answerOf (l .lists) found (l .txn) room (matchedRows l rowCount) (newRecords l (knownPointers (l .lists) (l .txn .slot) (l .txn .«records_n»)) (matchedRows l rowCount))
 
 -- rows: wrong phase first
 unfoldable pub rowsOf : List ℕ → List ℕ → List ℕ → List ℕ → ℕ → ℕ → ℕ → Transaction → LeftRows
 rowsOf rows versions lists found rowCount used room t =
     cond (not (eqb (rank (phaseView (t .phase))) 3)) (refusedRows t 5 lists found)
-    (readOf (look rows versions lists used t (keyIn (phaseView (t .phase)))) rowCount room found)
+    (readingOf (look rows versions lists used t (keyIn (phaseView (t .phase)))) rowCount room found)
