@@ -56,13 +56,16 @@ same-from w s p m out a b c h =
       sized = subst (λ (x : Words). Sized x) (sym e) (h .sized);
     }
 
--- a refusal that changes nothing
-pub refused-same : (w : Words) → Sized w → (p : ℕ) (r : Refusal) → SameAt w p (unmoved w p (tell.Refused (refusalNumber r))) (gives (view w) (machine.Refused r))
-refused-same w z p r = record {
-  store = ap (λ (x : Words). view x) (unmoved-same w p (tell.Refused (refusalNumber r)));
-  answer = refl;
-  sized = subst (λ (x : Words). Sized x) (sym (unmoved-same w p (tell.Refused (refusalNumber r)))) z;
+-- an answer that changes nothing, and so every refusal but a stale stamp's
+pub unmoved-at : (w : Words) → Sized w → (p : ℕ) (a : Answer) (o : machine.Answer) → a ≡ told o → SameAt w p (unmoved w p a) (gives (view w) o)
+unmoved-at w z p a o e = record {
+  store = ap (λ (x : Words). view x) (unmoved-same w p a);
+  answer = e;
+  sized = subst (λ (x : Words). Sized x) (sym (unmoved-same w p a)) z;
 }
+
+pub refused-same : (w : Words) → Sized w → (p : ℕ) (r : Refusal) → SameAt w p (unmoved w p (tell.Refused (refusalNumber r))) (gives (view w) (machine.Refused r))
+refused-same w z p r = unmoved-at w z p (tell.Refused (refusalNumber r)) (machine.Refused r) refl
 
 -- the model refuses with 4; else it goes on with the phase
 module _ (v : model.Store) (a : Asked) (t : ℕ) (ph : Bool) (more : List (Bool × Refusal)) (e : checks v a ≡ found v t ph more) where
