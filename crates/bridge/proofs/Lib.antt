@@ -5,3 +5,4 @@ pub mod Writing
 pub mod Tabled
 pub mod Listing
 pub mod Judging
+pub mod Capturing
