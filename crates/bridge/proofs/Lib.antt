@@ -6,3 +6,4 @@ pub mod Tabled
 pub mod Listing
 pub mod Judging
 pub mod Capturing
+pub mod Collecting
