@@ -7,3 +7,4 @@ pub mod Listing
 pub mod Judging
 pub mod Capturing
 pub mod Collecting
+pub mod Starting

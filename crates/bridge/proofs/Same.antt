@@ -47,7 +47,7 @@ pub record Same (w : Words) (s : Step) : Type 0 where
   pub answer : movedBy w s .stepped .answer ≡ told (stepIn (view w) (asked s) .answer)
   pub sized : Sized (wordsAfter w s)
 
-same-from : (w : Words) (s : Step) (p : ℕ) (m : Moved) (out : machine.Stepped) → placeFor (w .txns) s ≡ p → movedBy w s ≡ m → stepIn (view w) (asked s) ≡ out → SameAt w p m out → Same w s
+pub same-from : (w : Words) (s : Step) (p : ℕ) (m : Moved) (out : machine.Stepped) → placeFor (w .txns) s ≡ p → movedBy w s ≡ m → stepIn (view w) (asked s) ≡ out → SameAt w p m out → Same w s
 same-from w s p m out a b c h =
     let e : wordsAfter w s ≡ after w p m = ap (λ (q : ℕ). after w q (movedBy w s)) a ∙ ap (λ (x : Moved). after w p x) b in
     record {
