@@ -8,3 +8,4 @@ pub mod Judging
 pub mod Capturing
 pub mod Collecting
 pub mod Starting
+pub mod Beginning

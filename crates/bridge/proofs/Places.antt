@@ -69,7 +69,7 @@ default-any (x ∷ l) (suc i) d e h = default-any l i d e (omega arith)
 abbrev pub standing : Words → ℕ → ℕ
 standing w n = placeOf (view w .txns) n
 
-number-at : (ts : List Transaction) (i : ℕ) → getD (map (λ (t : Transaction). t .number) ts) i 0 ≡ getD ts i (idleOf i) .number
+pub number-at : (ts : List Transaction) (i : ℕ) → getD (map (λ (t : Transaction). t .number) ts) i 0 ≡ getD ts i (idleOf i) .number
 number-at ts i = List·getD-map (λ (t : Transaction). t .number) ts i (idleOf i)
 
 length-numbers : (ts : List Transaction) → length (map (λ (t : Transaction). t .number) ts) ≡ length ts
@@ -77,7 +77,7 @@ length-numbers [] = refl
 length-numbers (t ∷ ts) = ap suc (length-numbers ts)
 
 module _ (w : Words) (z : Sized w) where
-  numbers-eight : length (map (λ (t : Transaction). t .number) (w .txns)) ≡ mostLive
+  pub numbers-eight : length (map (λ (t : Transaction). t .number) (w .txns)) ≡ mostLive
   numbers-eight = length-numbers (w .txns) ∙ z .eight
 
   -- the words find the place that the model finds

@@ -35,7 +35,7 @@ nonzero [] = []
 nonzero (x ∷ xs) = cond (eqb x 0) (nonzero xs) (x ∷ nonzero xs)
 
 -- those of the picked places
-pick-nonzero : (f : ℕ → ℕ) (test : ℕ → Bool) (k : ℕ) (xs : List ℕ) → ((i : ℕ) → i < length xs → test (k + i) ≡ not (eqb (getD xs i 0) 0)) → ((i : ℕ) → i < length xs → test (k + i) ≡ true → f (k + i) ≡ getD xs i 0)
+pub pick-nonzero : (f : ℕ → ℕ) (test : ℕ → Bool) (k : ℕ) (xs : List ℕ) → ((i : ℕ) → i < length xs → test (k + i) ≡ not (eqb (getD xs i 0) 0)) → ((i : ℕ) → i < length xs → test (k + i) ≡ true → f (k + i) ≡ getD xs i 0)
     → map f (pick test k (length xs)) ≡ nonzero xs
 unfolding pick nonzero
 pick-nonzero f test k [] h e = refl
@@ -51,7 +51,7 @@ pick-nonzero f test k (x ∷ xs) h e =
     go true t d v ih = rw d ih
     go false t d v ih = rw (d, v d, ih)
 
-live-nonzero : (n : ℕ) (xs : List ℕ) → liveFrom n xs ≡ n + length (nonzero xs)
+pub live-nonzero : (n : ℕ) (xs : List ℕ) → liveFrom n xs ≡ n + length (nonzero xs)
 unfolding liveFrom nonzero
 live-nonzero n [] = sym (add-zero n)
 live-nonzero n (x ∷ xs) = go (λ m. live-nonzero m xs) (eqb x 0)
@@ -61,12 +61,12 @@ live-nonzero n (x ∷ xs) = go (λ m. live-nonzero m xs) (eqb x 0)
     go ih false = ih (n + 1) ∙ (let e : n + 1 + length (nonzero xs) ≡ n + suc (length (nonzero xs)) = omega arith in e)
 
 -- all are picked; one is not
-pick-all : (test : ℕ → Bool) (k n : ℕ) → ((i : ℕ) → k ≤ i → i < k + n → test i ≡ true) → length (pick test k n) ≡ n
+pub pick-all : (test : ℕ → Bool) (k n : ℕ) → ((i : ℕ) → k ≤ i → i < k + n → test i ≡ true) → length (pick test k n) ≡ n
 unfolding pick
 pick-all test k zero h = refl
 pick-all test k (suc n) h = rw (h k (omega arith) (omega arith)) (ap suc (pick-all test (suc k) n (λ i a b. h i (omega arith) (omega arith))))
 
-pick-less : (test : ℕ → Bool) (k n i : ℕ) → k ≤ i → i < k + n → test i ≡ false → length (pick test k n) < n
+pub pick-less : (test : ℕ → Bool) (k n i : ℕ) → k ≤ i → i < k + n → test i ≡ false → length (pick test k n) < n
 unfolding pick
 pick-less test k zero i a b h = absurd (omega arith)
 pick-less test k (suc n) i a b h = go (λ l. pick-less test (suc k) n i l (omega arith) h) (ℕ-discrete i k)
