@@ -9,3 +9,5 @@ pub mod Capturing
 pub mod Collecting
 pub mod Starting
 pub mod Beginning
+pub mod Running
+pub mod Freeing
