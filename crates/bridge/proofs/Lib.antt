@@ -11,3 +11,4 @@ pub mod Starting
 pub mod Beginning
 pub mod Running
 pub mod Freeing
+pub mod Keyed
