@@ -18,7 +18,9 @@ use Rattle.model.specs.Store as model
 use Rattle.model.proofs.ListLaws.{and-l}
 use Rattle.model.specs.Seeing.{seen, visible, known, walk, keyAt, versionOf, lastWriteFrom, lastWrite, pending, writtenKey, shownKey, matches}
 use Rattle.model.specs.Seeing as seeing
-use Rattle.tables.specs.Fields.{versionWords, headOf, xminOf, xmaxOf, nextOf, keyedOf, keyOf}
+use Rattle.tables.specs.Words.{field}
+use Rattle.tables.proofs.Parts.{part-field}
+use Rattle.tables.specs.Fields.{rowWords, versionWords, headOf, xminOf, xmaxOf, nextOf, keyedOf, keyOf}
 use Rattle.tables.specs.Regions.{listOf}
 use Rattle.tables.specs.Lists.{writes, writeOf, startOf, writeAt, writesOf}
 use Rattle.tables.specs.declared.lists.Write.{Write}
@@ -35,7 +37,7 @@ use Rattle.chain.specs.declared.Pointer.{Pointer}
 use Rattle.chain.specs.declared.Pointer.the-variants as pointer
 use Rattle.chain.proofs.Laws.{first-visible-step, first-visible-answered}
 use Rattle.record.specs.declared.Transaction.{Transaction}
-use Rattle.record.specs.View.{keyView, snapshotView, writeView, writesIn, txnView}
+use Rattle.record.specs.View.{keyView, rowsPart, versionsPart, chainsView, snapshotView, writeView, writesIn, txnView}
 use Rattle.matching.specs.declared.Match.{Match}
 use Rattle.matching.specs.declared.Match.the-variants.{No, Version}
 use Rattle.matching.specs.declared.Match.the-variants as how
@@ -52,6 +54,25 @@ pub record Shows (c : Chains) (n : ℕ) (rows versions : List ℕ) (used : ℕ) 
   pub xmax-same : (p : ℕ) → 1 ≤ p → p ≤ c .used → c .xmax p ≡ xmaxOf versions p
   pub next-same : (p : ℕ) → 1 ≤ p → p ≤ c .used → c .next p ≡ nextOf versions p
   pub key-same : (p : ℕ) → 1 ≤ p → p ≤ c .used → c .key p ≡ keyView (keyedOf versions p) (keyOf versions p)
+
+-- the parts of the tables that a store's sizes name show the whole tables
+pub shows-parts : (z : model.Sizes) (rows versions : List ℕ) (used : ℕ) → used ≤ z .versions → z .versions < length versions / versionWords
+    → ((r : ℕ) → r < z .rows → headOf rows r ≤ used) → ((p : ℕ) → 1 ≤ p → p ≤ used → nextOf versions p < p)
+    → Shows (chainsView (rowsPart z rows) (versionsPart z versions) used) (z .rows) rows versions used
+shows-parts z rows versions used few whole heads down =
+    let part : (k : ℕ) → k < versionWords → (p : ℕ) → p ≤ used → field versionWords k (versionsPart z versions) p ≡ field versionWords k versions p = λ k h p u. part-field versionWords k (suc (z .versions)) versions p h (omega arith) in
+    let head : (r : ℕ) → r < z .rows → headOf (rowsPart z rows) r ≡ headOf rows r = λ r h. part-field rowWords 0 (z .rows) rows r (omega arith) h in
+    record {
+      used-same = refl;
+      whole = omega arith;
+      heads-in = λ r h. rw (head r h) (heads r h);
+      head-same = head;
+      falls = λ p l u. rw (part 2 (omega arith) p u) (down p l u);
+      xmin-same = λ p l u. part 0 (omega arith) p u;
+      xmax-same = λ p l u. part 1 (omega arith) p u;
+      next-same = λ p l u. part 2 (omega arith) p u;
+      key-same = λ p l u. rw (part 3 (omega arith) p u, part 4 (omega arith) p u);
+    }
 
 -- a pointer as the model has it: 0 for none
 abbrev pub numberOf : Pointer → ℕ

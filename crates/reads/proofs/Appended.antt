@@ -16,7 +16,7 @@ use Rattle.tables.specs.declared.lists.ReadRecord.{ReadRecord}
 use Rattle.tables.proofs.Stored.{Within, Apart, other-list, other-slot, same-list}
 use Rattle.record.specs.declared.Transaction.{Transaction}
 use Rattle.record.specs.View.{snapshotView, recordView, readsIn, writesIn, recordsIn, txnView}
-use Rattle.reads.specs.Rows.{putRecords, readDone}
+use Rattle.reads.specs.Rows.{putRecords, doneTxn}
 
 -- a transaction's lists stand in the words: its slot is one of the eight, and each count is within its list's room
 pub record Stands (lists : List ℕ) (t : Transaction) : Type 0 where
@@ -67,7 +67,7 @@ module _ (lists : List ℕ) (t : Transaction) (rs : List ReadRecord) (st : Stand
   no-candidates xs = refl
 
   -- the reader: Open, with the new records behind the old, and no candidates
-  pub put-view : txnView (putRecords lists (t .slot) (t .«records_n») rs) (readDone t (t .«records_n» + length rs)) ≡ record {
+  pub put-view : txnView (putRecords lists (t .slot) (t .«records_n») rs) (doneTxn t (t .«records_n» + length rs)) ≡ record {
     number = t .number;
     snapshot = snapshotView (t .snapshot);
     marked = t .marked;
@@ -96,7 +96,7 @@ module _ (lists : List ℕ) (t : Transaction) (rs : List ReadRecord) (st : Stand
         put-other-slot candidateOf candidates (u .«candidates_n») (su .candidates-few) (omega arith) (u .slot) lists (t .slot) (t .«records_n») rs d h,
       )
 
-  pub put-stands : Stands (putRecords lists (t .slot) (t .«records_n») rs) (readDone t (t .«records_n» + length rs))
+  pub put-stands : Stands (putRecords lists (t .slot) (t .«records_n») rs) (doneTxn t (t .«records_n» + length rs))
   put-stands = record {
     slot-in = st .slot-in;
     long = omega (arith, st .long, put-length lists (t .slot) (t .«records_n») rs);

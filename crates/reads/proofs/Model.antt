@@ -33,7 +33,7 @@ use Rattle.record.specs.declared.Transaction.{Transaction}
 use Rattle.record.specs.View.{phaseView, writeView, recordView, writesIn, candidatesIn, txnView}
 use Rattle.matching.specs.Matching.{Look, look, matchOf, isMatch}
 use Rattle.matching.proofs.Model.{Shows, matches-same, through-same}
-use Rattle.reads.specs.Rows.{wantedRows, matchedRows, knownPointers, through, recordFor, newRecords, putRecords, readDone, roomFor, LeftRows, refusedRows, doneRows, readingOf, rowsOf}
+use Rattle.reads.specs.Rows.{wantedRows, matchedRows, knownPointers, through, recordFor, newRecords, putRecords, doneTxn, roomFor, LeftRows, refusedRows, doneRows, readingOf, rowsOf}
 use Rattle.reads.proofs.Appended.{Stands, put-length, put-view, put-others, put-stands}
 
 -- ---- tests of membership
@@ -173,7 +173,7 @@ module _ (s : Store) (rows versions lists : List ℕ) (used : ℕ) (t : Transact
 
   -- ---- what the step leaves
   module _ (h : t .«records_n» + length new ≤ mostRecords) where
-    pub rows-view : txnView (putRecords lists (t .slot) (t .«records_n») new) (readDone t (t .«records_n» + length new)) ≡ readTxn s txn
+    pub rows-view : txnView (putRecords lists (t .slot) (t .«records_n») new) (doneTxn t (t .«records_n» + length new)) ≡ readTxn s txn
     rows-view = put-view lists t new st h ∙ rw records-model
 
   module _ (found : List ℕ) (room : ℕ) (lent : mostRows ≤ length found) where

@@ -24,11 +24,11 @@ use Rattle.matching.specs.Matching.{Look, look, matchOf, isMatch, throughOf}
 abbrev pub candidateRows : List ℕ → ℕ → ℕ → List ℕ
 candidateRows lists slot n = candidatesOf lists slot (min n mostRows)
 
-abbrev pub pendingRows : List ℕ → ℕ → ℕ → List ℕ
-pendingRows lists slot n = rowsWritten (writesOf lists slot (min n mostWrites))
+abbrev pub writtenRows : List ℕ → ℕ → ℕ → List ℕ
+writtenRows lists slot n = rowsWritten (writesOf lists slot (min n mostWrites))
 
 abbrev pub wantedRows : List ℕ → Transaction → List ℕ
-wantedRows lists t = candidateRows lists (t .slot) (t .«candidates_n») ++ pendingRows lists (t .slot) (t .«writes_n»)
+wantedRows lists t = candidateRows lists (t .slot) (t .«candidates_n») ++ writtenRows lists (t .slot) (t .«writes_n»)
 
 -- the rows of the store that are wanted and match, ascending; a row count above 256 acts as 256
 unfoldable pub matchedRows : Look → ℕ → List ℕ
@@ -62,8 +62,8 @@ abbrev pub roomFor : ℕ → ℕ → ℕ
 roomFor room len = min (min room mostRows) len
 
 -- the transaction once its read is done: Open, without candidates
-abbrev pub readDone : Transaction → ℕ → Transaction
-readDone t n = record { number = t .number; snapshot = t .snapshot; marked = t .marked; phase = phase.Open; slot = t .slot; «reads_n» = t .«reads_n»; «writes_n» = t .«writes_n»; «records_n» = n; «candidates_n» = 0 }
+abbrev pub doneTxn : Transaction → ℕ → Transaction
+doneTxn t n = record { number = t .number; snapshot = t .snapshot; marked = t .marked; phase = phase.Open; slot = t .slot; «reads_n» = t .«reads_n»; «writes_n» = t .«writes_n»; «records_n» = n; «candidates_n» = 0 }
 
 -- an answer, the lists and the lent list
 pub record LeftRows : Type 0 where
@@ -77,7 +77,7 @@ refusedRows t why lists found = record { reply = refusedOf t why; lists = lists;
 -- a read that is done: the rows go to the front of the lent list, the new records behind the old
 abbrev pub doneRows : Transaction → List ℕ → List ℕ → List ℕ → List ReadRecord → LeftRows
 doneRows t lists found rs new = record {
-  reply = record { answer = tell.Rows (length rs); txn = readDone t (t .«records_n» + length new) };
+  reply = record { answer = tell.Rows (length rs); txn = doneTxn t (t .«records_n» + length new) };
   lists = putRecords lists (t .slot) (t .«records_n») new;
   found = laid rs found;
 }

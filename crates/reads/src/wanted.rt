@@ -9,12 +9,12 @@ use tables::set_word;
 ghost use mathlib.Core.Path.{_≡_};
 ghost use Prim.Native.Nat.{_≤_, _<_};
 ghost use Rattle.limits.specs.Limits.{mostRows};
-ghost use Rattle.reads.specs.Rows.{candidateRows, pendingRows, wantedRows};
-ghost use Rattle.reads.specs.Inner.{keepBelow, copied};
+ghost use Rattle.reads.specs.Rows.{candidateRows, writtenRows, wantedRows};
+ghost use Rattle.reads.specs.Inner.{mostWanted, keepBelow, copied};
 
 // Puts the row behind the n words before it, where it is below the bound.
 fn keep_below(out: &mut [u64], n: usize, row: u64, bound: u64) -> usize
-    requires { ⌜ n < 1000 ⌝ }
+    requires { ⌜ n < mostWanted ⌝ }
     ensures { λ r. ⌜ record { n = r; words = now (out .exit) } ≡ keepBelow bound row (record { n = n; words = now (out .entry) }) ⌝ }
 {
     if row < bound {
@@ -48,7 +48,7 @@ fn copy_pending(
     bound: u64,
 ) -> usize
     requires { ⌜ from ≤ mostRows ⌝ }
-    ensures { λ r. ⌜ record { n = r; words = now (out .exit) } ≡ copied (now (out .entry)) from bound (pendingRows (now (lists .entry)) slot count) ⌝ }
+    ensures { λ r. ⌜ record { n = r; words = now (out .exit) } ≡ copied (now (out .entry)) from bound (writtenRows (now (lists .entry)) slot count) ⌝ }
 {
     let most = least(count as u64, MOST_WRITES as u64) as u32;
     let mut n = from;

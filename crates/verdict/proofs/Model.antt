@@ -1,16 +1,18 @@
 -- The words' verdict is the model's of every store that agrees with the words where the transaction's lists point.
 -- Assumes nothing.
-use Prim.Native.Nat.{ℕ}
+use Prim.Native.Nat.{ℕ, suc, _≤_, _<_}
 use mathlib.Core.Path.{_≡_, refl}
 use mathlib.Core.List.{List, [], _∷_}
 use mathlib.Core.Logic.{inl, inr}
-use Rattle.model.specs.Store.{Chains, Index, IndexRead, ReadRecord, Snapshot, Txn}
+use native.Mathlib.Omega.{arith}
+use Rattle.model.specs.Store.{Sizes, Chains, Index, IndexRead, ReadRecord, Snapshot, Txn}
 use Rattle.model.specs.Verdict.{Verdict, badRead, badRecord, judgeReads, judgeRecords, verdict}
 use Rattle.model.proofs.ListLaws.{Among}
-use Rattle.tables.specs.Fields.{xminOf, xmaxOf, stampOf}
+use Rattle.tables.specs.Fields.{versionWords, bucketWords, xminOf, xmaxOf, stampOf}
+use Rattle.tables.proofs.Parts.{part-field}
 use Rattle.protocol.specs.View.{verdictTold}
 use Rattle.record.specs.declared.Transaction.{Transaction}
-use Rattle.record.specs.View.{txnView}
+use Rattle.record.specs.View.{rowsPart, versionsPart, bucketsPart, chainsView, indexView, txnView}
 use Rattle.verdict.specs.Judged.{versionsView, stampsView, verdictOf}
 
 -- the store's versions and stamps are those of the words, at each pointer and bucket that the lists name
@@ -37,3 +39,12 @@ pub verdict-model : (c : Chains) (x : Index) (versions buckets lists : List ℕ)
 unfolding verdict
 verdict-model c x versions buckets lists t a =
     rw (reads-same x buckets (t .number) (txnView lists t .reads) (judgeRecords c (t .number) (txnView lists t .snapshot) (txnView lists t .records)) (a .stamp-same), records-same c versions (t .number) (txnView lists t .snapshot) (txnView lists t .records) (a .xmin-same) (a .xmax-same))
+
+-- the parts of the tables that a store's sizes name agree with the whole tables, where the lists name what is in the store
+pub agrees-parts : (z : Sizes) (used : ℕ) (rows versions buckets : List ℕ) (t : Txn) → ((r : ReadRecord) → Among r (t .records) → r .ptr ≤ z .versions) → ((r : IndexRead) → Among r (t .reads) → r .bucket < z .buckets)
+    → Agrees (chainsView (rowsPart z rows) (versionsPart z versions) used) (indexView (rowsPart z rows) (bucketsPart z buckets)) versions buckets t
+agrees-parts z used rows versions buckets t ptrs bs = record {
+  xmin-same = λ r m. part-field versionWords 0 (suc (z .versions)) versions (r .ptr) (omega arith) (omega (arith, ptrs r m));
+  xmax-same = λ r m. part-field versionWords 1 (suc (z .versions)) versions (r .ptr) (omega arith) (omega (arith, ptrs r m));
+  stamp-same = λ r m. part-field bucketWords 0 (z .buckets) buckets (r .bucket) (omega arith) (bs r m);
+}
