@@ -12,3 +12,4 @@ pub mod Beginning
 pub mod Running
 pub mod Freeing
 pub mod Keyed
+pub mod Needing

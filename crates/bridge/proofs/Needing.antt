@@ -1,0 +1,79 @@
+-- The buckets that a transaction needs and the rows that it writes: the words list the same as the model names.
+-- Assumes nothing.
+use Prim.Native.Nat.{ℕ, suc, _+_, _*_, _%_, _≤_, _<_}
+use mathlib.Core.Path.{_≡_, refl, sym, ap, _∙_, fun-ext}
+use mathlib.Core.Bool.{Bool, true, false, cond, _||_}
+use mathlib.Core.Logic.{_≢_, _⊎_, inl, inr, ⊎-elim}
+use mathlib.Core.Option.{Option, none, some}
+use mathlib.Core.List.{List, [], _∷_, _++_, map}
+use native.Mathlib.Omega.{arith}
+use lib.Dec.{eqb}
+use lib.ListN.{length}
+use Rattle.limits.specs.Limits.{mostLive}
+use Rattle.model.specs.Store as model
+use Rattle.model.specs.Store.{bucketOf}
+use Rattle.model.specs.Lists.{member, join}
+use Rattle.model.specs.Table.{updateAll}
+use Rattle.model.specs.Seeing.{keyAt}
+use Rattle.model.specs.Steps.{pendingRows, oldKey, keyBefore, newKey, keyBuckets, readBuckets, neededBuckets}
+use Rattle.model.proofs.ListLaws.{Among, among-left, among-right, among-cases, among-map, map-among, join-which, which-join, member-among, among-member, same-test}
+use Rattle.model.proofs.Good.{Good}
+use Rattle.tables.specs.Fields as fields
+use Rattle.tables.specs.Lists as lists
+use Rattle.tables.specs.declared.lists.Write.{Write}
+use Rattle.tables.proofs.Parts.{part-field}
+use Rattle.record.specs.View.{txnView, keyView, writeView, writesIn}
+use Rattle.holders.specs.declared.Key.{Key}
+use Rattle.holders.specs.Keys.{keyOf, versionKey, oldKeyOf, newKeyOf}
+use Rattle.holders.specs.Needs.{bucketsFor, readsNeed, rowsWritten, writeNeeds, writesNeed}
+use Rattle.steps.specs.Words.{Words, view, txnAt, Sized}
+use Rattle.bridge.proofs.Places.{sized-at}
+use Rattle.bridge.proofs.Judging.{reads-need}
+use Rattle.bridge.proofs.Keyed.{new-key-same}
+
+-- lists with the same entries take the same entries
+pub all-same : (f : ℕ → ℕ) (is js : List ℕ) (v : ℕ) → ((j : ℕ) → Among j is → Among j js) → ((j : ℕ) → Among j js → Among j is) → updateAll f is v ≡ updateAll f js v
+unfolding updateAll
+all-same f is js v to back = fun-ext λ j. ap (λ (b : Bool). cond b v (f j)) (same-test (member j is) (member j js) (λ e. among-member j js (to j (member-among j is e))) (λ e. among-member j is (back j (member-among j js e))))
+
+-- the bucket of a key
+key-buckets : (z : model.Sizes) (k : Key) → keyBuckets z (keyOf k) ≡ bucketsFor (z .buckets) k
+unfolding keyBuckets bucketsFor bucketOf
+key-buckets z k = by (eqb (k .keyed) 0)
+  where
+    by : (b : Bool) → keyBuckets z (cond b none (some (k .key))) ≡ cond b [] ((k .key % z .buckets) ∷ [])
+    by true = refl
+    by false = refl
+
+module _ (w : Words) (z : Sized w) (g : Good (view w)) where
+  used-in : (p : ℕ) → p ≤ w .used → p < suc (w .sizes .versions)
+  used-in p h = omega (arith, g .room .versions-left)
+
+  -- the key at a pointer that was given
+  pub version-key : (p : ℕ) → p ≤ w .used → keyOf (versionKey (w .tables .versions) p) ≡ keyAt (view w .chains) p
+  unfolding versionKey keyAt
+  version-key p h =
+      rw (part-field 6 3 (suc (w .sizes .versions)) (w .tables .versions) p (omega arith) (used-in p h), part-field 6 4 (suc (w .sizes .versions)) (w .tables .versions) p (omega arith) (used-in p h))
+      (by (eqb p 0))
+    where
+      by : (b : Bool) → keyOf (cond b (record { keyed = 0; key = 0 }) (record { keyed = fields.keyedOf (w .tables .versions) p; key = fields.keyOf (w .tables .versions) p }))
+          ≡ cond b none (keyView (fields.keyedOf (w .tables .versions) p) (fields.keyOf (w .tables .versions) p))
+      by true = refl
+      by false = refl
+
+  head-same : (r : ℕ) → r < w .sizes .rows → fields.headOf (w .tables .rows) r ≡ view w .chains .head r
+  head-same r h = sym (part-field 4 0 (w .sizes .rows) (w .tables .rows) r (omega arith) h)
+
+  -- the head version's key
+  pub old-key-same : (r : ℕ) → r < w .sizes .rows → keyOf (oldKeyOf (w .tables .rows) (w .tables .versions) false r) ≡ oldKey (view w .chains) r
+  unfolding oldKeyOf
+  old-key-same r h = rw (head-same r h) (version-key (view w .chains .head r) (g .chained .heads-in r))
+
+  -- what is needed for one pending row
+  pub row-needs : (p r : ℕ) → r < w .sizes .rows → writeNeeds (w .tables .rows) (w .tables .versions) (w .tables .lists) (w .sizes .buckets) false (txnAt w p .slot) (txnAt w p .«writes_n») r
+      ≡ keyBuckets (view w .sizes) (oldKey (view w .chains) r) ++ keyBuckets (view w .sizes) (newKey (view w .txns p) r)
+  unfolding writeNeeds
+  row-needs p r h =
+      let a = key-buckets (view w .sizes) (oldKeyOf (w .tables .rows) (w .tables .versions) false r) in
+      let b = key-buckets (view w .sizes) (newKeyOf (w .tables .lists) (txnAt w p .slot) (txnAt w p .«writes_n») r) in
+      rw (← a, ← b, old-key-same r h, new-key-same (w .tables .lists) (txnAt w p) (sized-at w z p .writes) r)
