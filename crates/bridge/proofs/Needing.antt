@@ -9,14 +9,16 @@ use mathlib.Core.List.{List, [], _∷_, _++_, map}
 use native.Mathlib.Omega.{arith}
 use lib.Dec.{eqb}
 use lib.ListN.{length}
+use borrow.Author.Tests.{eq-eqb}
 use Rattle.limits.specs.Limits.{mostLive}
 use Rattle.model.specs.Store as model
 use Rattle.model.specs.Store.{bucketOf}
 use Rattle.model.specs.Lists.{member, join}
 use Rattle.model.specs.Table.{updateAll}
-use Rattle.model.specs.Seeing.{keyAt}
+use Rattle.model.specs.Seeing.{keyAt, pending}
 use Rattle.model.specs.Steps.{pendingRows, oldKey, keyBefore, newKey, keyBuckets, readBuckets, neededBuckets}
-use Rattle.model.proofs.ListLaws.{Among, among-left, among-right, among-cases, among-map, map-among, join-which, which-join, member-among, among-member, same-test}
+use Rattle.model.proofs.ListLaws.{Among, among-left, among-right, among-cases, among-map, map-among, join-which, which-join, member-among, among-member, same-test, or-left, or-right, pick-which}
+use Rattle.model.proofs.SeeingLaws.{which-pendingRows, pending-which}
 use Rattle.model.proofs.Good.{Good}
 use Rattle.tables.specs.Fields as fields
 use Rattle.tables.specs.Lists as lists
@@ -36,6 +38,12 @@ pub all-same : (f : ℕ → ℕ) (is js : List ℕ) (v : ℕ) → ((j : ℕ) →
 unfolding updateAll
 all-same f is js v to back = fun-ext λ j. ap (λ (b : Bool). cond b v (f j)) (same-test (member j is) (member j js) (λ e. among-member j js (to j (member-among j is e))) (λ e. among-member j is (back j (member-among j js e))))
 
+-- a write's row is pending
+among-pending : (ws : List model.Write) (x : model.Write) → Among x ws → pending ws (x .row) ≡ true
+unfolding pending
+among-pending (y ∷ ws) x (inl e) = or-left _ _ (eq-eqb (y .row) (x .row) (ap (λ (v : model.Write). v .row) (sym e)))
+among-pending (y ∷ ws) x (inr m) = or-right (eqb (y .row) (x .row)) _ (among-pending ws x m)
+
 -- the bucket of a key
 key-buckets : (z : model.Sizes) (k : Key) → keyBuckets z (keyOf k) ≡ bucketsFor (z .buckets) k
 unfolding keyBuckets bucketsFor bucketOf
@@ -44,6 +52,10 @@ key-buckets z k = by (eqb (k .keyed) 0)
     by : (b : Bool) → keyBuckets z (cond b none (some (k .key))) ≡ cond b [] ((k .key % z .buckets) ∷ [])
     by true = refl
     by false = refl
+
+-- the buckets that the words list for the index reads and the pending rows
+abbrev pub listedNeeds : Words → ℕ → List ℕ
+listedNeeds w p = readsNeed (w .tables .lists) (txnAt w p .slot) (txnAt w p .«reads_n») ++ writesNeed (w .tables .rows) (w .tables .versions) (w .tables .lists) (w .sizes .buckets) false (txnAt w p .slot) (txnAt w p .«writes_n»)
 
 module _ (w : Words) (z : Sized w) (g : Good (view w)) where
   used-in : (p : ℕ) → p ≤ w .used → p < suc (w .sizes .versions)
@@ -77,3 +89,49 @@ module _ (w : Words) (z : Sized w) (g : Good (view w)) where
       let a = key-buckets (view w .sizes) (oldKeyOf (w .tables .rows) (w .tables .versions) false r) in
       let b = key-buckets (view w .sizes) (newKeyOf (w .tables .lists) (txnAt w p .slot) (txnAt w p .«writes_n») r) in
       rw (← a, ← b, old-key-same r h, new-key-same (w .tables .lists) (txnAt w p) (sized-at w z p .writes) r)
+
+  -- the rows of the pending writes are the pending rows
+  pub row-in : (p r : ℕ) → Among r (rowsWritten (w .tables .lists) (txnAt w p .slot) (txnAt w p .«writes_n»)) → r < w .sizes .rows
+  row-in p r m =
+      let ws = lists.writesOf (w .tables .lists) (txnAt w p .slot) (txnAt w p .«writes_n») in
+      let a = map-among (λ (x : Write). x .row) ws r m in
+      rw (a .2) (g .ranges p .0 .writes-in (writeView (a .0)) (among-map writeView ws (a .0) (a .1)))
+
+  pub row-pending : (p r : ℕ) → Among r (rowsWritten (w .tables .lists) (txnAt w p .slot) (txnAt w p .«writes_n»)) → Among r (pendingRows (view w .sizes) (view w .txns p .writes))
+  row-pending p r m =
+      let ws = lists.writesOf (w .tables .lists) (txnAt w p .slot) (txnAt w p .«writes_n») in
+      let a = map-among (λ (x : Write). x .row) ws r m in
+      which-pendingRows (view w .sizes) (view w .txns p .writes) r (row-in p r m) (rw (a .2) (among-pending (view w .txns p .writes) (writeView (a .0)) (among-map writeView ws (a .0) (a .1))))
+
+  pub pending-row : (p r : ℕ) → Among r (pendingRows (view w .sizes) (view w .txns p .writes)) → Among r (rowsWritten (w .tables .lists) (txnAt w p .slot) (txnAt w p .«writes_n»))
+  unfolding pendingRows
+  pending-row p r m =
+      let ws = lists.writesOf (w .tables .lists) (txnAt w p .slot) (txnAt w p .«writes_n») in
+      let a = pending-which (view w .txns p .writes) r (pick-which (pending (view w .txns p .writes)) 0 (w .sizes .rows) r m .2) in
+      let b = map-among writeView ws (a .0) (a .1) in
+      let e : r ≡ b .0 .row = sym (a .2) ∙ ap (λ (x : model.Write). x .row) (b .2) in
+      rw e (among-map (λ (x : Write). x .row) ws (b .0) (b .1))
+
+  -- they are those that the model needs
+  pub needed-listed : (p b : ℕ) → Among b (neededBuckets (view w) (view w .txns p)) → Among b (listedNeeds w p)
+  unfolding neededBuckets
+  needed-listed p b m = ⊎-elim
+      (λ n. among-left b (readsNeed (w .tables .lists) (txnAt w p .slot) (txnAt w p .«reads_n»)) _ (rw (reads-need (w .tables .lists) (txnAt w p)) at n))
+      (λ n.
+      let a = join-which (λ r. keyBuckets (view w .sizes) (oldKey (view w .chains) r) ++ keyBuckets (view w .sizes) (newKey (view w .txns p) r)) (pendingRows (view w .sizes) (view w .txns p .writes)) b n in
+      let r = pending-row p (a .0) (a .1) in
+      among-right b (readsNeed (w .tables .lists) (txnAt w p .slot) (txnAt w p .«reads_n»)) _
+      (which-join (writeNeeds (w .tables .rows) (w .tables .versions) (w .tables .lists) (w .sizes .buckets) false (txnAt w p .slot) (txnAt w p .«writes_n»)) (rowsWritten (w .tables .lists) (txnAt w p .slot) (txnAt w p .«writes_n»)) b (a .0) r
+      (rw (row-needs p (a .0) (row-in p (a .0) r)) (a .2))))
+      (among-cases b (readBuckets (view w .txns p)) (join (λ r. keyBuckets (view w .sizes) (oldKey (view w .chains) r) ++ keyBuckets (view w .sizes) (newKey (view w .txns p) r)) (pendingRows (view w .sizes) (view w .txns p .writes))) m)
+
+  pub listed-needed : (p b : ℕ) → Among b (listedNeeds w p) → Among b (neededBuckets (view w) (view w .txns p))
+  unfolding neededBuckets
+  listed-needed p b m = ⊎-elim
+      (λ n. among-left b (readBuckets (view w .txns p)) _ (rw (reads-need (w .tables .lists) (txnAt w p)) n))
+      (λ n.
+      let a = join-which (writeNeeds (w .tables .rows) (w .tables .versions) (w .tables .lists) (w .sizes .buckets) false (txnAt w p .slot) (txnAt w p .«writes_n»)) (rowsWritten (w .tables .lists) (txnAt w p .slot) (txnAt w p .«writes_n»)) b n in
+      among-right b (readBuckets (view w .txns p)) _
+      (which-join (λ r. keyBuckets (view w .sizes) (oldKey (view w .chains) r) ++ keyBuckets (view w .sizes) (newKey (view w .txns p) r)) (pendingRows (view w .sizes) (view w .txns p .writes)) b (a .0) (row-pending p (a .0) (a .1))
+      (rw (row-needs p (a .0) (row-in p (a .0) (a .1))) at (a .2))))
+      (among-cases b (readsNeed (w .tables .lists) (txnAt w p .slot) (txnAt w p .«reads_n»)) (writesNeed (w .tables .rows) (w .tables .versions) (w .tables .lists) (w .sizes .buckets) false (txnAt w p .slot) (txnAt w p .«writes_n»)) m)
