@@ -13,3 +13,4 @@ pub mod Running
 pub mod Freeing
 pub mod Keyed
 pub mod Needing
+pub mod Aborting
