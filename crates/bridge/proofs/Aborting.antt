@@ -17,7 +17,7 @@ use Rattle.model.specs.Store as model
 use Rattle.model.specs.Store.{bucketIn, rank}
 use Rattle.model.specs.Lists.{join}
 use Rattle.model.specs.Table.{update}
-use Rattle.model.specs.Steps.{release, keyBuckets, oldKey, newKey, readBuckets, neededBuckets, pendingRows}
+use Rattle.model.specs.Steps.{release, freed, keyBuckets, oldKey, newKey, readBuckets, neededBuckets, pendingRows}
 use Rattle.model.specs.Refusals.{WrongPhase, checks, refusal, txnOf}
 use Rattle.model.specs.Machine.{accepted, afterRefusal, carried}
 use Rattle.model.proofs.ListLaws.{Among, among-left, among-right, among-cases, join-which, join-same}
@@ -34,6 +34,7 @@ use Rattle.tables.proofs.Spans.{list-length}
 use Rattle.tables.specs.declared.lists.Write.{Write}
 use Rattle.record.specs.View.{phaseView, txnView, rowsPart, versionsPart, bucketsPart, chainsView, indexView, heldView}
 use Rattle.record.specs.Methods.{idleOf, refusedOf}
+use Rattle.record.specs.declared.Transaction.{Transaction}
 use Rattle.holders.specs.declared.Key.{Key}
 use Rattle.holders.specs.Keys.{oldKeyOf, newKeyOf}
 use Rattle.holders.specs.Needs.{bucketsFor, readsNeed, rowsWritten, writeNeeds, writesNeed}
@@ -129,3 +130,87 @@ module _ (w : Words) (z : Sized w) (g : Good (view w)) (p : ℕ) where
 
       by : (j : ℕ) × (view w .held .holder b ≡ view w .txns j .number) × Wants (view w .sizes) (view w .index .posted) (view w .txns j) b → Among b (bucketIn (phaseView (txnAt w p .phase)) ∷ listedNeeds w p)
       by o = wanted (rw (g .numbers .distinct p (o .0) l (sym e ∙ o .1)) (o .2))
+
+  own-rows : 1 ≤ txnAt w p .number → (r : ℕ) → view w .held .claim r ≡ txnAt w p .number → Among r (rowsWritten (w .tables .lists) (txnAt w p .slot) (txnAt w p .«writes_n»))
+  own-rows l r e =
+      let o = g .holders .claims .owner r (λ q. omega (arith, q)) in
+      let d = g .numbers .distinct p (o .0) l (sym e ∙ o .1) in
+      pending-row w z g p r (rw d (o .2 .1))
+
+  -- the words after freeing, as the model has them
+  freed-list : List ℕ
+  freed-list = bucketIn (phaseView (txnAt w p .phase)) ∷ listedNeeds w p
+
+  freed-in : InRange (w .sizes .buckets) freed-list
+  unfolding freed-list
+  freed-in b (inl e) = rw e (g .ranges p .1)
+  freed-in b (inr m) = listed-in b m
+
+  freed-buckets : freedIn (w .tables .rows) (w .tables .versions) (w .tables .lists) (w .sizes .buckets) false (bucketIn (phaseView (txnAt w p .phase))) (txnAt w p .slot) (txnAt w p .«reads_n») (txnAt w p .«writes_n») (txnAt w p .number) (w .tables .buckets)
+      ≡ freeAll (w .tables .buckets) (txnAt w p .number) freed-list
+  unfolding freedIn neededIn freed-list
+  freed-buckets = ap (λ (bs : List ℕ). freeAll (w .tables .buckets) (txnAt w p .number) bs) (listed-all 49 (bucketIn (phaseView (txnAt w p .phase)) ∷ listedNeeds w p) (omega (arith, listed-few)))
+
+  abort-held : 1 ≤ txnAt w p .number → rank (phaseView (txnAt w p .phase)) < 5
+      → heldView (rowsPart (sizesView (w .sizes)) (unclaimAll (w .tables .rows) (txnAt w p .number) (rowsWritten (w .tables .lists) (txnAt w p .slot) (txnAt w p .«writes_n»))))
+      (bucketsPart (sizesView (w .sizes)) (freeAll (w .tables .buckets) (txnAt w p .number) freed-list))
+      ≡ freed (view w .held) (txnAt w p .number)
+  unfolding freed-list
+  abort-held l r =
+      let n = txnAt w p .number in
+      let rs = rowsWritten (w .tables .lists) (txnAt w p .slot) (txnAt w p .«writes_n») in
+      let bs = bucketIn (phaseView (txnAt w p .phase)) ∷ listedNeeds w p in
+      rw (
+        unclaim-all (w .sizes .rows) n (w .tables .rows) rs (λ q m. row-in w z g p q m) (z .rows),
+        freed-release n (view w .held .claim) rs (own-rows l),
+        free-all (w .sizes .buckets) n (w .tables .buckets) bs freed-in (z .buckets),
+        freed-release n (view w .held .holder) bs (own-listed l r),
+      )
+
+module _ (w : Words) (z : Sized w) where
+  abort-chains : (n : ℕ) (rs : List ℕ) → chainsView (rowsPart (sizesView (w .sizes)) (unclaimAll (w .tables .rows) n rs)) (versionsPart (sizesView (w .sizes)) (w .tables .versions)) (w .used) ≡ view w .chains
+  abort-chains n rs = rw (unclaim-all-other (w .sizes .rows) n (w .tables .rows) rs 0 (omega arith) (omega arith))
+
+  abort-index : (n : ℕ) (rs bs : List ℕ) → indexView (rowsPart (sizesView (w .sizes)) (unclaimAll (w .tables .rows) n rs)) (bucketsPart (sizesView (w .sizes)) (freeAll (w .tables .buckets) n bs)) ≡ view w .index
+  abort-index n rs bs = rw (unclaim-all-other (w .sizes .rows) n (w .tables .rows) rs 2 (omega arith) (omega arith), unclaim-all-other (w .sizes .rows) n (w .tables .rows) rs 3 (omega arith) (omega arith), free-all-other (w .sizes .buckets) n (w .tables .buckets) bs)
+
+sized-idle : (p : ℕ) (t : Transaction) → SizedTxn p t → SizedTxn p (idleOf (t .slot))
+sized-idle p t s = record { slot = s .slot; active = omega arith; seven = refl; reads = omega arith; writes = omega arith; records = omega arith; candidates = omega arith }
+
+module _ (w : Words) (z : Sized w) (g : Good (view w)) (n : ℕ) where
+  aborted-at : standing w n < mostLive → 1 ≤ txnAt w (standing w n) .number → (b : Bool) → leb 5 (rank (phaseView (txnAt w (standing w n) .phase))) ≡ b
+      → SameAt w (standing w n)
+      (inAborted
+      (cond b (record { reply = refusedOf (txnAt w (standing w n)) 5; rows = w .tables .rows; buckets = w .tables .buckets })
+      (record {
+        reply = record { answer = tell.Done; txn = idleOf (txnAt w (standing w n) .slot) };
+        rows = unclaimAll (w .tables .rows) (txnAt w (standing w n) .number) (rowsWritten (w .tables .lists) (txnAt w (standing w n) .slot) (txnAt w (standing w n) .«writes_n»));
+        buckets = freeAll (w .tables .buckets) (txnAt w (standing w n) .number) (freed-list w z g (standing w n));
+      }))
+      (w .clock) (w .used) (w .tables))
+      (carried (view w) (asked (ask.Abort n)) (cond b (some WrongPhase) none))
+  unfolding carried accepted afterRefusal
+  aborted-at l a true e = refused-same w z (standing w n) WrongPhase
+  aborted-at l a false e =
+      let q = standing w n in
+      let t = txnAt w q in
+      let rs = rowsWritten (w .tables .lists) (t .slot) (t .«writes_n») in
+      let r : rank (phaseView (t .phase)) < 5 = leb-false 5 (rank (phaseView (t .phase))) e in
+      record {
+        store = same-store _ _ refl refl (abort-chains w z (t .number) rs) (abort-index w z (t .number) rs (freed-list w z g q)) (abort-held w z g q a r)
+            (txns-set w z q l (w .tables .lists) (idleOf (t .slot)) (λ j d. refl) ∙ ap (λ (y : model.Txn). update (view w .txns) q y) (idle-view (w .tables .lists) (t .slot)));
+        answer = refl;
+        sized = sized-set w z q l _ _ _ _ (sized-idle q t (sized-at w z q)) (unclaim-all-length (w .sizes .rows) (t .number) (w .tables .rows) rs) refl (free-all-length (w .sizes .buckets) (t .number) (w .tables .buckets) (freed-list w z g q)) refl refl;
+      }
+
+  -- buckets and claims are freed, and the record ends
+  pub abort-same : Same w (ask.Abort n)
+  unfolding checks refusal abortOf
+  abort-same = by-place w z (ask.Abort n) refl (ltb (rank (txnOf (view w) n .phase)) 5) [] refl
+      (λ l d e.
+      let q = standing w n in
+      let a : 1 ≤ txnAt w q .number = pos d e in
+      rw (freed-buckets w z g q, ← late-test (rank (phaseView (txnAt w q .phase)))) (aborted-at l a (leb 5 (rank (phaseView (txnAt w q .phase)))) refl))
+    where
+      pos : n ≢ 0 → txnAt w (standing w n) .number ≡ n → 1 ≤ txnAt w (standing w n) .number
+      pos d e = omega (arith, d)
