@@ -93,7 +93,7 @@ module _ (w : Words) (z : Sized w) (g : Good (view w)) (p : ℕ) where
   count-pos : 1 ≤ w .sizes .buckets
   count-pos = good-sized (view w .sizes) (g .sizes) .buckets-pos
 
-  writes-few : length (rowsWritten (w .tables .lists) (txnAt w p .slot) (txnAt w p .«writes_n»)) ≡ txnAt w p .«writes_n»
+  pub writes-few : length (rowsWritten (w .tables .lists) (txnAt w p .slot) (txnAt w p .«writes_n»)) ≡ txnAt w p .«writes_n»
   writes-few = length-map (lists.writesOf (w .tables .lists) (txnAt w p .slot) (txnAt w p .«writes_n»)) (λ (x : Write). x .row) ∙ list-length lists.writeOf 4 (lists.startOf lists.writes (txnAt w p .slot)) (w .tables .lists) (txnAt w p .«writes_n»)
 
   -- the listed buckets: few, and in range

@@ -14,3 +14,4 @@ pub mod Freeing
 pub mod Keyed
 pub mod Needing
 pub mod Aborting
+pub mod Distinct

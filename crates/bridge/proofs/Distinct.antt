@@ -1,0 +1,81 @@
+-- The distinct rows of the pending writes, as the words sort them, are the model's pending rows.
+-- Assumes nothing.
+use Prim.Native.Nat.{ℕ, zero, suc, _≤_, _<_, min}
+use mathlib.Core.Path.{_≡_, refl, sym, ap, _∙_}
+use mathlib.Core.Bool.{Bool, true, false, _||_, false≢true}
+use mathlib.Core.Logic.{inl, inr, ⊎-elim}
+use mathlib.Core.List.{List, [], _∷_, _++_}
+use native.Mathlib.Omega.{arith}
+use lib.Dec.{eqb}
+use lib.ListN.{length, take, drop, getD, replicate}
+use lib.Seq.{take-at}
+use borrow.Author.Tests.{eqb-true, eq-eqb}
+use Rattle.limits.specs.Limits.{mostBuckets, mostWrites, mostRows}
+use Rattle.model.specs.Store as model
+use Rattle.model.specs.Steps.{pendingRows}
+use Rattle.model.specs.Seeing.{pending}
+use Rattle.model.proofs.ListLaws.{Among, Rising, pick-rising, same-test, or-cases, or-left, or-right}
+use Rattle.model.proofs.Good.{Good}
+use Rattle.model.proofs.Ranges.{good-sized}
+use Rattle.buckets.specs.Buckets.{Made, bucketsOf, laid, canonicalOf}
+use Rattle.buckets.specs.Upstream.{inRange}
+use Rattle.buckets.specs.declared.Canonical.the-variants.{Sorted}
+use Rattle.buckets.proofs.Checks.{fine-when}
+use Rattle.buckets.proofs.Sorted.{Below, Ascending, member, buckets-ascending, buckets-member, ascending-unique}
+use Rattle.holders.specs.Needs.{rowsWritten}
+use Rattle.install.specs.Install.{rowsListed, pendingInto}
+use Rattle.steps.specs.Words.{Words, view, txnAt, Sized}
+use Rattle.bridge.proofs.Places.{sized-at}
+use Rattle.bridge.proofs.Listing.{listed-all}
+use Rattle.bridge.proofs.Needing.{row-in, row-pending, pending-row}
+use Rattle.bridge.proofs.Aborting.{writes-few}
+
+rising-below : (x : ℕ) (ys : List ℕ) → Rising (suc x) ys → Below x ys
+rising-below x [] h = tt
+rising-below x (y ∷ ys) h = (omega (arith, h .0), rising-below y ys (h .1))
+
+rising-ascending : (k : ℕ) (xs : List ℕ) → Rising k xs → Ascending xs
+rising-ascending k [] h = tt
+rising-ascending k (x ∷ xs) h = rising-below x xs (h .1)
+
+member-among : (v : ℕ) (xs : List ℕ) → member v xs ≡ true → Among v xs
+member-among v [] e = absurd (false≢true e)
+member-among v (y ∷ ys) e = ⊎-elim (λ t. inl (sym (eqb-true y v t))) (λ t. inr (member-among v ys t)) (or-cases (eqb y v) (member v ys) e)
+
+among-member : (v : ℕ) (xs : List ℕ) → Among v xs → member v xs ≡ true
+among-member v (y ∷ ys) (inl e) = or-left (eqb y v) (member v ys) (eq-eqb y v (sym e))
+among-member v (y ∷ ys) (inr m) = or-right (eqb y v) (member v ys) (among-member v ys m)
+
+entry-among : (xs : List ℕ) (i : ℕ) → i < length xs → Among (getD xs i 0) xs
+entry-among [] i h = absurd (omega arith)
+entry-among (x ∷ xs) zero h = inl refl
+entry-among (x ∷ xs) (suc i) h = inr (entry-among xs i (omega arith))
+
+canonical-fine : (input old : List ℕ) → inRange input mostBuckets → length input ≤ length old → canonicalOf input mostBuckets old ≡ record { answer = Sorted (length (bucketsOf input)); out = laid (bucketsOf input) old }
+unfolding canonicalOf
+canonical-fine input old below room = rw (fine-when mostBuckets (length old) input below (omega arith))
+
+module _ (w : Words) (z : Sized w) (g : Good (view w)) (p : ℕ) where
+  pub rows-sorted : bucketsOf (rowsWritten (w .tables .lists) (txnAt w p .slot) (txnAt w p .«writes_n»)) ≡ pendingRows (view w .sizes) (view w .txns p .writes)
+  unfolding pendingRows
+  rows-sorted =
+      let rs = rowsWritten (w .tables .lists) (txnAt w p .slot) (txnAt w p .«writes_n») in
+      let ps = pendingRows (view w .sizes) (view w .txns p .writes) in
+      ascending-unique (bucketsOf rs) ps (buckets-ascending rs) (rising-ascending 0 ps (rises (view w .txns p .writes)))
+      (λ v. buckets-member v rs ∙ same-test (member v rs) (member v ps) (λ e. among-member v ps (row-pending w z g p v (member-among v rs e))) (λ e. among-member v rs (pending-row w z g p v (member-among v ps e))))
+    where
+      rises : (ws : List model.Write) → Rising 0 (pendingRows (view w .sizes) ws)
+      rises ws = pick-rising (pending ws) 0 (w .sizes .rows)
+
+  -- the list that install goes through, and how many they are
+  pub pending-into : pendingInto (w .tables .lists) (txnAt w p .slot) (txnAt w p .«writes_n») (replicate mostWrites 0)
+      ≡ record { out = laid (pendingRows (view w .sizes) (view w .txns p .writes)) (replicate mostWrites 0); n = length (pendingRows (view w .sizes) (view w .txns p .writes)) }
+  unfolding pendingInto rowsListed
+  pending-into =
+      let rs = rowsWritten (w .tables .lists) (txnAt w p .slot) (txnAt w p .«writes_n») in
+      let few : length rs ≤ mostWrites = omega (arith, writes-few w z g p, sized-at w z p .writes) in
+      rw (listed-all 16 rs few, canonical-fine rs (replicate mostWrites 0) (λ i h. omega (arith, row-in w z g p (getD rs i 0) (entry-among rs i h), good-sized (view w .sizes) (g .sizes) .rows-most)) few, rows-sorted)
+
+  pub pending-front : take (pendingInto (w .tables .lists) (txnAt w p .slot) (txnAt w p .«writes_n») (replicate mostWrites 0) .n) (pendingInto (w .tables .lists) (txnAt w p .slot) (txnAt w p .«writes_n») (replicate mostWrites 0) .out)
+      ≡ pendingRows (view w .sizes) (view w .txns p .writes)
+  pending-front = let ps = pendingRows (view w .sizes) (view w .txns p .writes) in rw pending-into (take-at ps (drop (length ps) (replicate mostWrites 0)) (length ps) refl)
