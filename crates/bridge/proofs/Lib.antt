@@ -15,3 +15,4 @@ pub mod Keyed
 pub mod Needing
 pub mod Aborting
 pub mod Distinct
+pub mod Preparing

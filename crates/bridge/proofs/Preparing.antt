@@ -1,0 +1,187 @@
+-- Prepare over the words is the model's.
+-- Assumes nothing.
+use Prim.Native.Nat.{ℕ, zero, suc, _+_, _*_, _≤_, _<_, min}
+use mathlib.Core.Path.{_≡_, refl, sym, ap, subst, _∙_}
+use mathlib.Core.Bool.{Bool, true, false, cond, not, _&&_, _||_}
+use mathlib.Core.Logic.{_≢_, inl, inr}
+use mathlib.Core.Option.{Option, none, some}
+use mathlib.Core.List.{List, [], _∷_, _++_, map}
+use native.Mathlib.Nat.{zero-add}
+use native.Mathlib.Omega.{arith}
+use lib.Dec.{eqb, ltb}
+use lib.ListN.{length, take, getD, replicate, List·getD-map}
+use Rattle.limits.specs.Limits.{mostLive, mostWrites}
+use Rattle.model.specs.Store as model
+use Rattle.model.specs.Store.{rank}
+use Rattle.model.specs.Lists.{some-of}
+use Rattle.model.specs.Table.{update, updateAll}
+use Rattle.model.specs.Verdict as judged
+use Rattle.model.specs.Seeing.{live}
+use Rattle.model.specs.Steps.{pendingRows, neededBuckets, preparedHeld}
+use Rattle.model.specs.Refusals.{Refusal, WrongPhase, Taken, Conflict, NoVersions, byAnother, reservedBy, reserved, bucketsTaken, rowsClaimed, checks, refusal, inPhase, txnOf}
+use Rattle.model.specs.Machine.{accepted, afterRefusal, carried}
+use Rattle.model.proofs.ListLaws.{Among, same-test, some-which, which-some}
+use Rattle.model.proofs.Good.{Good}
+use Rattle.protocol.specs.declared.Step.the-variants as ask
+use Rattle.protocol.specs.declared.Answer.the-variants as tell
+use Rattle.protocol.specs.View.{asked, verdictTold}
+use Rattle.tables.specs.Fields as fields
+use Rattle.tables.proofs.Parts.{part-field}
+use Rattle.tables.specs.Regions.{listOf}
+use Rattle.buckets.specs.Buckets.{canonicalOf}
+use Rattle.buckets.proofs.Sorted.{buckets-no-longer}
+use Rattle.record.specs.View.{phaseView, txnView, rowsPart, versionsPart, bucketsPart, chainsView, indexView, heldView}
+use Rattle.record.specs.Methods.{withPhase, takenBy, refusedOf, idleOf}
+use Rattle.record.specs.declared.Phase.the-variants as phase
+use Rattle.record.specs.declared.Transaction.{Transaction}
+use Rattle.holders.specs.Needs.{pushAll, rowsWritten}
+use Rattle.holders.specs.Holders.{anyTaken, anyClaimed, holdAll, claimAll}
+use Rattle.verdict.specs.Judged.{verdictOf}
+use Rattle.prepare.specs.Prepare.{isClear, distinctIn, reservedIn, lacks, neededInto, left, prepareWith, prepareOf}
+use Rattle.install.specs.Install.{rowsListed, pendingInto}
+use Rattle.steps.specs.Steps.{preparedCount, inPrepared}
+use Rattle.steps.specs.Words.{Words, sizesView, view, txnAt, othersIn, SizedTxn, Sized}
+use Rattle.bridge.proofs.Places.{standing, sized-at}
+use Rattle.bridge.proofs.Placed.{txns-set, sized-set}
+use Rattle.bridge.proofs.Same.{same-store, SameAt, Same, refused-same, by-place}
+use Rattle.bridge.proofs.Listing.{listed-all, some-same}
+use Rattle.bridge.proofs.Tabled.{hold-all, hold-other, hold-length, claim-all, claim-other, claim-length}
+use Rattle.bridge.proofs.Writing.{sized-phase}
+use Rattle.bridge.proofs.Judging.{taken-same, verdict-same}
+use Rattle.bridge.proofs.Needing.{all-same, listedNeeds, row-in, row-pending, pending-row, needed-listed, listed-needed}
+use Rattle.bridge.proofs.Aborting.{listed-few, listed-in, writes-few}
+use Rattle.bridge.proofs.Distinct.{rows-sorted, pending-into}
+
+-- a test of some entry sees only which entries there are
+some-both : (test : ℕ → Bool) (xs ys : List ℕ) → ((x : ℕ) → Among x xs → Among x ys) → ((x : ℕ) → Among x ys → Among x xs) → some-of test xs ≡ some-of test ys
+some-both test xs ys to back = same-test _ _
+    (λ e. let a = some-which test xs e in which-some test ys (a .0) (to (a .0) (a .1)) (a .2))
+    (λ e. let a = some-which test ys e in which-some test xs (a .0) (back (a .0) (a .1)) (a .2))
+
+clear-same : (v : judged.Verdict) → isClear (verdictTold v) ≡ eqb (judged.verdictNumber v) 0
+clear-same judged.Clear = refl
+clear-same (judged.Bucket b captured present) = refl
+clear-same (judged.Row r p) = refl
+clear-same judged.Mark = refl
+
+abbrev preparedOf : Transaction → ℕ
+preparedOf t = preparedCount (t .number) (t .phase) (t .«writes_n»)
+
+-- what prepare tests after the phase
+abbrev prepareChecks : model.Store → ℕ → List (Bool × Refusal)
+prepareChecks s t =
+    (bucketsTaken s t (neededBuckets s (txnOf s t)) || rowsClaimed s t, Taken)
+    ∷ (not (eqb (judged.verdictNumber (judged.verdict (s .chains) (s .index) (txnOf s t))) 0), Conflict)
+    ∷ (ltb (s .sizes .versions) (s .chains .used + reserved (s .sizes) (s .txns) mostLive + length (pendingRows (s .sizes) (txnOf s t .writes))), NoVersions)
+    ∷ []
+
+none-distinct : (xs : List ℕ) (s : ℕ) → distinctIn xs s 0 ≡ 0
+unfolding distinctIn pendingInto rowsListed pushAll listOf canonicalOf
+none-distinct xs s = refl
+
+module _ (w : Words) (z : Sized w) (g : Good (view w)) where
+  taken-needs : (p : ℕ) → anyTaken (w .tables .buckets) (txnAt w p .number) (listedNeeds w p) ≡ some-of (byAnother (view w .held .holder) (txnAt w p .number)) (neededBuckets (view w) (view w .txns p))
+  taken-needs p =
+      some-same (λ b. takenBy (fields.holderOf (w .tables .buckets) b) (txnAt w p .number)) (byAnother (view w .held .holder) (txnAt w p .number)) (listedNeeds w p) (λ b m. taken-same w z g (txnAt w p .number) b (listed-in w z g p b m))
+      ∙ some-both _ _ _ (λ b m. listed-needed w z g p b m) (λ b m. needed-listed w z g p b m)
+
+  claim-same : (n r : ℕ) → r < w .sizes .rows → takenBy (fields.claimOf (w .tables .rows) r) n ≡ byAnother (view w .held .claim) n r
+  unfolding byAnother
+  claim-same n r h = rw (part-field 4 1 (w .sizes .rows) (w .tables .rows) r (omega arith) h)
+
+  claimed-rows : (p : ℕ) → anyClaimed (w .tables .rows) (txnAt w p .number) (rowsWritten (w .tables .lists) (txnAt w p .slot) (txnAt w p .«writes_n»))
+      ≡ some-of (byAnother (view w .held .claim) (txnAt w p .number)) (pendingRows (view w .sizes) (view w .txns p .writes))
+  claimed-rows p =
+      some-same (λ r. takenBy (fields.claimOf (w .tables .rows) r) (txnAt w p .number)) (byAnother (view w .held .claim) (txnAt w p .number)) (rowsWritten (w .tables .lists) (txnAt w p .slot) (txnAt w p .«writes_n»)) (λ r m. claim-same (txnAt w p .number) r (row-in w z g p r m))
+      ∙ some-both _ _ _ (λ r m. row-pending w z g p r m) (λ r m. pending-row w z g p r m)
+
+  -- the distinct pending rows
+  pub distinct-same : (p : ℕ) → distinctIn (w .tables .lists) (txnAt w p .slot) (txnAt w p .«writes_n») ≡ length (pendingRows (view w .sizes) (view w .txns p .writes))
+  unfolding distinctIn
+  distinct-same p =
+      let rs = rowsWritten (w .tables .lists) (txnAt w p .slot) (txnAt w p .«writes_n») in
+      rw (pending-into w z g p) (omega (arith, ap length (rows-sorted w z g p), buckets-no-longer rs, writes-few w z g p, sized-at w z p .writes))
+
+  reserved-one : (i : ℕ) → distinctIn (w .tables .lists) i (getD (othersIn (w .txns) .prepared) i 0) ≡ reservedBy (view w .sizes) (view w .txns i)
+  unfolding reservedBy
+  reserved-one i = rw (List·getD-map preparedOf (w .txns) i (idleOf i)) (by (eqb (txnAt w i .number) 0) (eqb (rank (phaseView (txnAt w i .phase))) 4))
+    where
+      by : (b c : Bool) → distinctIn (w .tables .lists) i (cond b 0 (cond c (txnAt w i .«writes_n») 0)) ≡ cond (not b && c) (length (pendingRows (view w .sizes) (view w .txns i .writes))) 0
+      by true c = none-distinct (w .tables .lists) i
+      by false false = none-distinct (w .tables .lists) i
+      by false true = ap (λ (j : ℕ). distinctIn (w .tables .lists) j (txnAt w i .«writes_n»)) (sym (sized-at w z i .slot)) ∙ distinct-same i
+
+  reserved-same : reservedIn (w .tables .lists) (othersIn (w .txns) .prepared) ≡ reserved (view w .sizes) (view w .txns) mostLive
+  unfolding reservedIn reserved
+  reserved-same = omega (arith, reserved-one 0, reserved-one 1, reserved-one 2, reserved-one 3, reserved-one 4, reserved-one 5, reserved-one 6, reserved-one 7)
+
+  needed-front : (p : ℕ) → take (neededInto (w .tables .rows) (w .tables .versions) (w .tables .lists) (w .sizes .buckets) (txnAt w p .slot) (txnAt w p .«reads_n») (txnAt w p .«writes_n») (replicate 48 0) .n)
+      (neededInto (w .tables .rows) (w .tables .versions) (w .tables .lists) (w .sizes .buckets) (txnAt w p .slot) (txnAt w p .«reads_n») (txnAt w p .«writes_n») (replicate 48 0) .out) ≡ listedNeeds w p
+  unfolding neededInto
+  needed-front p = listed-all 48 (listedNeeds w p) (listed-few w z g p)
+
+  -- all that is needed is taken
+  prepare-held : (p : ℕ) → heldView (rowsPart (sizesView (w .sizes)) (claimAll (w .tables .rows) (txnAt w p .number) (rowsWritten (w .tables .lists) (txnAt w p .slot) (txnAt w p .«writes_n»))))
+      (bucketsPart (sizesView (w .sizes)) (holdAll (w .tables .buckets) (txnAt w p .number) (listedNeeds w p)))
+      ≡ preparedHeld (view w) (view w .txns p)
+  prepare-held p =
+      let n = txnAt w p .number in
+      let rs = rowsWritten (w .tables .lists) (txnAt w p .slot) (txnAt w p .«writes_n») in
+      rw (
+        hold-all (w .sizes .buckets) n (w .tables .buckets) (listedNeeds w p) (listed-in w z g p) (z .buckets),
+        claim-all (w .sizes .rows) n (w .tables .rows) rs (λ r m. row-in w z g p r m) (z .rows),
+        all-same (view w .held .holder) (listedNeeds w p) (neededBuckets (view w) (view w .txns p)) n (λ b m. listed-needed w z g p b m) (λ b m. needed-listed w z g p b m),
+        all-same (view w .held .claim) rs (pendingRows (view w .sizes) (view w .txns p .writes)) n (λ r m. row-pending w z g p r m) (λ r m. pending-row w z g p r m),
+      )
+
+  prepare-chains : (n : ℕ) (rs : List ℕ) → chainsView (rowsPart (sizesView (w .sizes)) (claimAll (w .tables .rows) n rs)) (versionsPart (sizesView (w .sizes)) (w .tables .versions)) (w .used) ≡ view w .chains
+  prepare-chains n rs = rw (claim-other (w .sizes .rows) n (w .tables .rows) rs 0 (omega arith) (omega arith))
+
+  prepare-index : (n : ℕ) (rs bs : List ℕ) → indexView (rowsPart (sizesView (w .sizes)) (claimAll (w .tables .rows) n rs)) (bucketsPart (sizesView (w .sizes)) (holdAll (w .tables .buckets) n bs)) ≡ view w .index
+  prepare-index n rs bs = rw (claim-other (w .sizes .rows) n (w .tables .rows) rs 2 (omega arith) (omega arith), claim-other (w .sizes .rows) n (w .tables .rows) rs 3 (omega arith) (omega arith), hold-other (w .sizes .buckets) n (w .tables .buckets) bs)
+
+  prepared-at : (n : ℕ) → standing w n < mostLive → (a b c d e : Bool)
+      → SameAt w (standing w n)
+      (inPrepared
+      (cond a (left (refusedOf (txnAt w (standing w n)) 5) (w .tables .rows) (w .tables .buckets))
+      (cond b (left (refusedOf (txnAt w (standing w n)) 7) (w .tables .rows) (w .tables .buckets))
+      (cond c (left (refusedOf (txnAt w (standing w n)) 7) (w .tables .rows) (w .tables .buckets))
+      (cond d (left (refusedOf (txnAt w (standing w n)) 14) (w .tables .rows) (w .tables .buckets))
+      (cond e (left (refusedOf (txnAt w (standing w n)) 13) (w .tables .rows) (w .tables .buckets))
+      (left (record { answer = tell.Done; txn = withPhase (txnAt w (standing w n)) phase.Prepared })
+      (claimAll (w .tables .rows) (txnAt w (standing w n) .number) (rowsWritten (w .tables .lists) (txnAt w (standing w n) .slot) (txnAt w (standing w n) .«writes_n»)))
+      (holdAll (w .tables .buckets) (txnAt w (standing w n) .number) (listedNeeds w (standing w n)))))))))
+      (w .clock) (w .used) (w .tables))
+      (carried (view w) (asked (ask.Prepare n)) (cond a (some WrongPhase) (cond (b || c) (some Taken) (cond d (some Conflict) (cond e (some NoVersions) none)))))
+  unfolding carried accepted afterRefusal
+  prepared-at n l true b c d e = refused-same w z (standing w n) WrongPhase
+  prepared-at n l false true c d e = refused-same w z (standing w n) Taken
+  prepared-at n l false false true d e = refused-same w z (standing w n) Taken
+  prepared-at n l false false false true e = refused-same w z (standing w n) Conflict
+  prepared-at n l false false false false true = refused-same w z (standing w n) NoVersions
+  prepared-at n l false false false false false =
+      let q = standing w n in
+      let t = txnAt w q in
+      let rs = rowsWritten (w .tables .lists) (t .slot) (t .«writes_n») in
+      record {
+        store = same-store _ _ refl refl (prepare-chains (t .number) rs) (prepare-index (t .number) rs (listedNeeds w q)) (prepare-held q) (txns-set w z q l (w .tables .lists) (withPhase t phase.Prepared) (λ j d. refl));
+        answer = refl;
+        sized = sized-set w z q l _ _ _ _ (sized-phase q t phase.Prepared (sized-at w z q)) (claim-length (t .number) (w .tables .rows) rs) refl (hold-length (t .number) (w .tables .buckets) (listedNeeds w q)) refl refl;
+      }
+
+  -- the tests after the phase
+  prepare-place : (n : ℕ) → standing w n < mostLive
+      → SameAt w (standing w n) (inPrepared (prepareOf (w .tables .versions) (w .tables .lists) (w .sizes .buckets) (w .sizes .versions) (w .used) (othersIn (w .txns) .prepared) (txnAt w (standing w n)) (w .tables .rows) (w .tables .buckets)) (w .clock) (w .used) (w .tables))
+      (carried (view w) (asked (ask.Prepare n)) (refusal ((not (inPhase (view w) n 1), WrongPhase) ∷ prepareChecks (view w) n)))
+  unfolding prepareOf prepareWith lacks refusal
+  prepare-place n l =
+      let q = standing w n in
+      let t = txnAt w q in
+      rw (needed-front q, taken-needs q, claimed-rows q, verdict-same w z g q, clear-same (judged.verdict (view w .chains) (view w .index) (view w .txns q)), reserved-same, distinct-same q)
+      (prepared-at n l (not (eqb (rank (phaseView (t .phase))) 1)) (some-of (byAnother (view w .held .holder) (t .number)) (neededBuckets (view w) (view w .txns q))) (some-of (byAnother (view w .held .claim) (t .number)) (pendingRows (view w .sizes) (view w .txns q .writes)))
+      (not (eqb (judged.verdictNumber (judged.verdict (view w .chains) (view w .index) (view w .txns q))) 0)) (ltb (w .sizes .versions) (w .used + reserved (view w .sizes) (view w .txns) mostLive + length (pendingRows (view w .sizes) (view w .txns q .writes)))))
+
+  -- all that is needed is free, the verdict is clear, there are versions: all is taken
+  pub prepare-same : (n : ℕ) → Same w (ask.Prepare n)
+  unfolding checks
+  prepare-same n = by-place w z (ask.Prepare n) refl (inPhase (view w) n 1) (prepareChecks (view w) n) refl (λ l d e. prepare-place n l)
