@@ -16,3 +16,4 @@ pub mod Needing
 pub mod Aborting
 pub mod Distinct
 pub mod Preparing
+pub mod Installing
