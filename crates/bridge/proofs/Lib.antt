@@ -17,3 +17,4 @@ pub mod Aborting
 pub mod Distinct
 pub mod Preparing
 pub mod Installing
+pub mod Pushing
