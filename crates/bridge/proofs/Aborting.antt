@@ -69,7 +69,7 @@ for-in count k h = by (eqb (k .keyed) 0)
     by false i (inl e) = rw e (mod-lt (k .key) h)
     by false i (inr m) = absurd m
 
-join-few : (f : ℕ → List ℕ) (rs : List ℕ) → ((r : ℕ) → length (f r) ≤ 2) → length (join f rs) ≤ 2 * length rs
+pub join-few : (f : ℕ → List ℕ) (rs : List ℕ) → ((r : ℕ) → length (f r) ≤ 2) → length (join f rs) ≤ 2 * length rs
 unfolding join
 join-few f [] h = omega arith
 join-few f (r ∷ rs) h = rw (length-append (f r) (join f rs)) (omega (arith, h r, join-few f rs h))
@@ -90,7 +90,7 @@ late-test : (r : ℕ) → leb 5 r ≡ not (ltb r 5)
 late-test r = elim (decLt r 5) [ yes l ↦ rw (lt-leb 5 r l, lt-ltb r 5 l) | no l ↦ let h : 5 ≤ r = omega (arith, l) in rw (le-leb 5 r h, le-ltb r 5 h) ]
 
 module _ (w : Words) (z : Sized w) (g : Good (view w)) (p : ℕ) where
-  count-pos : 1 ≤ w .sizes .buckets
+  pub count-pos : 1 ≤ w .sizes .buckets
   count-pos = good-sized (view w .sizes) (g .sizes) .buckets-pos
 
   pub writes-few : length (rowsWritten (w .tables .lists) (txnAt w p .slot) (txnAt w p .«writes_n»)) ≡ txnAt w p .«writes_n»
@@ -131,7 +131,7 @@ module _ (w : Words) (z : Sized w) (g : Good (view w)) (p : ℕ) where
       by : (j : ℕ) × (view w .held .holder b ≡ view w .txns j .number) × Wants (view w .sizes) (view w .index .posted) (view w .txns j) b → Among b (bucketIn (phaseView (txnAt w p .phase)) ∷ listedNeeds w p)
       by o = wanted (rw (g .numbers .distinct p (o .0) l (sym e ∙ o .1)) (o .2))
 
-  own-rows : 1 ≤ txnAt w p .number → (r : ℕ) → view w .held .claim r ≡ txnAt w p .number → Among r (rowsWritten (w .tables .lists) (txnAt w p .slot) (txnAt w p .«writes_n»))
+  pub own-rows : 1 ≤ txnAt w p .number → (r : ℕ) → view w .held .claim r ≡ txnAt w p .number → Among r (rowsWritten (w .tables .lists) (txnAt w p .slot) (txnAt w p .«writes_n»))
   own-rows l r e =
       let o = g .holders .claims .owner r (λ q. omega (arith, q)) in
       let d = g .numbers .distinct p (o .0) l (sym e ∙ o .1) in
@@ -174,7 +174,7 @@ module _ (w : Words) (z : Sized w) where
   abort-index : (n : ℕ) (rs bs : List ℕ) → indexView (rowsPart (sizesView (w .sizes)) (unclaimAll (w .tables .rows) n rs)) (bucketsPart (sizesView (w .sizes)) (freeAll (w .tables .buckets) n bs)) ≡ view w .index
   abort-index n rs bs = rw (unclaim-all-other (w .sizes .rows) n (w .tables .rows) rs 2 (omega arith) (omega arith), unclaim-all-other (w .sizes .rows) n (w .tables .rows) rs 3 (omega arith) (omega arith), free-all-other (w .sizes .buckets) n (w .tables .buckets) bs)
 
-sized-idle : (p : ℕ) (t : Transaction) → SizedTxn p t → SizedTxn p (idleOf (t .slot))
+pub sized-idle : (p : ℕ) (t : Transaction) → SizedTxn p t → SizedTxn p (idleOf (t .slot))
 sized-idle p t s = record { slot = s .slot; active = omega arith; seven = refl; reads = omega arith; writes = omega arith; records = omega arith; candidates = omega arith }
 
 module _ (w : Words) (z : Sized w) (g : Good (view w)) (n : ℕ) where

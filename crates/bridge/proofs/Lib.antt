@@ -18,3 +18,6 @@ pub mod Distinct
 pub mod Preparing
 pub mod Installing
 pub mod Pushing
+pub mod Reposting
+pub mod Changing
+pub mod Publishing

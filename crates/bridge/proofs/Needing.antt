@@ -45,7 +45,7 @@ among-pending (y ∷ ws) x (inl e) = or-left _ _ (eq-eqb (y .row) (x .row) (ap (
 among-pending (y ∷ ws) x (inr m) = or-right (eqb (y .row) (x .row)) _ (among-pending ws x m)
 
 -- the bucket of a key
-key-buckets : (z : model.Sizes) (k : Key) → keyBuckets z (keyOf k) ≡ bucketsFor (z .buckets) k
+pub key-buckets : (z : model.Sizes) (k : Key) → keyBuckets z (keyOf k) ≡ bucketsFor (z .buckets) k
 unfolding keyBuckets bucketsFor bucketOf
 key-buckets z k = by (eqb (k .keyed) 0)
   where
@@ -58,7 +58,7 @@ abbrev pub listedNeeds : Words → ℕ → List ℕ
 listedNeeds w p = readsNeed (w .tables .lists) (txnAt w p .slot) (txnAt w p .«reads_n») ++ writesNeed (w .tables .rows) (w .tables .versions) (w .tables .lists) (w .sizes .buckets) false (txnAt w p .slot) (txnAt w p .«writes_n»)
 
 module _ (w : Words) (z : Sized w) (g : Good (view w)) where
-  used-in : (p : ℕ) → p ≤ w .used → p < suc (w .sizes .versions)
+  pub used-in : (p : ℕ) → p ≤ w .used → p < suc (w .sizes .versions)
   used-in p h = omega (arith, g .room .versions-left)
 
   -- the key at a pointer that was given
@@ -73,7 +73,7 @@ module _ (w : Words) (z : Sized w) (g : Good (view w)) where
       by true = refl
       by false = refl
 
-  head-same : (r : ℕ) → r < w .sizes .rows → fields.headOf (w .tables .rows) r ≡ view w .chains .head r
+  pub head-same : (r : ℕ) → r < w .sizes .rows → fields.headOf (w .tables .rows) r ≡ view w .chains .head r
   head-same r h = sym (part-field 4 0 (w .sizes .rows) (w .tables .rows) r (omega arith) h)
 
   -- the head version's key

@@ -66,7 +66,7 @@ pub record Fit (z : model.Sizes) (c : install.Chains) : Type 0 where
   pub versions : 6 * suc (z .versions) ≤ length (c .versions)
   pub heads : (r : ℕ) → chainsOf z c .head r ≤ c .used
 
-one-up : (u : ℕ) → u < lastNumber → oneMore u ≡ suc u
+pub one-up : (u : ℕ) → u < lastNumber → oneMore u ≡ suc u
 unfolding oneMore
 one-up u h = rw (lt-ltb u lastNumber h, add-one u)
 

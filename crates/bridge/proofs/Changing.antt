@@ -1,0 +1,137 @@
+-- After install: a pending row's old key stands behind its head, what changed is stamped, and all that the number holds is listed.
+-- Assumes nothing.
+use Prim.Native.Nat.{ℕ, suc, _+_, _*_, _≤_, _<_}
+use mathlib.Core.Path.{_≡_, refl, sym, ap, _∙_}
+use mathlib.Core.Bool.{Bool, true, false, cond}
+use mathlib.Core.Logic.{_≢_, inl, inr, ⊎-elim}
+use mathlib.Core.Option.{Option}
+use mathlib.Core.List.{List, [], _∷_, _++_}
+use native.Mathlib.Omega.{arith}
+use lib.ListN.{length, length-append}
+use Rattle.model.specs.Store as model
+use Rattle.model.specs.Store.{bucketIn, rank, sameKey}
+use Rattle.model.specs.Lists.{join}
+use Rattle.model.specs.Table.{cond-elim}
+use Rattle.model.specs.Seeing.{keyAt}
+use Rattle.model.specs.Steps.{keyBefore, newKey, keyBuckets, readBuckets, changedBuckets, pendingRows}
+use Rattle.model.proofs.ListLaws.{Among, among-left, among-right, among-cases, join-which, which-join, join-same}
+use Rattle.model.proofs.Good.{Good}
+use Rattle.model.proofs.Holders.{needs, Wants}
+use Rattle.tables.specs.Fields as fields
+use Rattle.tables.proofs.Parts.{part-field}
+use Rattle.record.specs.View.{phaseView}
+use Rattle.holders.specs.Keys.{keyOf, oldKeyOf, newKeyOf}
+use Rattle.holders.specs.Needs.{readsNeed, rowsWritten, writeNeeds, writesNeed, writeChanges, writesChange}
+use Rattle.steps.specs.Words.{Words, view, txnAt, Sized}
+use Rattle.bridge.proofs.Places.{sized-at}
+use Rattle.bridge.proofs.Judging.{reads-need, needs-length, read-in}
+use Rattle.bridge.proofs.Tabled.{InRange}
+use Rattle.bridge.proofs.Keyed.{new-key-same}
+use Rattle.bridge.proofs.Needing.{key-buckets, version-key, head-same, used-in, row-in, row-pending, pending-row}
+use Rattle.bridge.proofs.Aborting.{join-few, needs-few, needs-in, count-pos, writes-few}
+
+-- lists of the same rows join to the same entries
+join-to : (f : ℕ → List ℕ) (rs ps : List ℕ) (b : ℕ) → ((r : ℕ) → Among r rs → Among r ps) → Among b (join f rs) → Among b (join f ps)
+join-to f rs ps b to m = let a = join-which f rs b m in which-join f ps b (a .0) (to (a .0) (a .1)) (a .2)
+
+-- what the words need for a row, and what they stamp, after install
+abbrev pub rowNeeds : Words → ℕ → ℕ → List ℕ
+rowNeeds w p r = writeNeeds (w .tables .rows) (w .tables .versions) (w .tables .lists) (w .sizes .buckets) true (txnAt w p .slot) (txnAt w p .«writes_n») r
+
+abbrev pub rowChanges : Words → ℕ → ℕ → List ℕ
+rowChanges w p r = writeChanges (w .tables .rows) (w .tables .versions) (w .tables .lists) (w .sizes .buckets) (txnAt w p .slot) (txnAt w p .«writes_n») r
+
+abbrev pub rowsOf : Words → ℕ → List ℕ
+rowsOf w p = rowsWritten (w .tables .lists) (txnAt w p .slot) (txnAt w p .«writes_n»)
+
+abbrev pub listedAfter : Words → ℕ → List ℕ
+listedAfter w p = readsNeed (w .tables .lists) (txnAt w p .slot) (txnAt w p .«reads_n») ++ join (rowNeeds w p) (rowsOf w p)
+
+module _ (w : Words) (z : Sized w) (g : Good (view w)) (p : ℕ) (l : 1 ≤ txnAt w p .number) (k : 5 ≤ rank (phaseView (txnAt w p .phase))) where
+  -- the key behind the head
+  before-same : (r : ℕ) → Among r (rowsOf w p) → keyOf (oldKeyOf (w .tables .rows) (w .tables .versions) true r) ≡ keyBefore (view w .chains) r
+  unfolding oldKeyOf
+  before-same r m =
+      let h = row-in w z g p r m in
+      let mine = g .written .mine p r l k (row-pending w z g p r m) in
+      let c = view w .chains in
+      let q = c .head r in
+      let u = g .chained .heads-in r in
+      let next : fields.nextOf (w .tables .versions) q ≡ c .next q = sym (part-field 6 2 (suc (w .sizes .versions)) (w .tables .versions) q (omega arith) (used-in w z g q u)) in
+      rw (head-same w z g r h, next) (version-key w z g (c .next q) (omega (arith, g .chained .next-falls q (mine .head-pos) u)))
+
+  after-needs : (r : ℕ) → Among r (rowsOf w p) → rowNeeds w p r ≡ keyBuckets (view w .sizes) (keyBefore (view w .chains) r) ++ keyBuckets (view w .sizes) (newKey (view w .txns p) r)
+  unfolding writeNeeds
+  after-needs r m =
+      let a = key-buckets (view w .sizes) (oldKeyOf (w .tables .rows) (w .tables .versions) true r) in
+      let b = key-buckets (view w .sizes) (newKeyOf (w .tables .lists) (txnAt w p .slot) (txnAt w p .«writes_n») r) in
+      rw (← a, ← b, before-same r m, new-key-same (w .tables .lists) (txnAt w p) (sized-at w z p .writes) r)
+
+  after-changes : (r : ℕ) → Among r (rowsOf w p)
+      → rowChanges w p r ≡ cond (sameKey (keyBefore (view w .chains) r) (newKey (view w .txns p) r)) [] (keyBuckets (view w .sizes) (keyBefore (view w .chains) r) ++ keyBuckets (view w .sizes) (newKey (view w .txns p) r))
+  unfolding writeChanges
+  after-changes r m = rw (before-same r m, new-key-same (w .tables .lists) (txnAt w p) (sized-at w z p .writes) r, after-needs r m)
+
+  -- the stamped buckets are those that changed
+  pub changed-to : (b : ℕ) → Among b (join (rowChanges w p) (rowsOf w p)) → Among b (changedBuckets (view w) (view w .txns p))
+  unfolding changedBuckets
+  changed-to b m = join-to _ (rowsOf w p) _ b (λ r a. row-pending w z g p r a) (rw (join-same (rowChanges w p) _ (rowsOf w p) after-changes) at m)
+
+  pub changed-back : (b : ℕ) → Among b (changedBuckets (view w) (view w .txns p)) → Among b (join (rowChanges w p) (rowsOf w p))
+  unfolding changedBuckets
+  changed-back b m = rw (join-same (rowChanges w p) _ (rowsOf w p) after-changes) (join-to _ _ (rowsOf w p) b (λ r a. pending-row w z g p r a) m)
+
+  -- all that the number holds is listed
+  pub held-listed : (b : ℕ) → view w .held .holder b ≡ txnAt w p .number → Among b (bucketIn (phaseView (txnAt w p .phase)) ∷ listedAfter w p)
+  unfolding needs
+  held-listed b e = by (g .holders .buckets .owner b (λ q. omega (arith, q)))
+    where
+      rows-listed : Among b (join (λ r. keyBuckets (view w .sizes) (view w .index .posted r) ++ keyBuckets (view w .sizes) (newKey (view w .txns p) r)) (pendingRows (view w .sizes) (view w .txns p .writes))) → Among b (join (rowNeeds w p) (rowsOf w p))
+      rows-listed m = rw (join-same (rowNeeds w p) (λ r. keyBuckets (view w .sizes) (view w .index .posted r) ++ keyBuckets (view w .sizes) (newKey (view w .txns p) r)) (rowsOf w p)
+          (λ r a. rw (← g .written .mine p r l k (row-pending w z g p r a) .before) (after-needs r a)))
+          (join-to (λ r. keyBuckets (view w .sizes) (view w .index .posted r) ++ keyBuckets (view w .sizes) (newKey (view w .txns p) r)) (pendingRows (view w .sizes) (view w .txns p .writes)) (rowsOf w p) b (λ r a. pending-row w z g p r a) m)
+
+      wanted : Wants (view w .sizes) (view w .index .posted) (view w .txns p) b → Among b (bucketIn (phaseView (txnAt w p .phase)) ∷ listedAfter w p)
+      wanted (inl h) = inl (sym (ap bucketIn (h .1)))
+      wanted (inr h) = inr (⊎-elim
+          (λ a. among-left b (readsNeed (w .tables .lists) (txnAt w p .slot) (txnAt w p .«reads_n»)) _ (rw (reads-need (w .tables .lists) (txnAt w p)) at a))
+          (λ a. among-right b (readsNeed (w .tables .lists) (txnAt w p .slot) (txnAt w p .«reads_n»)) _ (rows-listed a))
+          (among-cases b (readBuckets (view w .txns p)) (join (λ r. keyBuckets (view w .sizes) (view w .index .posted r) ++ keyBuckets (view w .sizes) (newKey (view w .txns p) r)) (pendingRows (view w .sizes) (view w .txns p .writes))) (h .1)))
+
+      by : (j : ℕ) × (view w .held .holder b ≡ view w .txns j .number) × Wants (view w .sizes) (view w .index .posted) (view w .txns j) b → Among b (bucketIn (phaseView (txnAt w p .phase)) ∷ listedAfter w p)
+      by o = wanted (rw (g .numbers .distinct p (o .0) l (sym e ∙ o .1)) (o .2))
+
+module _ (w : Words) (z : Sized w) (g : Good (view w)) (p : ℕ) where
+  -- the lists fit in the words for them, and are in range
+  pub after-few : length (listedAfter w p) ≤ 48
+  after-few =
+      let s = sized-at w z p in
+      rw length-append (omega (
+        arith,
+        s .reads,
+        s .writes,
+        writes-few w z g p,
+        needs-length (w .tables .lists) (txnAt w p),
+        join-few (rowNeeds w p) (rowsOf w p) (λ r. needs-few (w .tables .rows) (w .tables .versions) (w .tables .lists) (w .sizes .buckets) true (txnAt w p .slot) (txnAt w p .«writes_n») r),
+      ))
+
+  needs-range : (r : ℕ) → InRange (w .sizes .buckets) (rowNeeds w p r)
+  needs-range r = needs-in (w .tables .rows) (w .tables .versions) (w .tables .lists) (w .sizes .buckets) true (txnAt w p .slot) (txnAt w p .«writes_n») r (count-pos w z g p)
+
+  pub after-in : InRange (w .sizes .buckets) (listedAfter w p)
+  after-in b m = ⊎-elim (λ a. read-in w z g p b a) (λ a. let o = join-which (rowNeeds w p) (rowsOf w p) b a in needs-range (o .0) b (o .2)) (among-cases b (readsNeed (w .tables .lists) (txnAt w p .slot) (txnAt w p .«reads_n»)) (join (rowNeeds w p) (rowsOf w p)) m)
+
+  change-few : (r : ℕ) → length (rowChanges w p r) ≤ 2
+  unfolding writeChanges
+  change-few r = cond-elim (λ (bs : List ℕ). length bs ≤ 2) (sameKey (keyOf (oldKeyOf (w .tables .rows) (w .tables .versions) true r)) (keyOf (newKeyOf (w .tables .lists) (txnAt w p .slot) (txnAt w p .«writes_n») r))) [] (rowNeeds w p r) (λ t. omega arith)
+      (λ t. needs-few (w .tables .rows) (w .tables .versions) (w .tables .lists) (w .sizes .buckets) true (txnAt w p .slot) (txnAt w p .«writes_n») r)
+
+  change-in : (r : ℕ) → InRange (w .sizes .buckets) (rowChanges w p r)
+  unfolding writeChanges
+  change-in r = cond-elim (λ (bs : List ℕ). InRange (w .sizes .buckets) bs) (sameKey (keyOf (oldKeyOf (w .tables .rows) (w .tables .versions) true r)) (keyOf (newKeyOf (w .tables .lists) (txnAt w p .slot) (txnAt w p .«writes_n») r))) [] (rowNeeds w p r) (λ t i m. absurd m) (λ t. needs-range r)
+
+  pub changes-few : length (join (rowChanges w p) (rowsOf w p)) ≤ 48
+  changes-few = omega (arith, join-few (rowChanges w p) (rowsOf w p) change-few, writes-few w z g p, sized-at w z p .writes)
+
+  pub changes-in : InRange (w .sizes .buckets) (join (rowChanges w p) (rowsOf w p))
+  changes-in b m = let o = join-which (rowChanges w p) (rowsOf w p) b m in change-in (o .0) b (o .2)
