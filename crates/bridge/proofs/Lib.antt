@@ -21,3 +21,4 @@ pub mod Pushing
 pub mod Reposting
 pub mod Changing
 pub mod Publishing
+pub mod Stepping
