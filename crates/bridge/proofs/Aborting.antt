@@ -1,12 +1,12 @@
 -- Abort over the words is the model's: what the words list is all that carries the number.
 -- Assumes nothing.
-use Prim.Native.Nat.{ℕ, zero, suc, _+_, _*_, _%_, _≤_, _<_}
-use mathlib.Core.Path.{_≡_, refl, sym, ap, subst, _∙_}
+use Prim.Native.Nat.{ℕ, _*_, _%_, _≤_, _<_}
+use mathlib.Core.Path.{_≡_, refl, sym, ap, _∙_}
 use mathlib.Core.Bool.{Bool, true, false, cond, not}
-use mathlib.Core.Logic.{_≢_, _⊎_, inl, inr, ⊎-elim}
-use mathlib.Core.Option.{Option, none, some}
+use mathlib.Core.Logic.{_≢_, inl, inr, ⊎-elim}
+use mathlib.Core.Option.{none, some}
 use mathlib.Core.List.{List, [], _∷_, _++_}
-use native.Mathlib.Nat.{mod-lt, mul-suc}
+use native.Mathlib.Nat.{mod-lt}
 use native.Mathlib.Decide.{decLt}
 use native.Mathlib.Omega.{arith}
 use lib.Dec.{eqb, ltb, leb}
@@ -17,10 +17,10 @@ use Rattle.model.specs.Store as model
 use Rattle.model.specs.Store.{bucketIn, rank}
 use Rattle.model.specs.Lists.{join}
 use Rattle.model.specs.Table.{update}
-use Rattle.model.specs.Steps.{release, freed, keyBuckets, oldKey, newKey, readBuckets, neededBuckets, pendingRows}
+use Rattle.model.specs.Steps.{freed, keyBuckets, oldKey, newKey, neededBuckets, pendingRows}
 use Rattle.model.specs.Refusals.{WrongPhase, checks, refusal, txnOf}
 use Rattle.model.specs.Machine.{accepted, afterRefusal, carried}
-use Rattle.model.proofs.ListLaws.{Among, among-left, among-right, among-cases, join-which, join-same}
+use Rattle.model.proofs.ListLaws.{Among, among-cases, join-which, join-same}
 use Rattle.model.proofs.Good.{Good}
 use Rattle.model.proofs.Ranges.{good-sized}
 use Rattle.model.proofs.Holders.{needs, Wants}
@@ -28,16 +28,15 @@ use Rattle.model.proofs.Written.{posted-old}
 use Rattle.protocol.specs.declared.Step.the-variants as ask
 use Rattle.protocol.specs.declared.Answer.the-variants as tell
 use Rattle.protocol.specs.View.{asked}
-use Rattle.tables.specs.Fields as fields
 use Rattle.tables.specs.Lists as lists
 use Rattle.tables.proofs.Spans.{list-length}
 use Rattle.tables.specs.declared.lists.Write.{Write}
-use Rattle.record.specs.View.{phaseView, txnView, rowsPart, versionsPart, bucketsPart, chainsView, indexView, heldView}
+use Rattle.record.specs.View.{phaseView, rowsPart, versionsPart, bucketsPart, chainsView, indexView, heldView}
 use Rattle.record.specs.Methods.{idleOf, refusedOf}
 use Rattle.record.specs.declared.Transaction.{Transaction}
 use Rattle.holders.specs.declared.Key.{Key}
 use Rattle.holders.specs.Keys.{oldKeyOf, newKeyOf}
-use Rattle.holders.specs.Needs.{bucketsFor, readsNeed, rowsWritten, writeNeeds, writesNeed}
+use Rattle.holders.specs.Needs.{bucketsFor, readsNeed, rowsWritten, writeNeeds}
 use Rattle.holders.specs.Holders.{freeAll, unclaimAll}
 use Rattle.publish.specs.Publish.{neededIn, freedIn, abortOf}
 use Rattle.steps.specs.Steps.{inAborted}

@@ -1,22 +1,21 @@
 -- Begin over the words is the model's.
 -- Assumes nothing.
-use Prim.Native.Nat.{ℕ, zero, suc, _+_, _≤_, _<_}
-use mathlib.Core.Path.{_≡_, refl, sym, ap, subst, _∙_}
+use Prim.Native.Nat.{ℕ, suc, _+_, _≤_, _<_}
+use mathlib.Core.Path.{_≡_, refl, sym, ap, _∙_}
 use mathlib.Core.Bool.{Bool, true, false, cond, not, _&&_, false≢true}
-use mathlib.Core.Logic.{_≢_}
-use mathlib.Core.Option.{Option, none, some}
-use mathlib.Core.List.{List, [], _∷_, map}
+use mathlib.Core.Option.{none, some}
+use mathlib.Core.List.{List, [], map}
 use native.Mathlib.Nat.{zero-add}
 use native.Mathlib.Numerals.{add-one}
 use native.Mathlib.Decide.{decLt}
 use native.Mathlib.Omega.{arith}
-use lib.Dec.{eqb, ltb, leb}
-use lib.ListN.{length, take, getD, length-map, List·getD-map}
+use lib.Dec.{eqb, ltb}
+use lib.ListN.{length, getD, length-map, List·getD-map}
 use borrow.Author.Tests.{eq-eqb, ne-eqb, lt-ltb, le-leb, lt-leb, ltb-false}
 use Rattle.limits.specs.Limits.{mostLive, mostActive, lastNumber}
 use Rattle.model.specs.Store as model
 use Rattle.model.specs.Table.{update}
-use Rattle.model.specs.Lists.{pick, least}
+use Rattle.model.specs.Lists.{pick}
 use Rattle.model.specs.Seeing.{live, active, activeNumbers}
 use Rattle.model.specs.Steps.{newTxn}
 use Rattle.model.specs.Refusals.{Full, NoNumbers, liveCount, checks, refusal}
@@ -24,20 +23,18 @@ use Rattle.model.specs.Machine.{accepted, afterRefusal, carried, stepIn}
 use Rattle.model.proofs.ListLaws.{and-l, pick-fewer}
 use Rattle.model.proofs.Move.{place-number}
 use Rattle.protocol.specs.declared.Step.the-variants as ask
-use Rattle.protocol.specs.declared.Answer.the-variants as tell
 use Rattle.protocol.specs.View.{asked}
 use Rattle.tables.specs.Regions.{listOf}
-use Rattle.chain.specs.declared.Snapshot.{Snapshot}
-use Rattle.record.specs.View.{phaseView, snapshotView, txnView}
+use Rattle.record.specs.View.{phaseView, txnView}
 use Rattle.record.specs.Methods.{idleOf}
 use Rattle.record.specs.declared.Phase.{Phase}
 use Rattle.record.specs.declared.Phase.the-variants as phase
 use Rattle.record.specs.declared.Transaction.{Transaction}
 use Rattle.install.specs.Install.{oneMore}
-use Rattle.begin.specs.Begin.{keepAll, keptNone, snapshotOf, spent, begunOf, refusedBegin, beginOf}
+use Rattle.begin.specs.Begin.{keptNone, snapshotOf, spent, begunOf, refusedBegin, beginOf}
 use Rattle.steps.specs.Steps.{activeNumber, liveIn, missesOf, stepOf, withBegun, stays}
 use Rattle.steps.specs.Words.{Words, view, txnAt, othersIn, placeFor, movedBy, SizedTxn, Sized}
-use Rattle.bridge.proofs.Places.{default-any, standing, number-at, numbers-eight, there, nowhere, place-in, not-there, sized-at}
+use Rattle.bridge.proofs.Places.{default-any, standing, number-at, numbers-eight, there, nowhere, not-there, sized-at}
 use Rattle.bridge.proofs.Placed.{txns-set, sized-set}
 use Rattle.bridge.proofs.Same.{same-store, same-from, SameAt, Same, refused-same}
 use Rattle.bridge.proofs.Starting.{nonzero, pick-nonzero, live-nonzero, pick-all, pick-less, keep-all}

@@ -1,10 +1,10 @@
 -- Capture over the words is the model's.
 -- Assumes nothing.
-use Prim.Native.Nat.{ℕ, suc, _+_, _*_, _≤_, _<_, min}
-use mathlib.Core.Path.{_≡_, refl, sym, ap, subst, _∙_}
-use mathlib.Core.Bool.{Bool, true, false, cond, not, _&&_, _||_}
-use mathlib.Core.Logic.{_≢_, inl, inr}
-use mathlib.Core.Option.{Option, none, some}
+use Prim.Native.Nat.{ℕ, _+_, _≤_, _<_, min}
+use mathlib.Core.Path.{_≡_, refl, sym, ap, _∙_}
+use mathlib.Core.Bool.{Bool, true, false, cond, not, _&&_}
+use mathlib.Core.Logic.{inl}
+use mathlib.Core.Option.{none, some}
 use mathlib.Core.List.{List, [], _∷_, _++_, map, map-append}
 use native.Mathlib.Omega.{arith}
 use lib.Dec.{eqb, ltb, leb}
@@ -16,7 +16,6 @@ use Rattle.model.specs.Store as model
 use Rattle.model.specs.Store.{bucketOf}
 use Rattle.model.specs.Table.{update}
 use Rattle.model.specs.Lists.{member, some-of}
-use Rattle.model.specs.Steps as does
 use Rattle.model.specs.Steps.{hasRead, addRead}
 use Rattle.model.specs.Refusals.{Refusal, WrongPhase, Marked, Taken, Stale, ManyReads, byAnother, checks, refusal, inPhase, txnOf}
 use Rattle.model.specs.Machine.{accepted, afterRefusal, carried}
@@ -38,7 +37,7 @@ use Rattle.scans.specs.declared.Found.the-variants.{At, Nothing}
 use Rattle.scans.proofs.Laws.{eqb-sym}
 use Rattle.scans.proofs.Places.{isPlace, member-place}
 use Rattle.record.specs.View.{phaseView, txnView, readView, readsIn, bucketsPart}
-use Rattle.record.specs.Methods.{withPhase, withMark, withReads, takenBy, refusedOf, left, tooMany, holdOf, heldLeft, captureAt}
+use Rattle.record.specs.Methods.{withPhase, withMark, withReads, refusedOf, left, tooMany, holdOf, heldLeft, captureAt}
 use Rattle.record.specs.declared.Phase.{Phase}
 use Rattle.record.specs.declared.Phase.the-variants as phase
 use Rattle.record.specs.declared.Transaction.{Transaction}

@@ -1,18 +1,15 @@
 -- After install: a pending row's old key stands behind its head, what changed is stamped, and all that the number holds is listed.
 -- Assumes nothing.
-use Prim.Native.Nat.{ℕ, suc, _+_, _*_, _≤_, _<_}
-use mathlib.Core.Path.{_≡_, refl, sym, ap, _∙_}
-use mathlib.Core.Bool.{Bool, true, false, cond}
-use mathlib.Core.Logic.{_≢_, inl, inr, ⊎-elim}
-use mathlib.Core.Option.{Option}
+use Prim.Native.Nat.{ℕ, suc, _≤_}
+use mathlib.Core.Path.{_≡_, sym, ap, _∙_}
+use mathlib.Core.Bool.{true, cond}
+use mathlib.Core.Logic.{inl, inr, ⊎-elim}
 use mathlib.Core.List.{List, [], _∷_, _++_}
 use native.Mathlib.Omega.{arith}
 use lib.ListN.{length, length-append}
-use Rattle.model.specs.Store as model
 use Rattle.model.specs.Store.{bucketIn, rank, sameKey}
 use Rattle.model.specs.Lists.{join}
 use Rattle.model.specs.Table.{cond-elim}
-use Rattle.model.specs.Seeing.{keyAt}
 use Rattle.model.specs.Steps.{keyBefore, newKey, keyBuckets, readBuckets, changedBuckets, pendingRows}
 use Rattle.model.proofs.ListLaws.{Among, among-left, among-right, among-cases, join-which, which-join, join-same}
 use Rattle.model.proofs.Good.{Good}
@@ -21,7 +18,7 @@ use Rattle.tables.specs.Fields as fields
 use Rattle.tables.proofs.Parts.{part-field}
 use Rattle.record.specs.View.{phaseView}
 use Rattle.holders.specs.Keys.{keyOf, oldKeyOf, newKeyOf}
-use Rattle.holders.specs.Needs.{readsNeed, rowsWritten, writeNeeds, writesNeed, writeChanges, writesChange}
+use Rattle.holders.specs.Needs.{readsNeed, rowsWritten, writeNeeds, writeChanges}
 use Rattle.steps.specs.Words.{Words, view, txnAt, Sized}
 use Rattle.bridge.proofs.Places.{sized-at}
 use Rattle.bridge.proofs.Judging.{reads-need, needs-length, read-in}

@@ -1,10 +1,10 @@
 -- Collect over the words is the model's.
 -- Assumes nothing.
 use Prim.Native.Nat.{ℕ, zero, suc, _+_, _*_, _≤_, _<_, min}
-use mathlib.Core.Path.{_≡_, refl, sym, ap, subst, _∙_}
+use mathlib.Core.Path.{_≡_, refl, ap, _∙_}
 use mathlib.Core.Bool.{Bool, true, false, cond, not, _&&_}
-use mathlib.Core.Logic.{_≢_, inl, inr}
-use mathlib.Core.Option.{Option, none, some}
+use mathlib.Core.Logic.{inl}
+use mathlib.Core.Option.{none, some}
 use mathlib.Core.List.{List, [], _∷_}
 use native.Mathlib.Nat.{add-zero, mul-le-mul-left}
 use native.Mathlib.Omega.{arith}
@@ -15,7 +15,6 @@ use Rattle.limits.specs.Limits.{mostLive, mostRows}
 use Rattle.model.specs.Store as model
 use Rattle.model.specs.Store.{sameKey, bucketIn, keyIn}
 use Rattle.model.specs.Table.{update}
-use Rattle.model.specs.Lists.{pick}
 use Rattle.model.specs.Steps.{postedRows}
 use Rattle.model.specs.Refusals.{WrongPhase, checks, refusal, inPhase}
 use Rattle.model.specs.Machine.{accepted, afterRefusal, carried}
@@ -23,7 +22,6 @@ use Rattle.model.proofs.ListLaws.{pick-same, pick-few}
 use Rattle.model.proofs.Good.{Good}
 use Rattle.model.proofs.Ranges.{good-sized}
 use Rattle.protocol.specs.declared.Step.the-variants as ask
-use Rattle.protocol.specs.declared.Answer.the-variants as tell
 use Rattle.protocol.specs.View.{asked}
 use Rattle.tables.specs.Fields.{postedOf, postedKeyOf}
 use Rattle.tables.specs.Lists as lists
@@ -32,7 +30,7 @@ use Rattle.tables.proofs.Laws.{field-length}
 use Rattle.tables.proofs.Parts.{part-field}
 use Rattle.tables.proofs.Spans.{sets-other, words-at, list-length, list-at, list-kept}
 use Rattle.record.specs.View.{phaseView, txnView, keyView}
-use Rattle.record.specs.Methods.{withPhase, withCandidates, refusedOf, left, postedWith, postedUpTo, keptIn, collectedLeft, collectOf}
+use Rattle.record.specs.Methods.{withPhase, withCandidates, refusedOf, left, postedUpTo, keptIn, collectedLeft, collectOf}
 use Rattle.record.specs.declared.Phase.the-variants as phase
 use Rattle.record.specs.declared.Transaction.{Transaction}
 use Rattle.steps.specs.Steps.{inBuckets}

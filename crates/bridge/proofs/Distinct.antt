@@ -1,23 +1,23 @@
 -- The distinct rows of the pending writes, as the words sort them, are the model's pending rows.
 -- Assumes nothing.
-use Prim.Native.Nat.{ℕ, zero, suc, _≤_, _<_, min}
-use mathlib.Core.Path.{_≡_, refl, sym, ap, _∙_}
-use mathlib.Core.Bool.{Bool, true, false, _||_, false≢true}
+use Prim.Native.Nat.{ℕ, zero, suc, _≤_, _<_}
+use mathlib.Core.Path.{_≡_, refl, sym, _∙_}
+use mathlib.Core.Bool.{true, false≢true}
 use mathlib.Core.Logic.{inl, inr, ⊎-elim}
-use mathlib.Core.List.{List, [], _∷_, _++_}
+use mathlib.Core.List.{List, [], _∷_}
 use native.Mathlib.Omega.{arith}
 use lib.Dec.{eqb}
 use lib.ListN.{length, take, drop, getD, replicate}
 use lib.Seq.{take-at}
 use borrow.Author.Tests.{eqb-true, eq-eqb}
-use Rattle.limits.specs.Limits.{mostBuckets, mostWrites, mostRows}
+use Rattle.limits.specs.Limits.{mostBuckets, mostWrites}
 use Rattle.model.specs.Store as model
 use Rattle.model.specs.Steps.{pendingRows}
 use Rattle.model.specs.Seeing.{pending}
 use Rattle.model.proofs.ListLaws.{Among, Rising, pick-rising, same-test, or-cases, or-left, or-right}
 use Rattle.model.proofs.Good.{Good}
 use Rattle.model.proofs.Ranges.{good-sized}
-use Rattle.buckets.specs.Buckets.{Made, bucketsOf, laid, canonicalOf}
+use Rattle.buckets.specs.Buckets.{bucketsOf, laid, canonicalOf}
 use Rattle.buckets.specs.Upstream.{inRange}
 use Rattle.buckets.specs.declared.Canonical.the-variants.{Sorted}
 use Rattle.buckets.proofs.Checks.{fine-when}

@@ -1,39 +1,25 @@
 -- Install over the words is the model's.
 -- Assumes nothing.
-use Prim.Native.Nat.{ℕ, zero, suc, _+_, _*_, _≤_, _<_}
-use mathlib.Core.Path.{_≡_, refl, sym, ap, subst, _∙_, fun-ext}
-use mathlib.Core.Bool.{Bool, true, false, cond, not, _&&_}
-use mathlib.Core.Logic.{_≢_, inl, inr}
-use mathlib.Core.Option.{Option, none, some}
-use mathlib.Core.List.{List, [], _∷_}
-use native.Mathlib.Numerals.{add-one}
+use Prim.Native.Nat.{ℕ, _*_, _≤_, _<_}
+use mathlib.Core.Path.{_≡_, refl, ap, _∙_, fun-ext}
+use mathlib.Core.Logic.{_≢_}
+use mathlib.Core.List.{List, []}
 use native.Mathlib.Decide.{ℕ-discrete}
 use native.Mathlib.Omega.{arith}
-use lib.Dec.{eqb}
-use lib.ListN.{length, take, replicate}
-use borrow.Author.Tests.{lt-ltb}
-use Rattle.limits.specs.Limits.{mostLive, mostWrites, lastNumber}
-use Rattle.model.specs.Store as model
-use Rattle.model.specs.Store.{rank}
+use lib.ListN.{length}
+use Rattle.limits.specs.Limits.{mostWrites}
 use Rattle.model.specs.Table.{update, update-same, update-other}
 use Rattle.model.specs.Seeing.{lastWrite, writtenKey}
-use Rattle.model.specs.Steps.{newKey, writtenPayload, pendingRows, push, pushAll}
-use Rattle.model.specs.Refusals.{WrongPhase, checks, refusal, inPhase}
-use Rattle.model.specs.Machine.{accepted, afterRefusal, carried}
-use Rattle.model.proofs.ListLaws.{Among}
-use Rattle.model.proofs.Good.{Good}
+use Rattle.model.specs.Steps.{newKey, writtenPayload}
 use Rattle.tables.specs.Words.{field, setField}
-use Rattle.tables.specs.Fields as fields
-use Rattle.tables.specs.Lists as lists
 use Rattle.tables.specs.declared.lists.Write.{Write}
 use Rattle.tables.proofs.Laws.{field-length}
-use Rattle.tables.proofs.Parts.{part-field}
 use Rattle.scans.specs.Scans.{latestPending}
 use Rattle.scans.specs.declared.Found.{Found}
 use Rattle.scans.specs.declared.Found.the-variants.{At, Nothing}
-use Rattle.record.specs.View.{keyView, txnView, writesIn, chainsView}
+use Rattle.record.specs.View.{keyView, txnView, writesIn}
 use Rattle.record.specs.declared.Transaction.{Transaction}
-use Rattle.install.specs.Install.{oneMore, writeFound, lastWriteOf, versionStored}
+use Rattle.install.specs.Install.{writeFound, lastWriteOf, versionStored}
 use Rattle.bridge.proofs.Tabled.{part, part-update, part-other}
 use Rattle.bridge.proofs.Keyed.{foundWrite, last-same}
 

@@ -1,14 +1,13 @@
 -- Validate over the words is the model's.
 -- Assumes nothing.
-use Prim.Native.Nat.{ℕ, suc, _+_, _*_, _≤_, _<_}
-use mathlib.Core.Path.{_≡_, refl, sym, ap, _∙_}
-use mathlib.Core.Bool.{Bool, true, false, cond, not, _&&_}
-use mathlib.Core.Option.{Option, none, some}
-use mathlib.Core.List.{List, [], _∷_, map, map-map}
+use Prim.Native.Nat.{ℕ, suc, _<_}
+use mathlib.Core.Path.{_≡_, refl, ap, _∙_}
+use mathlib.Core.Bool.{Bool, true, false, cond, not}
+use mathlib.Core.Option.{none, some}
+use mathlib.Core.List.{List, [], _∷_, map-map}
 use native.Mathlib.Omega.{arith}
 use lib.Dec.{eqb}
-use lib.ListN.{length, take, length-map}
-use Rattle.limits.specs.Limits.{mostLive, mostIndexReads}
+use lib.ListN.{length, length-map}
 use Rattle.model.specs.Store as model
 use Rattle.model.specs.Lists.{some-of}
 use Rattle.model.specs.Steps.{readBuckets}
@@ -21,23 +20,21 @@ use Rattle.protocol.specs.declared.Step.the-variants as ask
 use Rattle.protocol.specs.declared.Answer.the-variants as tell
 use Rattle.protocol.specs.declared.Verdict.{Verdict}
 use Rattle.protocol.specs.View.{asked, verdictTold}
-use Rattle.tables.specs.Fields.{holderOf, stampOf, xminOf, xmaxOf}
+use Rattle.tables.specs.Fields.{holderOf}
 use Rattle.tables.specs.Lists as lists
 use Rattle.tables.specs.declared.lists.IndexRead.{IndexRead}
 use Rattle.tables.proofs.Parts.{part-field}
 use Rattle.tables.proofs.Spans.{list-length}
-use Rattle.record.specs.View.{phaseView, txnView, readView, readsIn, bucketsPart, versionsPart}
+use Rattle.record.specs.View.{phaseView, txnView, readView, readsIn}
 use Rattle.record.specs.Methods.{takenBy, refusedOf}
 use Rattle.record.specs.declared.Transaction.{Transaction}
 use Rattle.holders.specs.Needs.{readsNeed}
-use Rattle.holders.specs.Holders.{anyTaken}
 use Rattle.prepare.specs.Prepare.{readsTakenIn, validateOf}
 use Rattle.verdict.specs.Judged.{verdictOf}
-use Rattle.verdict.proofs.Model.{Agrees, verdict-model}
+use Rattle.verdict.proofs.Model.{verdict-model}
 use Rattle.steps.specs.Steps.{withClock, stays}
 use Rattle.steps.specs.Words.{Words, view, txnAt, Sized}
 use Rattle.bridge.proofs.Places.{standing, sized-at}
-use Rattle.bridge.proofs.Placed.{unmoved-same, unmoved}
 use Rattle.bridge.proofs.Same.{SameAt, Same, unmoved-at, refused-same, by-place}
 use Rattle.bridge.proofs.Listing.{listed-all, some-same}
 

@@ -1,21 +1,19 @@
 -- A row's last pending write and its new key, over the words and in the model.
 -- Assumes nothing.
-use Prim.Native.Nat.{ℕ, zero, suc, _+_, _≤_, _<_, min}
+use Prim.Native.Nat.{ℕ, zero, suc, _≤_, min}
 use mathlib.Core.Path.{_≡_, refl, sym, ap, _∙_}
 use mathlib.Core.Bool.{Bool, true, false, cond}
 use mathlib.Core.Option.{Option, none, some}
 use mathlib.Core.List.{List, [], _∷_, _++_, map, map-append}
 use native.Mathlib.Omega.{arith}
 use lib.Dec.{eqb}
-use lib.ListN.{length, getD, length-map}
 use Rattle.limits.specs.Limits.{mostWrites}
 use Rattle.model.specs.Store as model
 use Rattle.model.specs.Seeing.{lastWriteFrom, lastWrite, writtenKey}
-use Rattle.model.specs.Steps.{newKey, writtenPayload}
-use Rattle.tables.specs.Regions.{words, listOf}
+use Rattle.model.specs.Steps.{newKey}
+use Rattle.tables.specs.Regions.{listOf}
 use Rattle.tables.specs.Lists as lists
 use Rattle.tables.specs.declared.lists.Write.{Write}
-use Rattle.tables.proofs.Spans.{list-length, list-at}
 use Rattle.scans.specs.Scans.{lastBelow, latestPending, rowsWritten}
 use Rattle.scans.specs.declared.Found.{Found}
 use Rattle.scans.specs.declared.Found.the-variants.{At, Nothing}

@@ -1,22 +1,20 @@
 -- The buckets that a transaction needs and the rows that it writes: the words list the same as the model names.
 -- Assumes nothing.
-use Prim.Native.Nat.{ℕ, suc, _+_, _*_, _%_, _≤_, _<_}
+use Prim.Native.Nat.{ℕ, suc, _%_, _≤_, _<_}
 use mathlib.Core.Path.{_≡_, refl, sym, ap, _∙_, fun-ext}
-use mathlib.Core.Bool.{Bool, true, false, cond, _||_}
-use mathlib.Core.Logic.{_≢_, _⊎_, inl, inr, ⊎-elim}
-use mathlib.Core.Option.{Option, none, some}
-use mathlib.Core.List.{List, [], _∷_, _++_, map}
+use mathlib.Core.Bool.{Bool, true, false, cond}
+use mathlib.Core.Logic.{inl, inr, ⊎-elim}
+use mathlib.Core.Option.{none, some}
+use mathlib.Core.List.{List, [], _∷_, _++_}
 use native.Mathlib.Omega.{arith}
 use lib.Dec.{eqb}
-use lib.ListN.{length}
 use borrow.Author.Tests.{eq-eqb}
-use Rattle.limits.specs.Limits.{mostLive}
 use Rattle.model.specs.Store as model
 use Rattle.model.specs.Store.{bucketOf}
 use Rattle.model.specs.Lists.{member, join}
 use Rattle.model.specs.Table.{updateAll}
 use Rattle.model.specs.Seeing.{keyAt, pending}
-use Rattle.model.specs.Steps.{pendingRows, oldKey, keyBefore, newKey, keyBuckets, readBuckets, neededBuckets}
+use Rattle.model.specs.Steps.{pendingRows, oldKey, newKey, keyBuckets, readBuckets, neededBuckets}
 use Rattle.model.proofs.ListLaws.{Among, among-left, among-right, among-cases, among-map, map-among, join-which, which-join, member-among, among-member, same-test, or-left, or-right, pick-which}
 use Rattle.model.proofs.SeeingLaws.{which-pendingRows, pending-which}
 use Rattle.model.proofs.Good.{Good}
@@ -24,7 +22,7 @@ use Rattle.tables.specs.Fields as fields
 use Rattle.tables.specs.Lists as lists
 use Rattle.tables.specs.declared.lists.Write.{Write}
 use Rattle.tables.proofs.Parts.{part-field}
-use Rattle.record.specs.View.{txnView, keyView, writeView, writesIn}
+use Rattle.record.specs.View.{keyView, writeView}
 use Rattle.holders.specs.declared.Key.{Key}
 use Rattle.holders.specs.Keys.{keyOf, versionKey, oldKeyOf, newKeyOf}
 use Rattle.holders.specs.Needs.{bucketsFor, readsNeed, rowsWritten, writeNeeds, writesNeed}

@@ -2,9 +2,9 @@
 -- Assumes nothing.
 use Prim.Native.Nat.{ℕ, suc, _+_, _*_, _≤_, _<_}
 use mathlib.Core.Path.{_≡_, refl, sym, ap, _∙_, fun-ext}
-use mathlib.Core.Logic.{_≢_, _⊎_, inl, inr}
+use mathlib.Core.Logic.{_≢_, inl, inr}
 use mathlib.Core.List.{List, []}
-use native.Mathlib.Nat.{mul-le-mul-left, mul-suc}
+use native.Mathlib.Nat.{mul-le-mul-left}
 use native.Mathlib.Decide.{ℕ-discrete, decLt}
 use native.Mathlib.Omega.{arith}
 use lib.ListN.{length, getD, set, length-set}
@@ -20,7 +20,6 @@ use Rattle.record.specs.View.{txnView}
 use Rattle.record.specs.Methods.{idleOf}
 use Rattle.record.specs.declared.Transaction.{Transaction}
 use Rattle.protocol.specs.declared.Answer.{Answer}
-use Rattle.steps.specs.declared.Stepped.{Stepped}
 use Rattle.steps.specs.Steps.{Tables, Moved, stays}
 use Rattle.steps.specs.Words.{Words, view, txnAt, tablesAfter, SizedTxn, Sized}
 use Rattle.bridge.proofs.Places.{sized-at}

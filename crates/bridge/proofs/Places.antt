@@ -1,33 +1,24 @@
 -- The eight places: where a number stands, and what a record put at a place leaves, as the model has it.
 -- Assumes nothing.
-use Prim.Native.Nat.{ℕ, zero, suc, _+_, _*_, _≤_, _<_}
-use mathlib.Core.Path.{_≡_, refl, sym, ap, _∙_, fun-ext}
-use mathlib.Core.Bool.{Bool, true, false, cond, not, _||_}
-use mathlib.Core.Logic.{_≢_, _⊎_, inl, inr}
+use Prim.Native.Nat.{ℕ, zero, suc, _+_, _≤_, _<_}
+use mathlib.Core.Path.{_≡_, refl, ap, _∙_}
+use mathlib.Core.Bool.{Bool, true, false, cond}
+use mathlib.Core.Logic.{_≢_}
 use mathlib.Core.List.{List, [], _∷_, map}
-use native.Mathlib.Nat.{add-zero, zero-add, mul-le-mul-left, mul-suc}
+use native.Mathlib.Nat.{add-zero, zero-add}
 use native.Mathlib.Decide.{ℕ-discrete, decLt}
 use native.Mathlib.Omega.{arith}
 use lib.Dec.{eqb}
-use lib.ListN.{length, getD, set, List·getD-map, List·getD-eq-default}
-use lib.Seq.{sets, getD-set-same, getD-set-other}
+use lib.ListN.{length, getD, List·getD-map, List·getD-eq-default}
 use borrow.Author.Tests.{eqb-false, ne-eqb}
 use Rattle.limits.specs.Limits.{mostLive}
 use Rattle.model.specs.Lists.{first}
-use Rattle.model.specs.Table.{update, update-same, update-other, cond-elim}
-use Rattle.model.specs.Store as model
 use Rattle.model.specs.Refusals.{placeOf}
 use Rattle.protocol.specs.declared.Step.{Step}
-use Rattle.tables.specs.Regions.{listOf}
-use Rattle.tables.specs.Lists.{Kind, slotWords, listAt}
-use Rattle.tables.specs.Lists as lists
-use Rattle.tables.proofs.Spans.{list-kept}
-use Rattle.tables.proofs.Stored.{Within}
-use Rattle.record.specs.View.{txnView}
 use Rattle.record.specs.Methods.{idleOf}
 use Rattle.record.specs.declared.Transaction.{Transaction}
 use Rattle.steps.specs.Steps.{placeFrom, wantedOf}
-use Rattle.steps.specs.Words.{Words, view, txnAt, othersIn, placeFor, SizedTxn, Sized}
+use Rattle.steps.specs.Words.{Words, view, txnAt, placeFor, SizedTxn, Sized}
 
 module _ (test : ℕ → Bool) where
   -- where there is a first place, the words find it

@@ -1,22 +1,18 @@
 -- Prepare over the words is the model's.
 -- Assumes nothing.
-use Prim.Native.Nat.{ℕ, zero, suc, _+_, _*_, _≤_, _<_, min}
-use mathlib.Core.Path.{_≡_, refl, sym, ap, subst, _∙_}
+use Prim.Native.Nat.{ℕ, _+_, _<_}
+use mathlib.Core.Path.{_≡_, refl, sym, ap, _∙_}
 use mathlib.Core.Bool.{Bool, true, false, cond, not, _&&_, _||_}
-use mathlib.Core.Logic.{_≢_, inl, inr}
-use mathlib.Core.Option.{Option, none, some}
-use mathlib.Core.List.{List, [], _∷_, _++_, map}
-use native.Mathlib.Nat.{zero-add}
+use mathlib.Core.Option.{none, some}
+use mathlib.Core.List.{List, [], _∷_}
 use native.Mathlib.Omega.{arith}
 use lib.Dec.{eqb, ltb}
 use lib.ListN.{length, take, getD, replicate, List·getD-map}
-use Rattle.limits.specs.Limits.{mostLive, mostWrites}
+use Rattle.limits.specs.Limits.{mostLive}
 use Rattle.model.specs.Store as model
 use Rattle.model.specs.Store.{rank}
 use Rattle.model.specs.Lists.{some-of}
-use Rattle.model.specs.Table.{update, updateAll}
 use Rattle.model.specs.Verdict as judged
-use Rattle.model.specs.Seeing.{live}
 use Rattle.model.specs.Steps.{pendingRows, neededBuckets, preparedHeld}
 use Rattle.model.specs.Refusals.{Refusal, WrongPhase, Taken, Conflict, NoVersions, byAnother, reservedBy, reserved, bucketsTaken, rowsClaimed, checks, refusal, inPhase, txnOf}
 use Rattle.model.specs.Machine.{accepted, afterRefusal, carried}
@@ -30,17 +26,16 @@ use Rattle.tables.proofs.Parts.{part-field}
 use Rattle.tables.specs.Regions.{listOf}
 use Rattle.buckets.specs.Buckets.{canonicalOf}
 use Rattle.buckets.proofs.Sorted.{buckets-no-longer}
-use Rattle.record.specs.View.{phaseView, txnView, rowsPart, versionsPart, bucketsPart, chainsView, indexView, heldView}
+use Rattle.record.specs.View.{phaseView, rowsPart, versionsPart, bucketsPart, chainsView, indexView, heldView}
 use Rattle.record.specs.Methods.{withPhase, takenBy, refusedOf, idleOf}
 use Rattle.record.specs.declared.Phase.the-variants as phase
 use Rattle.record.specs.declared.Transaction.{Transaction}
 use Rattle.holders.specs.Needs.{pushAll, rowsWritten}
 use Rattle.holders.specs.Holders.{anyTaken, anyClaimed, holdAll, claimAll}
-use Rattle.verdict.specs.Judged.{verdictOf}
 use Rattle.prepare.specs.Prepare.{isClear, distinctIn, reservedIn, lacks, neededInto, left, prepareWith, prepareOf}
 use Rattle.install.specs.Install.{rowsListed, pendingInto}
 use Rattle.steps.specs.Steps.{preparedCount, inPrepared}
-use Rattle.steps.specs.Words.{Words, sizesView, view, txnAt, othersIn, SizedTxn, Sized}
+use Rattle.steps.specs.Words.{Words, sizesView, view, txnAt, othersIn, Sized}
 use Rattle.bridge.proofs.Places.{standing, sized-at}
 use Rattle.bridge.proofs.Placed.{txns-set, sized-set}
 use Rattle.bridge.proofs.Same.{same-store, SameAt, Same, refused-same, by-place}

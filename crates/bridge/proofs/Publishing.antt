@@ -1,11 +1,11 @@
 -- Publish over the words is the model's.
 -- Assumes nothing.
-use Prim.Native.Nat.{ℕ, suc, _+_, _*_, _≤_, _<_}
-use mathlib.Core.Path.{_≡_, refl, sym, ap, subst, _∙_, fun-ext}
+use Prim.Native.Nat.{ℕ, _*_, _≤_, _<_}
+use mathlib.Core.Path.{_≡_, refl, ap, _∙_, fun-ext}
 use mathlib.Core.Bool.{Bool, true, false, cond, not}
 use mathlib.Core.Logic.{_≢_, inl, inr}
 use mathlib.Core.Option.{Option, none, some}
-use mathlib.Core.List.{List, [], _∷_, _++_}
+use mathlib.Core.List.{List, [], _∷_}
 use native.Mathlib.Omega.{arith}
 use lib.Dec.{eqb}
 use lib.ListN.{length}
@@ -16,7 +16,7 @@ use Rattle.model.specs.Store.{bucketIn, rank}
 use Rattle.model.specs.Lists.{member, pick, join}
 use Rattle.model.specs.Table.{update, updateAll}
 use Rattle.model.specs.Seeing.{live}
-use Rattle.model.specs.Steps.{newKey, pendingRows, repost, changedBuckets, publishedIndex, release, freed}
+use Rattle.model.specs.Steps.{pendingRows, repost, changedBuckets, publishedIndex, freed}
 use Rattle.model.specs.Refusals.{WrongPhase, liveCount, checks, refusal, inPhase}
 use Rattle.model.specs.Machine.{accepted, afterRefusal, carried}
 use Rattle.model.proofs.ListLaws.{Among, same-test, member-among, among-member, which-pick}
@@ -26,11 +26,9 @@ use Rattle.protocol.specs.declared.Step.the-variants as ask
 use Rattle.protocol.specs.declared.Answer.the-variants as tell
 use Rattle.protocol.specs.View.{asked}
 use Rattle.tables.specs.Words.{field}
-use Rattle.record.specs.View.{phaseView, txnView, rowsPart, versionsPart, bucketsPart, chainsView, indexView, heldView}
+use Rattle.record.specs.View.{phaseView, rowsPart, versionsPart, bucketsPart, chainsView, indexView, heldView}
 use Rattle.record.specs.Methods.{idleOf, refusedOf}
-use Rattle.install.specs.Install.{oneMore}
 use Rattle.holders.specs.Holders.{stampAll, freeAll, unclaimAll}
-use Rattle.publish.specs.Publish as publish
 use Rattle.publish.specs.Publish.{postedAll, stampedIn, neededIn, freedIn, publishOf}
 use Rattle.steps.specs.Steps.{publishStep, publishedFrom, inPublished}
 use Rattle.steps.specs.Words.{Words, sizesView, view, txnAt, Sized}
@@ -44,7 +42,7 @@ use Rattle.bridge.proofs.Keyed.{new-key-same}
 use Rattle.bridge.proofs.Needing.{all-same, row-in, row-pending, pending-row}
 use Rattle.bridge.proofs.Aborting.{own-rows, sized-idle}
 use Rattle.bridge.proofs.Pushing.{one-up}
-use Rattle.bridge.proofs.Reposting.{both, keys-by, postings, posted-all, posted-length, posted-other}
+use Rattle.bridge.proofs.Reposting.{keys-by, postings, posted-all, posted-length, posted-other}
 use Rattle.bridge.proofs.Changing.{rowChanges, rowsOf, listedAfter, changed-to, changed-back, held-listed, after-few, after-in, changes-few, changes-in}
 
 -- what publish leaves of the rows and of the buckets

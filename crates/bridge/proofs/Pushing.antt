@@ -10,7 +10,7 @@ use native.Mathlib.Numerals.{add-one}
 use native.Mathlib.Decide.{ℕ-discrete}
 use native.Mathlib.Omega.{arith}
 use lib.Dec.{eqb}
-use lib.ListN.{length, take, replicate}
+use lib.ListN.{length}
 use borrow.Author.Tests.{lt-ltb, eqb-true, not-false}
 use Rattle.limits.specs.Limits.{mostLive, mostWrites, mostVersions, lastNumber}
 use Rattle.model.specs.Store as model
@@ -20,15 +20,13 @@ use Rattle.model.specs.Seeing.{lastWrite}
 use Rattle.model.specs.Steps.{newKey, writtenPayload, pendingRows, push, pushAll}
 use Rattle.model.specs.Refusals.{WrongPhase, reservedBy, reserved, checks, refusal, inPhase}
 use Rattle.model.specs.Machine.{accepted, afterRefusal, carried}
-use Rattle.model.proofs.ListLaws.{Among}
 use Rattle.model.proofs.Room.{reserves}
 use Rattle.model.proofs.Good.{Good}
 use Rattle.model.proofs.Ranges.{good-sized}
 use Rattle.protocol.specs.declared.Step.the-variants as ask
 use Rattle.protocol.specs.declared.Answer.the-variants as tell
 use Rattle.protocol.specs.View.{asked}
-use Rattle.tables.specs.Words.{field, setField}
-use Rattle.tables.specs.Fields as fields
+use Rattle.tables.specs.Words.{field}
 use Rattle.tables.proofs.Laws.{field-length}
 use Rattle.tables.proofs.Parts.{part-field}
 use Rattle.record.specs.View.{phaseView, txnView, writesIn, chainsView, indexView, heldView, rowsPart, bucketsPart}
@@ -38,7 +36,7 @@ use Rattle.record.specs.declared.Transaction.{Transaction}
 use Rattle.install.specs.Install as install
 use Rattle.install.specs.Install.{oneMore, lastWriteOf, versionStored, pushedRow, pushedRows, toInstall, installOf}
 use Rattle.steps.specs.Steps.{inInstalled}
-use Rattle.steps.specs.Words.{Words, sizesView, view, txnAt, SizedTxn, Sized}
+use Rattle.steps.specs.Words.{Words, sizesView, view, txnAt, Sized}
 use Rattle.bridge.proofs.Places.{standing, sized-at}
 use Rattle.bridge.proofs.Placed.{txns-set, sized-set}
 use Rattle.bridge.proofs.Same.{same-store, SameAt, Same, refused-same, by-place}
@@ -46,7 +44,7 @@ use Rattle.bridge.proofs.Tabled.{part, part-update, part-other, InRange
 use Rattle.bridge.proofs.Writing.{sized-phase}
 use Rattle.bridge.proofs.Needing.{row-in, pending-row}
 use Rattle.bridge.proofs.Distinct.{pending-front}
-use Rattle.bridge.proofs.Installing.{last-key, last-payload, stored-length, stored-xmin, stored-xmax, stored-next, stored-keys, stored-payload}
+use Rattle.bridge.proofs.Installing.{last-key, last-payload, stored-xmin, stored-xmax, stored-next, stored-keys, stored-payload}
 
 -- chains are their parts
 same-chains : (c c′ : model.Chains) → c .used ≡ c′ .used → c .head ≡ c′ .head → c .xmin ≡ c′ .xmin → c .xmax ≡ c′ .xmax → c .next ≡ c′ .next → c .key ≡ c′ .key → c .payload ≡ c′ .payload → c ≡ c′

@@ -1,9 +1,9 @@
 -- Postings that follow the new keys, row after row: the model's `repost`.
 -- Assumes nothing.
 use Prim.Native.Nat.{ℕ, _*_, _≤_, _<_}
-use mathlib.Core.Path.{_≡_, refl, sym, ap, _∙_, fun-ext}
+use mathlib.Core.Path.{_≡_, refl, ap, _∙_, fun-ext}
 use mathlib.Core.Bool.{Bool, true, false, cond, _||_}
-use mathlib.Core.Logic.{_≢_, inl, inr}
+use mathlib.Core.Logic.{inl, inr}
 use mathlib.Core.Option.{Option}
 use mathlib.Core.List.{List, [], _∷_}
 use native.Mathlib.Decide.{ℕ-discrete}
@@ -13,12 +13,9 @@ use lib.ListN.{length}
 use borrow.Author.Tests.{eq-eqb, ne-eqb}
 use Rattle.model.specs.Lists.{member}
 use Rattle.model.specs.Table.{update, update-same, update-other}
-use Rattle.model.specs.Steps.{newKey, repost}
-use Rattle.model.proofs.ListLaws.{Among, same-test, member-among, among-member}
 use Rattle.tables.specs.Words.{field, setField}
 use Rattle.tables.proofs.Laws.{field-length}
-use Rattle.record.specs.View.{keyView, txnView}
-use Rattle.record.specs.declared.Transaction.{Transaction}
+use Rattle.record.specs.View.{keyView}
 use Rattle.holders.specs.Keys.{keyOf, newKeyOf}
 use Rattle.publish.specs.Publish.{postedOne, postedAll}
 use Rattle.bridge.proofs.Tabled.{part, part-update, part-other, InRange}

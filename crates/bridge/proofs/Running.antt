@@ -1,6 +1,5 @@
 -- Any sequence of steps over the words, where each step is the model's.
 -- Assumes nothing.
-use Prim.Native.Nat.{ℕ}
 use mathlib.Core.Path.{_≡_, refl, sym, ap, subst, _∙_}
 use mathlib.Core.List.{List, [], _∷_, map}
 use Rattle.model.specs.Store.{Store}

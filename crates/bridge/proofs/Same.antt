@@ -2,14 +2,12 @@
 -- Assumes nothing.
 use Prim.Native.Nat.{ℕ, _<_, _≤_}
 use mathlib.Core.Path.{_≡_, refl, sym, ap, subst, _∙_}
-use mathlib.Core.Bool.{Bool, true, false, cond, not, _||_}
+use mathlib.Core.Bool.{Bool, true, false, not, _||_}
 use mathlib.Core.Logic.{_≢_}
-use mathlib.Core.Option.{Option, none, some}
 use mathlib.Core.List.{List, [], _∷_}
 use native.Mathlib.Decide.{ℕ-discrete, decLt}
 use native.Mathlib.Omega.{arith}
 use lib.Dec.{eqb, ltb}
-use lib.ListN.{getD}
 use borrow.Author.Tests.{eq-eqb, ne-eqb, lt-ltb, le-ltb}
 use Rattle.limits.specs.Limits.{mostLive}
 use Rattle.model.specs.Store as model
@@ -22,7 +20,7 @@ use Rattle.protocol.specs.declared.Answer.{Answer}
 use Rattle.protocol.specs.declared.Answer.the-variants as tell
 use Rattle.protocol.specs.View.{asked, told}
 use Rattle.record.specs.Methods.{idleOf}
-use Rattle.steps.specs.Steps.{wantedOf, isBegin, missesOf, placeFrom, Moved, doneBy, stepOf}
+use Rattle.steps.specs.Steps.{wantedOf, isBegin, missesOf, Moved, doneBy, stepOf}
 use Rattle.steps.specs.Words.{Words, view, txnAt, othersIn, placeFor, movedBy, wordsAfter, Sized}
 use Rattle.bridge.proofs.Places.{default-any, standing, there, nowhere, place-in, not-there}
 use Rattle.bridge.proofs.Placed.{after, unmoved, unmoved-same}

@@ -1,33 +1,25 @@
 -- Who is live and who is active, over the words and in the model; begin.
 -- Assumes nothing.
-use Prim.Native.Nat.{ℕ, zero, suc, _+_, _*_, _≤_, _<_}
-use mathlib.Core.Path.{_≡_, refl, sym, ap, subst, _∙_}
-use mathlib.Core.Bool.{Bool, true, false, cond, not, _&&_}
-use mathlib.Core.Logic.{_≢_, inl, inr}
-use mathlib.Core.Option.{Option, none, some}
+use Prim.Native.Nat.{ℕ, zero, suc, _+_, _≤_, _<_}
+use mathlib.Core.Path.{_≡_, refl, sym, ap, _∙_}
+use mathlib.Core.Bool.{Bool, true, false, cond, not}
 use mathlib.Core.List.{List, [], _∷_, _++_, map, append-assoc, append-nil}
-use native.Mathlib.Nat.{add-zero, zero-add}
+use native.Mathlib.Nat.{add-zero}
 use native.Mathlib.Numerals.{add-one}
-use native.Mathlib.Decide.{ℕ-discrete, decLt}
+use native.Mathlib.Decide.{ℕ-discrete}
 use native.Mathlib.Omega.{arith}
-use lib.Dec.{eqb, ltb, leb}
-use lib.ListN.{length, take, getD, set, replicate, length-map, length-set, List·getD-map}
+use lib.Dec.{eqb, leb}
+use lib.ListN.{length, take, getD, set, length-set}
 use lib.Seq.{take-suc-set}
-use borrow.Author.Tests.{eq-eqb, ne-eqb, lt-ltb, le-ltb, le-leb, lt-leb, ltb-true, ltb-false, eqb-true, eqb-false}
-use Rattle.limits.specs.Limits.{mostLive, mostActive, lastNumber}
+use borrow.Author.Tests.{lt-leb}
+use Rattle.limits.specs.Limits.{mostActive}
 use Rattle.model.specs.Lists.{pick, least}
 use Rattle.model.specs.Table.{cond-elim}
-use Rattle.model.proofs.ListLaws.{pick-few, pick-fewer}
-use Rattle.model.specs.Seeing.{live, active, activeNumbers}
-use Rattle.model.specs.Refusals.{liveCount}
-use Rattle.begin.specs.Begin.{lower, keepActive, keepAll, keptNone}
+use Rattle.model.proofs.ListLaws.{pick-few}
+use Rattle.model.specs.Seeing.{active}
+use Rattle.begin.specs.Begin.{lower, keepActive, keepAll}
 use Rattle.begin.specs.declared.Kept.{Kept}
-use Rattle.record.specs.View.{phaseView}
-use Rattle.record.specs.Methods.{idleOf}
-use Rattle.record.specs.declared.Transaction.{Transaction}
-use Rattle.steps.specs.Steps.{activeNumber, oneLive, liveFrom, liveIn}
-use Rattle.steps.specs.Words.{Words, view, txnAt, othersIn, Sized}
-use Rattle.bridge.proofs.Places.{standing, not-there}
+use Rattle.steps.specs.Steps.{liveFrom}
 
 -- the numbers that are not 0
 unfoldable pub nonzero : List ℕ → List ℕ

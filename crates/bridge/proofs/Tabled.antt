@@ -1,23 +1,21 @@
 -- Fields set in the part of a table that its size names, one or all of a list: the model's `update`, `updateAll` and `release`.
 -- Assumes nothing.
-use Prim.Native.Nat.{ℕ, suc, _+_, _*_, _≤_, _<_}
-use mathlib.Core.Path.{_≡_, refl, sym, ap, _∙_, fun-ext}
+use Prim.Native.Nat.{ℕ, _*_, _≤_, _<_}
+use mathlib.Core.Path.{_≡_, refl, ap, _∙_, fun-ext}
 use mathlib.Core.Bool.{Bool, true, false, cond, _||_}
 use mathlib.Core.Logic.{_≢_, inl, inr}
 use mathlib.Core.List.{List, [], _∷_}
-use native.Mathlib.Decide.{ℕ-discrete, decLt}
+use native.Mathlib.Decide.{decLt}
 use native.Mathlib.Omega.{arith}
 use lib.Dec.{eqb}
 use lib.ListN.{length, take, length-take}
-use borrow.Author.Tests.{eq-eqb, ne-eqb, eqb-true}
 use Rattle.model.specs.Lists.{member}
-use Rattle.model.specs.Table.{update, updateAll, update-same, update-other}
-use Rattle.model.specs.Steps.{release}
+use Rattle.model.specs.Table.{update, updateAll}
 use Rattle.model.proofs.ListLaws.{Among}
 use Rattle.tables.specs.Words.{field, setField}
 use Rattle.tables.proofs.Laws.{below, field-update, field-kept, field-length}
-use Rattle.tables.proofs.Parts.{part-field, part-set, part-kept}
-use Rattle.holders.specs.Holders.{holdAll, stampAll, freeAll, claimAll, unclaimAll}
+use Rattle.tables.proofs.Parts.{part-set, part-kept}
+use Rattle.holders.specs.Holders.{holdAll, stampAll, claimAll}
 
 -- the first n entries of a table, w words each
 abbrev pub part : ℕ → ℕ → List ℕ → List ℕ

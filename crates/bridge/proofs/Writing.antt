@@ -1,37 +1,35 @@
 -- End, put and erase over the words are the model's.
 -- Assumes nothing.
-use Prim.Native.Nat.{ℕ, suc, _+_, _*_, _≤_, _<_}
-use mathlib.Core.Path.{_≡_, refl, sym, ap, _∙_}
+use Prim.Native.Nat.{ℕ, _+_, _≤_, _<_}
+use mathlib.Core.Path.{_≡_, refl, ap, _∙_}
 use mathlib.Core.Bool.{Bool, true, false, cond, not}
-use mathlib.Core.Logic.{_≢_, inl, inr}
-use mathlib.Core.Option.{Option, none, some}
-use mathlib.Core.List.{List, [], _∷_, _++_, map, map-append}
+use mathlib.Core.Logic.{inl, inr}
+use mathlib.Core.Option.{none, some}
+use mathlib.Core.List.{List, [], _∷_, map-append}
 use native.Mathlib.Omega.{arith}
 use lib.Dec.{eqb, ltb, leb}
 use lib.ListN.{length, length-map}
-use lib.Seq.{sets, length-sets}
+use lib.Seq.{length-sets}
 use borrow.Author.Tests.{leb-false}
 use Rattle.limits.specs.Limits.{mostLive, mostWrites}
 use Rattle.model.specs.Store as model
 use Rattle.model.specs.Table.{update}
 use Rattle.model.specs.Steps as does
-use Rattle.model.specs.Refusals.{Step as Asked, NoSuch, WrongPhase, NoRow, ManyWrites, checks, refusal, inPhase, writeChecks}
+use Rattle.model.specs.Refusals.{Step as Asked, WrongPhase, NoRow, ManyWrites, checks, refusal, inPhase, writeChecks}
 use Rattle.model.specs.Machine.{gives, accepted, afterRefusal, carried}
 use Rattle.model.specs.Machine as machine
-use Rattle.protocol.specs.declared.Step.{Step}
 use Rattle.protocol.specs.declared.Step.the-variants as ask
 use Rattle.protocol.specs.declared.Answer.the-variants as tell
 use Rattle.protocol.specs.View.{asked}
 use Rattle.tables.specs.Lists as lists
-use Rattle.tables.specs.Lists.{stored, placeOf, listsWords}
+use Rattle.tables.specs.Lists.{stored, listsWords}
 use Rattle.tables.specs.declared.lists.Write.{Write}
 use Rattle.tables.proofs.Stored.{same-list, other-list}
 use Rattle.tables.proofs.Spans.{list-length}
 use Rattle.record.specs.View.{phaseView, txnView, writeView, writesIn}
-use Rattle.record.specs.Methods.{withPhase, withWrites, refusedOf, writeOf, LeftLists}
+use Rattle.record.specs.Methods.{withPhase, withWrites, refusedOf, writeOf}
 use Rattle.record.specs.declared.Phase.the-variants as phase
 use Rattle.record.specs.declared.Transaction.{Transaction}
-use Rattle.record.specs.declared.Answered.{Answered}
 use Rattle.publish.specs.Publish.{endOf}
 use Rattle.steps.specs.Steps.{withClock, stays, inLists}
 use Rattle.steps.specs.Words.{Words, view, txnAt, SizedTxn, Sized}
