@@ -14,9 +14,10 @@ kit:
 	@have=$$(rt version 2>/dev/null) || have='no rt on the PATH'; \
 	case "$$have" in *' $(LOGIC)') ;; *) echo "toruxeng is proved with '$(KIT)'; found: $$have" >&2; exit 1 ;; esac
 
+# rt runs the program itself, under an emulator where the machine is not x86-64
 demo: kit
 	@rt check edges
-	@target/bin/edges
+	@cat target/log/edges.stdout
 
 test: kit
 	@rt ci
