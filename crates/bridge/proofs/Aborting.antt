@@ -199,7 +199,8 @@ module _ (w : Words) (z : Sized w) (g : Good (view w)) (n : ℕ) where
         store = same-store _ _ refl refl (abort-chains w z (t .number) rs) (abort-index w z (t .number) rs (freed-list w z g q)) (abort-held w z g q a r)
             (txns-set w z q l (w .tables .lists) (idleOf (t .slot)) (λ j d. refl) ∙ ap (λ (y : model.Txn). update (view w .txns) q y) (idle-view (w .tables .lists) (t .slot)));
         answer = refl;
-        sized = sized-set w z q l _ _ _ _ (sized-idle q t (sized-at w z q)) (unclaim-all-length (w .sizes .rows) (t .number) (w .tables .rows) rs) refl (free-all-length (w .sizes .buckets) (t .number) (w .tables .buckets) (freed-list w z g q)) refl refl;
+        lent = refl;
+        sized = sized-set w z q l _ _ _ _ (sized-idle q t (sized-at w z q)) (unclaim-all-length (w .sizes .rows) (t .number) (w .tables .rows) rs) refl (free-all-length (w .sizes .buckets) (t .number) (w .tables .buckets) (freed-list w z g q)) refl;
       }
 
   -- buckets and claims are freed, and the record ends

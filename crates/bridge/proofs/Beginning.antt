@@ -129,7 +129,8 @@ module _ (w : Words) (z : Sized w) where
       record {
         store = same-store _ _ refl (one-more c) refl refl refl (txns-set w z (standing w 0) l (w .tables .lists) _ (λ j d. refl) ∙ ap (λ (y : model.Txn). update (view w .txns) (standing w 0) y) (begun-view l c (w .tables .lists) (txnAt w (standing w 0))));
         answer = refl;
-        sized = sized-set w z (standing w 0) l _ _ _ _ (begun-sized l) refl refl refl refl refl;
+        lent = refl;
+        sized = sized-set w z (standing w 0) l _ _ _ _ (begun-sized l) refl refl refl refl;
       }
 
   moved-begin : (p : ℕ) → placeFor (w .txns) ask.Begin ≡ p → p < mostLive → movedBy w ask.Begin ≡ stays (withBegun (beginOf (othersIn (w .txns) .active) (liveCount (view w .txns)) (w .clock) (txnAt w p)) (w .used)) (w .tables)

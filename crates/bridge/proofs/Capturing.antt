@@ -112,7 +112,8 @@ module _ (w : Words) (z : Sized w) (g : Good (view w)) (n k : ℕ) (l : standing
   marked-at = let s = sized-at w z (standing w n) in record {
     store = same-store _ _ refl refl refl refl refl (txns-set w z (standing w n) l (w .tables .lists) (withMark (txnAt w (standing w n))) (λ j d. refl));
     answer = refl;
-    sized = sized-set w z (standing w n) l _ _ _ _ (record { slot = s .slot; active = s .active; seven = s .seven; reads = s .reads; writes = s .writes; records = s .records; candidates = s .candidates }) refl refl refl refl refl;
+    lent = refl;
+    sized = sized-set w z (standing w n) l _ _ _ _ (record { slot = s .slot; active = s .active; seven = s .seven; reads = s .reads; writes = s .writes; records = s .records; candidates = s .candidates }) refl refl refl refl;
   }
 
   -- the bucket is taken
@@ -131,7 +132,8 @@ module _ (w : Words) (z : Sized w) (g : Good (view w)) (n k : ℕ) (l : standing
             ∙ ap (λ (y : List model.IndexRead). update (view w .txns) q (record { number = txnAt w q .number; snapshot = view w .txns q .snapshot; marked = txnAt w q .marked; phase = model.Holding b k; reads = y; writes = view w .txns q .writes; records = view w .txns q .records; candidates = view w .txns q .candidates }))
             (sym (add-held (readsIn (w .tables .lists) (txnAt w q)) b (view w .index .stamp b) r)));
         answer = ap tell.Stamp e;
-        sized = sized-set w z q l _ _ _ _ (record { slot = s .slot; active = s .active; seven = s .seven; reads = s .reads; writes = s .writes; records = s .records; candidates = s .candidates }) refl refl (field-length 2 1 (w .tables .buckets) b (txnAt w q .number)) refl refl;
+        lent = refl;
+        sized = sized-set w z q l _ _ _ _ (record { slot = s .slot; active = s .active; seven = s .seven; reads = s .reads; writes = s .writes; records = s .records; candidates = s .candidates }) refl refl (field-length 2 1 (w .tables .buckets) b (txnAt w q .number)) refl;
       }
   held-at Nothing st e r m =
       let q = standing w n in
@@ -146,7 +148,8 @@ module _ (w : Words) (z : Sized w) (g : Good (view w)) (n k : ℕ) (l : standing
             ∙ ap (λ (y : List model.IndexRead). update (view w .txns) q (record { number = txnAt w q .number; snapshot = view w .txns q .snapshot; marked = txnAt w q .marked; phase = model.Holding b k; reads = y; writes = view w .txns q .writes; records = view w .txns q .records; candidates = view w .txns q .candidates }))
             (rw e (sym (add-new (readsIn (w .tables .lists) (txnAt w q)) b (view w .index .stamp b) r)))));
         answer = ap tell.Stamp e;
-        sized = sized-set w z q l _ _ _ _ (record { slot = s .slot; active = s .active; seven = s .seven; reads = omega arith; writes = s .writes; records = s .records; candidates = s .candidates }) refl refl (field-length 2 1 (w .tables .buckets) b (txnAt w q .number)) (length-sets (w .tables .lists) _ (b ∷ st ∷ [])) refl;
+        lent = refl;
+        sized = sized-set w z q l _ _ _ _ (record { slot = s .slot; active = s .active; seven = s .seven; reads = omega arith; writes = s .writes; records = s .records; candidates = s .candidates }) refl refl (field-length 2 1 (w .tables .buckets) b (txnAt w q .number)) (length-sets (w .tables .lists) _ (b ∷ st ∷ []));
       }
 
   captured-at : (f : Found) (st : ℕ) → st ≡ view w .index .stamp (bucketOf (view w .sizes) k) → hasRead (readsIn (w .tables .lists) (txnAt w (standing w n))) (bucketOf (view w .sizes) k) ≡ isPlace f

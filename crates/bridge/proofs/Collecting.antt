@@ -117,7 +117,8 @@ module _ (w : Words) (z : Sized w) (g : Good (view w)) where
             (txns-set w z q l _ _ (λ j d. slot-view (w .tables .lists) q j _ rs (txnAt w j) (sized-at w z j) (omega arith) (omega arith) d)
             ∙ ap (λ (y : model.Txn). update (view w .txns) q y) (collected-view (w .tables .lists) q (txnAt w q) rs (keyIn ph) s l few (z .lists)));
         answer = refl;
-        sized = sized-set w z q l _ _ _ _ (record { slot = s .slot; active = s .active; seven = s .seven; reads = s .reads; writes = s .writes; records = s .records; candidates = few }) refl refl (field-length 2 1 (w .tables .buckets) (bucketIn ph) 0) (length-sets (w .tables .lists) _ rs) refl;
+        lent = refl;
+        sized = sized-set w z q l _ _ _ _ (record { slot = s .slot; active = s .active; seven = s .seven; reads = s .reads; writes = s .writes; records = s .records; candidates = few }) refl refl (field-length 2 1 (w .tables .buckets) (bucketIn ph) 0) (length-sets (w .tables .lists) _ rs);
       }
 
   -- the posted rows are kept, and the bucket is free

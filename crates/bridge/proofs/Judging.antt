@@ -84,7 +84,7 @@ module _ (w : Words) (z : Sized w) (g : Good (view w)) where
   unfolding carried accepted afterRefusal
   judged-at n v e true c = refused-same w z (standing w n) WrongPhase
   judged-at n v e false true = refused-same w z (standing w n) Taken
-  judged-at n v e false false = unmoved-at w z (standing w n) (tell.Judged v) _ (ap tell.Judged e)
+  judged-at n v e false false = unmoved-at w z (standing w n) (tell.Judged v) _ (ap tell.Judged e) refl
 
   -- validate changes nothing
   pub validate-same : (n : ℕ) → Same w (ask.Validate n)

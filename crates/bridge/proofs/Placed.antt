@@ -73,15 +73,14 @@ module _ (w : Words) (z : Sized w) (p : ℕ) (l : p < mostLive) where
 
   -- what is left is in order
   pub sized-set : (t : Transaction) (b : Tables) (clock used : ℕ) → SizedTxn p t → length (b .rows) ≡ length (w .tables .rows) → length (b .versions) ≡ length (w .tables .versions)
-      → length (b .buckets) ≡ length (w .tables .buckets) → length (b .lists) ≡ length (w .tables .lists) → length (b .found) ≡ length (w .tables .found)
+      → length (b .buckets) ≡ length (w .tables .buckets) → length (b .lists) ≡ length (w .tables .lists)
       → Sized (record { tables = b; txns = set (w .txns) p t; sizes = w .sizes; clock = clock; used = used })
-  sized-set t b clock used h r v c d e = record {
+  sized-set t b clock used h r v c d = record {
     eight = length-set (w .txns) p t ∙ z .eight;
     rows = rw r (z .rows);
     versions = rw v (z .versions);
     buckets = rw c (z .buckets);
     lists = rw d (z .lists);
-    found = rw e (z .found);
     txns = λ i k. by i (ℕ-discrete i p);
   }
     where

@@ -161,7 +161,8 @@ module _ (w : Words) (z : Sized w) (g : Good (view w)) where
       record {
         store = same-store _ _ refl refl (prepare-chains (t .number) rs) (prepare-index (t .number) rs (listedNeeds w q)) (prepare-held q) (txns-set w z q l (w .tables .lists) (withPhase t phase.Prepared) (λ j d. refl));
         answer = refl;
-        sized = sized-set w z q l _ _ _ _ (sized-phase q t phase.Prepared (sized-at w z q)) (claim-length (t .number) (w .tables .rows) rs) refl (hold-length (t .number) (w .tables .buckets) (listedNeeds w q)) refl refl;
+        lent = refl;
+        sized = sized-set w z q l _ _ _ _ (sized-phase q t phase.Prepared (sized-at w z q)) (claim-length (t .number) (w .tables .rows) rs) refl (hold-length (t .number) (w .tables .buckets) (listedNeeds w q)) refl;
       }
 
   -- the tests after the phase

@@ -151,9 +151,10 @@ module _ (w : Words) (z : Sized w) (g : Good (view w)) (n : ℕ) (l : standing w
         store = same-store _ _ refl (one-up (w .clock) (clock-below w g q l a)) (publish-chains w z g q) (publish-index w z g q a k) (publish-held w z g q a k)
             (txns-set w z q l (w .tables .lists) (idleOf (t .slot)) (λ j d. refl) ∙ ap (λ (y : model.Txn). update (view w .txns) q y) (idle-view (w .tables .lists) (t .slot)));
         answer = refl;
+        lent = refl;
         sized = sized-set w z q l _ _ _ _ (sized-idle q t (sized-at w z q))
             (unclaim-all-length (w .sizes .rows) (t .number) (rowsPosted w q) (rowsOf w q) ∙ posted-length (w .tables .lists) (t .slot) (t .«writes_n») (w .sizes .rows) (rowsOf w q) (w .tables .rows)) refl
-            (free-all-length (w .sizes .buckets) (t .number) (stamped w q) (heldOf w q) ∙ stamp-length (w .clock) (w .tables .buckets) (changesOf w q)) refl refl;
+            (free-all-length (w .sizes .buckets) (t .number) (stamped w q) (heldOf w q) ∙ stamp-length (w .clock) (w .tables .buckets) (changesOf w q)) refl;
       }
 
   published-place : SameAt w (standing w n) (inPublished (publishStep (w .tables .versions) (w .tables .lists) (w .sizes .buckets) (txnAt w (standing w n)) (w .clock) (w .used) (w .tables .rows) (w .tables .buckets)) (w .tables))

@@ -194,7 +194,8 @@ module _ (w : Words) (z : Sized w) (g : Good (view w)) (n : ℕ) (l : standing w
       record {
         store = same-store _ _ refl refl (install-chains r) install-index install-held (txns-set w z q l (w .tables .lists) (withPhase t phase.Installed) (λ j d. refl));
         answer = refl;
-        sized = sized-set w z q l _ _ _ _ (sized-phase q t phase.Installed (sized-at w z q)) (all-rows-length (w .tables .lists) (t .slot) (t .«writes_n») (t .number) ps (chainsIn w)) (all-versions-length (w .tables .lists) (t .slot) (t .«writes_n») (t .number) ps (chainsIn w)) refl refl refl;
+        lent = refl;
+        sized = sized-set w z q l _ _ _ _ (sized-phase q t phase.Installed (sized-at w z q)) (all-rows-length (w .tables .lists) (t .slot) (t .«writes_n») (t .number) ps (chainsIn w)) (all-versions-length (w .tables .lists) (t .slot) (t .«writes_n») (t .number) ps (chainsIn w)) refl refl;
       }
 
   installed-place : SameAt w (standing w n) (inInstalled (installOf (w .tables .lists) (txnAt w (standing w n)) (chainsIn w)) (w .clock) (w .tables)) (carried (view w) (asked (ask.Install n)) (refusal ((not (inPhase (view w) n 4), WrongPhase) ∷ [])))

@@ -13,7 +13,7 @@ use Rattle.limits.specs.Limits.{mostLive}
 use Rattle.model.specs.Store as model
 use Rattle.model.specs.Refusals.{Step as Asked, Refusal, NoSuch, WrongPhase, refusalNumber, placeOf, checks, refusal, found}
 use Rattle.model.specs.Machine as machine
-use Rattle.model.specs.Machine.{gives, carried, afterRefusal, stepIn}
+use Rattle.model.specs.Machine.{gives, lentAfter, carried, afterRefusal, stepIn}
 use Rattle.model.proofs.Move.{place-number}
 use Rattle.protocol.specs.declared.Step.{Step}
 use Rattle.protocol.specs.declared.Answer.{Answer}
@@ -37,12 +37,14 @@ same-store s s′ a b c d e f = parts (s .sizes) (s′ .sizes) (s .clock) (s′ 
 pub record SameAt (w : Words) (p : ℕ) (m : Moved) (out : machine.Stepped) : Type 0 where
   pub store : view (after w p m) ≡ out .store
   pub answer : m .stepped .answer ≡ told (out .answer)
+  pub lent : m .found ≡ lentAfter (out .answer) (w .tables .found)
   pub sized : Sized (after w p m)
 
--- a step of the words is the model's step on what they stand for
+-- a step of the words is the model's step on what they stand for, and so is what it leaves in the lent row list
 pub record Same (w : Words) (s : Step) : Type 0 where
   pub store : view (wordsAfter w s) ≡ stepIn (view w) (asked s) .store
   pub answer : movedBy w s .stepped .answer ≡ told (stepIn (view w) (asked s) .answer)
+  pub lent : movedBy w s .found ≡ lentAfter (stepIn (view w) (asked s) .answer) (w .tables .found)
   pub sized : Sized (wordsAfter w s)
 
 pub same-from : (w : Words) (s : Step) (p : ℕ) (m : Moved) (out : machine.Stepped) → placeFor (w .txns) s ≡ p → movedBy w s ≡ m → stepIn (view w) (asked s) ≡ out → SameAt w p m out → Same w s
@@ -51,19 +53,21 @@ same-from w s p m out a b c h =
     record {
       store = ap (λ (x : Words). view x) e ∙ (h .store ∙ sym (ap (λ (o : machine.Stepped). o .store) c));
       answer = rw (b, c) (h .answer);
+      lent = rw (b, c) (h .lent);
       sized = subst (λ (x : Words). Sized x) (sym e) (h .sized);
     }
 
 -- an answer that changes nothing, and so every refusal but a stale stamp's
-pub unmoved-at : (w : Words) → Sized w → (p : ℕ) (a : Answer) (o : machine.Answer) → a ≡ told o → SameAt w p (unmoved w p a) (gives (view w) o)
-unmoved-at w z p a o e = record {
+pub unmoved-at : (w : Words) → Sized w → (p : ℕ) (a : Answer) (o : machine.Answer) → a ≡ told o → w .tables .found ≡ lentAfter o (w .tables .found) → SameAt w p (unmoved w p a) (gives (view w) o)
+unmoved-at w z p a o e f = record {
   store = ap (λ (x : Words). view x) (unmoved-same w p a);
   answer = e;
+  lent = f;
   sized = subst (λ (x : Words). Sized x) (sym (unmoved-same w p a)) z;
 }
 
 pub refused-same : (w : Words) → Sized w → (p : ℕ) (r : Refusal) → SameAt w p (unmoved w p (tell.Refused (refusalNumber r))) (gives (view w) (machine.Refused r))
-refused-same w z p r = unmoved-at w z p (tell.Refused (refusalNumber r)) (machine.Refused r) refl
+refused-same w z p r = unmoved-at w z p (tell.Refused (refusalNumber r)) (machine.Refused r) refl refl
 
 -- the model refuses with 4; else it goes on with the phase
 module _ (v : model.Store) (a : Asked) (t : ℕ) (ph : Bool) (more : List (Bool × Refusal)) (e : checks v a ≡ found v t ph more) where

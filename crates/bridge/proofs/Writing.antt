@@ -67,7 +67,8 @@ module _ (w : Words) (z : Sized w) (n : ℕ) (l : standing w n < mostLive) where
   ended-at false = record {
     store = same-store _ _ refl refl refl refl refl (txns-set w z (standing w n) l (w .tables .lists) (withPhase (txnAt w (standing w n)) phase.Ended) (λ j d. refl));
     answer = refl;
-    sized = sized-set w z (standing w n) l _ _ _ _ (sized-phase (standing w n) (txnAt w (standing w n)) phase.Ended (sized-at w z (standing w n))) refl refl refl refl refl;
+    lent = refl;
+    sized = sized-set w z (standing w n) l _ _ _ _ (sized-phase (standing w n) (txnAt w (standing w n)) phase.Ended (sized-at w z (standing w n))) refl refl refl refl;
   }
 
 -- one pending write more, for put and erase alike
@@ -94,7 +95,8 @@ module _ (w : Words) (z : Sized w) (p : ℕ) (l : p < mostLive) (x : Write) (a :
             (txns-set w z p l _ _ (λ j d. slot-view (w .tables .lists) p j _ (writeWords x) (txnAt w j) (sized-at w z j) (omega arith) (omega arith) d)
             ∙ ap (λ (y : model.Txn). update (view w .txns) p y) (written-view (w .tables .lists) p (txnAt w p) s l (z .lists) k x));
         answer = refl;
-        sized = sized-set w z p l _ _ _ _ (record { slot = s .slot; active = s .active; seven = s .seven; reads = s .reads; writes = omega arith; records = s .records; candidates = s .candidates }) refl refl refl (length-sets (w .tables .lists) _ (writeWords x)) refl;
+        lent = refl;
+        sized = sized-set w z p l _ _ _ _ (record { slot = s .slot; active = s .active; seven = s .seven; reads = s .reads; writes = omega arith; records = s .records; candidates = s .candidates }) refl refl refl (length-sets (w .tables .lists) _ (writeWords x));
       })
 
 -- the number stops being active

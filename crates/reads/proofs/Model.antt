@@ -165,7 +165,7 @@ module _ (s : Store) (rows versions lists : List ℕ) (used : ℕ) (t : Transact
       rw (matched-model, n) (record-all (txn .records) (pointers (recordsOf lists (t .slot) (t .«records_n»))) (foundRows s txn) (recorded-member (recordsOf lists (t .slot) (t .«records_n»))) matched-all)
 
   -- ---- the tests
-  pub room-same : (room len : ℕ) → mostRows ≤ len → ltb (roomFor room len) (length (matchedRows seen (s .sizes .rows))) ≡ ltb (min room mostRows) (length (foundRows s txn))
+  pub room-same : (room len : ℕ) → min room mostRows ≤ len → ltb (roomFor room len) (length (matchedRows seen (s .sizes .rows))) ≡ ltb (min room mostRows) (length (foundRows s txn))
   room-same room len h = let m : roomFor room len ≡ min room mostRows = omega arith in rw (m, matched-model)
 
   pub count-same : length (recordsAfter s txn) ≡ t .«records_n» + length new
@@ -176,7 +176,7 @@ module _ (s : Store) (rows versions lists : List ℕ) (used : ℕ) (t : Transact
     pub rows-view : txnView (putRecords lists (t .slot) (t .«records_n») new) (doneTxn t (t .«records_n» + length new)) ≡ readTxn s txn
     rows-view = put-view lists t new st h ∙ rw records-model
 
-  module _ (found : List ℕ) (room : ℕ) (lent : mostRows ≤ length found) where
+  module _ (found : List ℕ) (room : ℕ) (lent : min room mostRows ≤ length found) where
     read-as : t .«records_n» + length new ≤ mostRecords → ReadAs s lists found t (doneRows t lists found (matchedRows seen (s .sizes .rows)) new)
     read-as h = record {
       answer-is = rw matched-model;

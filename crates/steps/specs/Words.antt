@@ -87,5 +87,4 @@ pub record Sized (w : Words) : Type 0 where
   pub versions : versionWords * suc (w .sizes .versions) ≤ length (w .tables .versions)
   pub buckets : bucketWords * w .sizes .buckets ≤ length (w .tables .buckets)
   pub lists : listsWords ≤ length (w .tables .lists)
-  pub found : mostRows ≤ length (w .tables .found)
   pub txns : (i : ℕ) → i < mostLive → SizedTxn i (txnAt w i)
