@@ -7,6 +7,7 @@ pub mod Listing
 pub mod Judging
 pub mod Capturing
 pub mod Collecting
+pub mod Finding
 pub mod Starting
 pub mod Beginning
 pub mod Running

@@ -1,6 +1,8 @@
--- Every kind of step over the words is the model's, given that rows is.
+-- Every kind of step over the words is the model's.
 -- Assumes nothing.
-use Prim.Native.Nat.{ℕ}
+use Prim.Native.Nat.{ℕ, _≤_, min}
+use lib.ListN.{length}
+use Rattle.limits.specs.Limits.{mostRows}
 use Rattle.model.proofs.Good.{Good}
 use Rattle.protocol.specs.declared.Step.{Step}
 use Rattle.protocol.specs.declared.Step.the-variants as ask
@@ -10,22 +12,42 @@ use Rattle.bridge.proofs.Writing.{end-same, put-same, erase-same}
 use Rattle.bridge.proofs.Judging.{validate-same}
 use Rattle.bridge.proofs.Capturing.{capture-same}
 use Rattle.bridge.proofs.Collecting.{collect-same}
+use Rattle.bridge.proofs.Finding.{rows-same}
 use Rattle.bridge.proofs.Beginning.{begin-same}
 use Rattle.bridge.proofs.Aborting.{abort-same}
 use Rattle.bridge.proofs.Preparing.{prepare-same}
 use Rattle.bridge.proofs.Pushing.{install-same}
 use Rattle.bridge.proofs.Publishing.{publish-same}
 
-pub step-same : (w : Words) → Sized w → Good (view w) → ((n room : ℕ) → Same w (ask.Rows n room)) → (s : Step) → Same w s
-step-same w z g rows ask.Begin = begin-same w z
-step-same w z g rows (ask.Capture n k) = capture-same w z g n k
-step-same w z g rows (ask.Collect n) = collect-same w z g n
-step-same w z g rows (ask.Rows n room) = rows n room
-step-same w z g rows (ask.Put n r k payload) = put-same w z n r k payload
-step-same w z g rows (ask.Erase n r) = erase-same w z n r
-step-same w z g rows (ask.Prepare n) = prepare-same w z g n
-step-same w z g rows (ask.Install n) = install-same w z g n
-step-same w z g rows (ask.End n) = end-same w z n
-step-same w z g rows (ask.Publish n) = publish-same w z g n
-step-same w z g rows (ask.Validate n) = validate-same w z g n
-step-same w z g rows (ask.Abort n) = abort-same w z g n
+-- the room that a step asks for in the lent list
+abbrev pub roomOf : Step → ℕ
+roomOf ask.Begin = 0
+roomOf (ask.Capture n k) = 0
+roomOf (ask.Collect n) = 0
+roomOf (ask.Rows n room) = room
+roomOf (ask.Put n r k payload) = 0
+roomOf (ask.Erase n r) = 0
+roomOf (ask.Prepare n) = 0
+roomOf (ask.Install n) = 0
+roomOf (ask.End n) = 0
+roomOf (ask.Publish n) = 0
+roomOf (ask.Validate n) = 0
+roomOf (ask.Abort n) = 0
+
+-- the lent list is as long as the room that is asked for; room above 256 counts as 256
+abbrev pub Lent : Words → Step → Type 0
+Lent w s = min (roomOf s) mostRows ≤ length (w .tables .found)
+
+pub step-same : (w : Words) → Sized w → Good (view w) → (s : Step) → Lent w s → Same w s
+step-same w z g ask.Begin h = begin-same w z
+step-same w z g (ask.Capture n k) h = capture-same w z g n k
+step-same w z g (ask.Collect n) h = collect-same w z g n
+step-same w z g (ask.Rows n room) h = rows-same w z g n room h
+step-same w z g (ask.Put n r k payload) h = put-same w z n r k payload
+step-same w z g (ask.Erase n r) h = erase-same w z n r
+step-same w z g (ask.Prepare n) h = prepare-same w z g n
+step-same w z g (ask.Install n) h = install-same w z g n
+step-same w z g (ask.End n) h = end-same w z n
+step-same w z g (ask.Publish n) h = publish-same w z g n
+step-same w z g (ask.Validate n) h = validate-same w z g n
+step-same w z g (ask.Abort n) h = abort-same w z g n

@@ -92,6 +92,7 @@ pub record ReadAs (s : Store) (lists found : List ℕ) (t : Transaction) (w : Le
   pub others : (u : Transaction) → u .slot ≢ t .slot → Stands lists u → txnView (w .lists) u ≡ txnView lists u
   pub stands : Stands (w .lists) (w .reply .txn)
   pub slot-same : w .reply .txn .slot ≡ t .slot
+  pub snapshot-same : w .reply .txn .snapshot ≡ t .snapshot
   pub long-same : length (w .lists) ≡ length lists
 
 -- by the model's refusal: its number, with all as it was; or what the step leaves
@@ -185,6 +186,7 @@ module _ (s : Store) (rows versions lists : List ℕ) (used : ℕ) (t : Transact
       others = put-others lists t new st h;
       stands = put-stands lists t new st h;
       slot-same = refl;
+      snapshot-same = refl;
       long-same = put-length lists (t .slot) (t .«records_n») new;
     }
 
