@@ -1,6 +1,6 @@
 -- Rows over the words is the model's.
 -- Assumes nothing.
-use Prim.Native.Nat.{ℕ, suc, _*_, _/_, _≤_, _<_, min}
+use Prim.Native.Nat.{ℕ, suc, _≤_, _<_, min}
 use mathlib.Core.Path.{_≡_, refl, sym, ap, _∙_}
 use mathlib.Core.Bool.{Bool, true, false, cond, not}
 use mathlib.Core.Option.{none, some}
@@ -8,7 +8,7 @@ use mathlib.Core.Logic.{_≢_}
 use mathlib.Core.List.{[], _∷_}
 use native.Mathlib.Decide.{decLt}
 use native.Mathlib.Omega.{arith}
-use lib.Dec.{eqb, ltb}
+use lib.Dec.{ltb}
 use lib.ListN.{length, List·getD-eq-default}
 use Rattle.limits.specs.Limits.{mostLive, mostRows, mostRecords}
 use Rattle.model.specs.Table.{update}
@@ -25,11 +25,11 @@ use Rattle.tables.proofs.Parts.{part-field}
 use Rattle.record.specs.View.{txnView}
 use Rattle.record.specs.Methods.{idleOf}
 use Rattle.matching.proofs.Model.{Shows, shows-parts}
-use Rattle.reads.specs.Rows.{LeftRows, rowsOf}
+use Rattle.reads.specs.Rows.{LeftRows}
 use Rattle.reads.proofs.Appended.{Stands}
 use Rattle.reads.proofs.Model.{ReadAs, RowsAs, rows-model}
 use Rattle.steps.specs.Steps.{inFound}
-use Rattle.steps.specs.Words.{Words, view, txnAt, SizedTxn, Sized}
+use Rattle.steps.specs.Words.{Words, view, txnAt, Sized}
 use Rattle.bridge.proofs.Places.{standing, sized-at}
 use Rattle.bridge.proofs.Placed.{idle-view, txns-set, sized-set}
 use Rattle.bridge.proofs.Same.{same-store, SameAt, Same, refused-same, by-place}
@@ -68,7 +68,7 @@ module _ (w : Words) (z : Sized w) (g : Good (view w)) where
     where
       other : (j : ℕ) → j ≢ standing w n → txnView (left .lists) (txnAt w j) ≡ txnView (w .tables .lists) (txnAt w j)
       other j d = elim (decLt j mostLive) [
-        yes i ↦ h .others (txnAt w j) (λ e. d (sym (sized-at w z j .slot) ∙ (e ∙ sized-at w z (standing w n) .slot))) (lists-stand j i)
+        | yes i ↦ h .others (txnAt w j) (λ e. d (sym (sized-at w z j .slot) ∙ (e ∙ sized-at w z (standing w n) .slot))) (lists-stand j i)
         | no i ↦ rw (List·getD-eq-default (w .txns) (idleOf j) {n = j} (omega (arith, z .eight))) (idle-view (left .lists) j ∙ sym (idle-view (w .tables .lists) j))
       ]
 

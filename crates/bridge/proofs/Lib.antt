@@ -11,6 +11,7 @@ pub mod Finding
 pub mod Starting
 pub mod Beginning
 pub mod Running
+pub mod Opening
 pub mod Freeing
 pub mod Keyed
 pub mod Needing
