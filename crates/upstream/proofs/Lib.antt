@@ -1,0 +1,5 @@
+pub mod Ownership
+pub mod Capture
+pub mod Lookup
+pub mod Predicate
+pub mod Composition
