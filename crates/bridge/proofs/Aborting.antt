@@ -3,7 +3,7 @@
 use Prim.Native.Nat.{ℕ, _*_, _%_, _≤_, _<_}
 use mathlib.Core.Path.{_≡_, refl, sym, ap, _∙_}
 use mathlib.Core.Bool.{Bool, true, false, cond, not}
-use mathlib.Core.Logic.{_≢_, inl, inr, ⊎-elim}
+use mathlib.Core.Logic.{inl, inr, ⊎-elim}
 use mathlib.Core.Option.{none, some}
 use mathlib.Core.List.{List, [], _∷_, _++_}
 use native.Mathlib.Nat.{mod-lt}
@@ -41,7 +41,7 @@ use Rattle.holders.specs.Holders.{freeAll, unclaimAll}
 use Rattle.publish.specs.Publish.{neededIn, freedIn, abortOf}
 use Rattle.steps.specs.Steps.{inAborted}
 use Rattle.steps.specs.Words.{Words, sizesView, view, txnAt, SizedTxn, Sized}
-use Rattle.bridge.proofs.Places.{standing, sized-at}
+use Rattle.bridge.proofs.Places.{standing, sized-at, live-at}
 use Rattle.bridge.proofs.Placed.{idle-view, txns-set, sized-set}
 use Rattle.bridge.proofs.Same.{same-store, SameAt, Same, refused-same, by-place}
 use Rattle.bridge.proofs.Listing.{listed-all}
@@ -209,8 +209,5 @@ module _ (w : Words) (z : Sized w) (g : Good (view w)) (n : ℕ) where
   abort-same = by-place w z (ask.Abort n) refl (ltb (rank (txnOf (view w) n .phase)) 5) [] refl
       (λ l d e.
       let q = standing w n in
-      let a : 1 ≤ txnAt w q .number = pos d e in
+      let a : 1 ≤ txnAt w q .number = live-at w n d e in
       rw (freed-buckets w z g q, ← late-test (rank (phaseView (txnAt w q .phase)))) (aborted-at l a (leb 5 (rank (phaseView (txnAt w q .phase)))) refl))
-    where
-      pos : n ≢ 0 → txnAt w (standing w n) .number ≡ n → 1 ≤ txnAt w (standing w n) .number
-      pos d e = omega (arith, d)

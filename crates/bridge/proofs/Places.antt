@@ -60,6 +60,10 @@ default-any (x ∷ l) (suc i) d e h = default-any l i d e (omega arith)
 abbrev pub standing : Words → ℕ → ℕ
 standing w n = placeOf (view w .txns) n
 
+-- who has a number that is not 0 is live
+pub live-at : (w : Words) (n : ℕ) → n ≢ 0 → txnAt w (standing w n) .number ≡ n → 1 ≤ txnAt w (standing w n) .number
+live-at w n d e = omega (arith, d)
+
 pub number-at : (ts : List Transaction) (i : ℕ) → getD (map (λ (t : Transaction). t .number) ts) i 0 ≡ getD ts i (idleOf i) .number
 number-at ts i = List·getD-map (λ (t : Transaction). t .number) ts i (idleOf i)
 

@@ -3,7 +3,7 @@
 use Prim.Native.Nat.{ℕ, _*_, _≤_, _<_}
 use mathlib.Core.Path.{_≡_, refl, ap, _∙_, fun-ext}
 use mathlib.Core.Bool.{Bool, true, false, cond, not}
-use mathlib.Core.Logic.{_≢_, inl, inr}
+use mathlib.Core.Logic.{inl, inr}
 use mathlib.Core.Option.{Option, none, some}
 use mathlib.Core.List.{List, [], _∷_}
 use native.Mathlib.Omega.{arith}
@@ -32,7 +32,7 @@ use Rattle.holders.specs.Holders.{stampAll, freeAll, unclaimAll}
 use Rattle.publish.specs.Publish.{postedAll, stampedIn, neededIn, freedIn, publishOf}
 use Rattle.steps.specs.Steps.{publishStep, publishedFrom, inPublished}
 use Rattle.steps.specs.Words.{Words, sizesView, view, txnAt, Sized}
-use Rattle.bridge.proofs.Places.{standing, sized-at}
+use Rattle.bridge.proofs.Places.{standing, sized-at, live-at}
 use Rattle.bridge.proofs.Placed.{idle-view, txns-set, sized-set}
 use Rattle.bridge.proofs.Same.{same-store, SameAt, Same, refused-same, by-place}
 use Rattle.bridge.proofs.Listing.{listed-all}
@@ -165,7 +165,4 @@ module _ (w : Words) (z : Sized w) (g : Good (view w)) (n : ℕ) (l : standing w
 -- changed buckets are stamped, postings moved, buckets and claims freed, and the record ends
 pub publish-same : (w : Words) → Sized w → Good (view w) → (n : ℕ) → Same w (ask.Publish n)
 unfolding checks
-publish-same w z g n = by-place w z (ask.Publish n) refl (inPhase (view w) n 6) [] refl (λ l d e. published-place w z g n l (pos d e))
-  where
-    pos : n ≢ 0 → txnAt w (standing w n) .number ≡ n → 1 ≤ txnAt w (standing w n) .number
-    pos d e = omega (arith, d)
+publish-same w z g n = by-place w z (ask.Publish n) refl (inPhase (view w) n 6) [] refl (λ l d e. published-place w z g n l (live-at w n d e))

@@ -37,7 +37,7 @@ use Rattle.install.specs.Install as install
 use Rattle.install.specs.Install.{oneMore, lastWriteOf, versionStored, pushedRow, pushedRows, toInstall, installOf}
 use Rattle.steps.specs.Steps.{inInstalled}
 use Rattle.steps.specs.Words.{Words, sizesView, view, txnAt, Sized}
-use Rattle.bridge.proofs.Places.{standing, sized-at}
+use Rattle.bridge.proofs.Places.{standing, sized-at, live-at}
 use Rattle.bridge.proofs.Placed.{txns-set, sized-set}
 use Rattle.bridge.proofs.Same.{same-store, SameAt, Same, refused-same, by-place}
 use Rattle.bridge.proofs.Tabled.{part, part-update, part-other, InRange}
@@ -205,7 +205,4 @@ module _ (w : Words) (z : Sized w) (g : Good (view w)) (n : ℕ) (l : standing w
 -- each distinct pending row gets its version
 pub install-same : (w : Words) → Sized w → Good (view w) → (n : ℕ) → Same w (ask.Install n)
 unfolding checks
-install-same w z g n = by-place w z (ask.Install n) refl (inPhase (view w) n 4) [] refl (λ l d e. installed-place w z g n l (pos d e))
-  where
-    pos : n ≢ 0 → txnAt w (standing w n) .number ≡ n → 1 ≤ txnAt w (standing w n) .number
-    pos d e = omega (arith, d)
+install-same w z g n = by-place w z (ask.Install n) refl (inPhase (view w) n 4) [] refl (λ l d e. installed-place w z g n l (live-at w n d e))
