@@ -3,7 +3,7 @@ use Prim.Native.Nat.{ℕ, _+_, _%_}
 use mathlib.Core.Bool.{Bool, true, cond}
 use mathlib.Core.List.{List, [], _∷_, _++_, map}
 use lib.Dec.{eqb, ltb}
-use lib.ListN.{length, set}
+use lib.ListN.{length, take, set, replicate}
 use Rattle.model.specs.Lists.{join}
 use Rattle.model.specs.Store.{sameKey}
 use Rattle.tables.specs.Lists.{readsOf, writesOf}
@@ -24,6 +24,13 @@ pushOne st x = cond (ltb (st .n) (length (st .out))) (record { out = set (st .ou
 unfoldable pub pushAll : Listed → List ℕ → Listed
 pushAll st [] = st
 pushAll st (x ∷ xs) = pushAll (pushOne st x) xs
+
+-- numbers listed in so many words, and what is listed
+abbrev pub listedIn : ℕ → List ℕ → Listed
+listedIn room xs = pushAll (record { out = replicate room 0; n = 0 }) xs
+
+abbrev pub front : Listed → List ℕ
+front l = take (l .n) (l .out)
 
 -- the bucket of a key; no key needs none
 unfoldable pub bucketsFor : ℕ → Key → List ℕ

@@ -2,6 +2,7 @@
 use buckets::Canonical;
 use buckets::canonical_buckets_sort;
 use limits::MOST_BUCKETS;
+use limits::MOST_WRITES;
 use protocol::Answer;
 use protocol::WRONG_PHASE;
 use record::Phase;
@@ -26,6 +27,12 @@ ghost use lib.ListN.{length, take};
 ghost use Rattle.holders.specs.Needs.{pushAll, rowsWritten};
 ghost use Rattle.install.specs.Install.{sortedCount, pendingInto, lastWriteOf, oneMore, versionStored, pushedRow, pushedRows, installOf};
 
+// L: 2^64 − 1, the very last number.
+const LAST_NUMBER: u64 = 18446744073709551615;
+
+// Words for the rows of all pending writes of a transaction.
+pub const MOST_PENDING: usize = MOST_WRITES as usize;
+
 // What install leaves beside the tables.
 pub struct Installed {
     pub answer: Answer,
@@ -37,7 +44,7 @@ pub struct Installed {
 pub fn one_more(x: u64) -> u64
     ensures { λ r. ⌜ r ≡ oneMore x ⌝ }
 {
-    if x < 18446744073709551615 {
+    if x < LAST_NUMBER {
         return x + 1;
     }
     x
@@ -71,7 +78,7 @@ fn push_rows(lists: &[u64], slot: u32, count: u32, out: &mut [u64]) -> usize
 pub fn pending_rows(lists: &[u64], slot: u32, count: u32, out: &mut [u64]) -> usize
     ensures { λ r. ⌜ record { out = now (out .exit); n = r } ≡ pendingInto (now (lists .entry)) slot count (now (out .entry)) ⌝ }
 {
-    let mut rows = [0u64; 16];
+    let mut rows = [0u64; MOST_PENDING];
     let n = push_rows(lists, slot, count, &mut rows);
     sorted_count(canonical_buckets_sort(&rows[..n], MOST_BUCKETS, out))
 }
@@ -170,7 +177,7 @@ pub fn install(
             used: used,
         };
     }
-    let mut list = [0u64; 16];
+    let mut list = [0u64; MOST_PENDING];
     let n = pending_rows(lists, t.slot, t.writes_n, &mut list);
     let last = push_all_rows(
         rows,

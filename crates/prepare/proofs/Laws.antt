@@ -1,9 +1,9 @@
 -- Each way out of prepare, over plain values.
 -- Assumes nothing.
 use Prim.Native.Nat.{ℕ, _+_, _-_, _≤_}
-use mathlib.Core.Path.{_≡_, refl, sym, _∙_}
-use mathlib.Core.Bool.{Bool, true, false, not}
-use mathlib.Core.List.{List, _++_}
+use mathlib.Core.Path.{_≡_, sym, _∙_}
+use mathlib.Core.Bool.{Bool, true, false}
+use mathlib.Core.List.{List}
 use lib.Dec.{eqb, ltb}
 use borrow.Author.Tests.{lt-ltb, ltb-true}
 use native.Mathlib.Omega.{arith}
@@ -15,11 +15,11 @@ use Rattle.record.specs.View.{phaseView}
 use Rattle.record.specs.Methods.{withPhase, refusedOf}
 use Rattle.record.specs.declared.Phase.the-variants as phase
 use Rattle.record.specs.declared.Transaction.{Transaction}
-use Rattle.holders.specs.Needs.{Listed, pushAll, readsNeed, rowsWritten, writesNeed}
+use Rattle.holders.specs.Needs.{Listed, pushAll, front, readsNeed, rowsWritten, writesNeed}
 use Rattle.holders.specs.Holders.{anyTaken, anyClaimed, holdAll, claimAll}
 use Rattle.holders.proofs.Laws.{push-append}
 use Rattle.verdict.specs.Judged.{verdictOf}
-use Rattle.prepare.specs.Prepare.{mostNeeded, listedIn, front, readsTakenIn, isClear, lacks, neededInto, Left, left, prepareWith, prepareOf}
+use Rattle.prepare.specs.Prepare.{mostNeeded, readsTakenIn, isClear, lacks, neededInto, left, prepareWith, prepareOf}
 
 -- buckets of the index reads, then of the pending rows
 pub needed-made : (rows versions lists : List ℕ) (count slot reads writes : ℕ) (out : List ℕ) (st₁ st₂ : Listed) → st₁ ≡ pushAll (record { out = out; n = 0 }) (readsNeed lists slot reads)

@@ -1,10 +1,10 @@
 -- What validate and prepare answer and leave.
 use Prim.Native.Nat.{ℕ, _+_, min}
 use mathlib.Core.Bool.{Bool, true, false, cond, not}
-use mathlib.Core.List.{List, [], _∷_, _++_}
+use mathlib.Core.List.{List, _++_}
 use lib.Dec.{eqb, ltb}
-use lib.ListN.{take, getD, replicate}
-use Rattle.limits.specs.Limits.{mostWrites}
+use lib.ListN.{getD, replicate}
+use Rattle.limits.specs.Limits.{mostIndexReads, mostWrites}
 use Rattle.model.specs.Store.{rank}
 use Rattle.protocol.specs.declared.Answer.the-variants as tell
 use Rattle.protocol.specs.declared.Verdict.{Verdict}
@@ -14,25 +14,18 @@ use Rattle.record.specs.Methods.{withPhase, refusedOf}
 use Rattle.record.specs.declared.Phase.the-variants as phase
 use Rattle.record.specs.declared.Transaction.{Transaction}
 use Rattle.record.specs.declared.Answered.{Answered}
-use Rattle.holders.specs.Needs.{Listed, pushAll, readsNeed, rowsWritten, writesNeed}
+use Rattle.holders.specs.Needs.{Listed, pushAll, listedIn, front, readsNeed, rowsWritten, writesNeed}
 use Rattle.holders.specs.Holders.{anyTaken, anyClaimed, holdAll, claimAll}
 use Rattle.install.specs.Install.{pendingInto}
 use Rattle.verdict.specs.Judged.{verdictOf}
 
--- words for the buckets that prepare needs
+-- words for the buckets of all index reads and of the old and the new keys of all pending writes
 abbrev pub mostNeeded : ℕ
-mostNeeded = 48
-
--- buckets listed in such words
-abbrev pub listedIn : List ℕ → Listed
-listedIn bs = pushAll (record { out = replicate mostNeeded 0; n = 0 }) bs
-
-abbrev pub front : Listed → List ℕ
-front l = take (l .n) (l .out)
+mostNeeded = mostIndexReads + mostWrites + mostWrites
 
 -- a bucket of an index read is held by another
 unfoldable pub readsTakenIn : List ℕ → List ℕ → ℕ → ℕ → ℕ → Bool
-readsTakenIn buckets lists slot reads number = anyTaken buckets number (front (listedIn (readsNeed lists slot reads)))
+readsTakenIn buckets lists slot reads number = anyTaken buckets number (front (listedIn mostNeeded (readsNeed lists slot reads)))
 
 -- validate: wrong phase, a needed bucket held by another; else the verdict
 unfoldable pub validateOf : List ℕ → List ℕ → List ℕ → Transaction → Answered

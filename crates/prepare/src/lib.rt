@@ -5,7 +5,10 @@ use holders::claim_all;
 use holders::hold_all;
 use holders::push_reads;
 use holders::push_writes;
+use install::MOST_PENDING;
 use install::pending_rows;
+use limits::MOST_INDEX_READS;
+use limits::MOST_WRITES;
 use protocol::Answer;
 use protocol::CONFLICT;
 use protocol::NO_VERSIONS;
@@ -23,8 +26,8 @@ ghost use Prim.Native.Nat.{_≤_};
 ghost use Rattle.limits.specs.Limits.{mostWrites};
 ghost use Rattle.prepare.specs.Prepare.{readsTakenIn, validateOf, isClear, distinctIn, reservedIn, exceeds, lacks, neededInto, prepareOf};
 
-// Words for the buckets of 16 index reads and of the old and the new keys of 16 pending writes.
-pub const MOST_NEEDED: usize = 48;
+// Words for the buckets of all index reads and of the old and the new keys of all pending writes.
+pub const MOST_NEEDED: usize = (MOST_INDEX_READS + MOST_WRITES + MOST_WRITES) as usize;
 
 // Whether a bucket of an index read is held by another.
 fn reads_taken(buckets: &[u64], lists: &[u64], slot: u32, reads_n: u32, number: u64) -> bool
@@ -72,12 +75,12 @@ fn is_clear(v: Verdict) -> bool
 fn distinct_rows(lists: &[u64], slot: u32, count: u32) -> u64
     ensures { λ r. ⌜ (r ≡ distinctIn (now (lists .entry)) slot count) × (r ≤ mostWrites) ⌝ }
 {
-    let mut list = [0u64; 16];
+    let mut list = [0u64; MOST_PENDING];
     let n = pending_rows(lists, slot, count, &mut list);
-    if n < 16 {
+    if n < MOST_PENDING {
         return n as u64;
     }
-    16
+    MOST_PENDING as u64
 }
 
 // The versions that Prepared transactions have reserved: of each slot the distinct rows of its first pending writes, as many as `prepared` says.

@@ -1,9 +1,9 @@
 -- What end, publish and abort leave.
-use Prim.Native.Nat.{ℕ}
+use Prim.Native.Nat.{ℕ, _+_}
 use mathlib.Core.Bool.{Bool, true, false, cond, not}
 use mathlib.Core.List.{List, [], _∷_, _++_}
 use lib.Dec.{eqb, leb}
-use lib.ListN.{take, replicate}
+use Rattle.limits.specs.Limits.{mostIndexReads, mostWrites}
 use Rattle.model.specs.Store.{rank, bucketIn}
 use Rattle.protocol.specs.declared.Answer.the-variants as tell
 use Rattle.tables.specs.Fields.{setPosted, setPostedKey}
@@ -13,7 +13,7 @@ use Rattle.record.specs.declared.Phase.the-variants as phase
 use Rattle.record.specs.declared.Transaction.{Transaction}
 use Rattle.record.specs.declared.Answered.{Answered}
 use Rattle.holders.specs.Keys.{newKeyOf}
-use Rattle.holders.specs.Needs.{Listed, pushAll, readsNeed, rowsWritten, writesNeed, writesChange}
+use Rattle.holders.specs.Needs.{listedIn, front, readsNeed, rowsWritten, writesNeed, writesChange}
 use Rattle.holders.specs.Holders.{freeAll, stampAll, unclaimAll}
 
 -- end: wrong phase; else Ended
@@ -28,26 +28,20 @@ unfoldable pub postedAll : List ℕ → ℕ → ℕ → List ℕ → List ℕ �
 postedAll lists slot n rows [] = rows
 postedAll lists slot n rows (r ∷ rs) = postedAll lists slot n (postedOne lists slot n rows r) rs
 
--- words for the buckets that a transaction needs
-abbrev pub mostNeeded : ℕ
-mostNeeded = 49
-
-abbrev pub listedIn : List ℕ → Listed
-listedIn bs = pushAll (record { out = replicate mostNeeded 0; n = 0 }) bs
-
-abbrev pub front : Listed → List ℕ
-front l = take (l .n) (l .out)
+-- words for the buckets that a transaction needs, and for the one that Holding carries
+abbrev pub mostHeld : ℕ
+mostHeld = mostIndexReads + mostWrites + mostWrites + 1
 
 -- the buckets of the pending rows whose key changed get the stamp
 unfoldable pub stampedIn : List ℕ → List ℕ → List ℕ → ℕ → ℕ → ℕ → ℕ → List ℕ → List ℕ
-stampedIn rows versions lists count slot n stamp buckets = stampAll buckets stamp (front (listedIn (writesChange rows versions lists count slot n)))
+stampedIn rows versions lists count slot n stamp buckets = stampAll buckets stamp (front (listedIn mostHeld (writesChange rows versions lists count slot n)))
 
 -- what a transaction needs of the buckets
 unfoldable pub neededIn : List ℕ → List ℕ → List ℕ → ℕ → Bool → ℕ → ℕ → ℕ → ℕ → List ℕ
 neededIn rows versions lists count installed bucket slot reads writes = (bucket ∷ []) ++ readsNeed lists slot reads ++ writesNeed rows versions lists count installed slot writes
 
 unfoldable pub freedIn : List ℕ → List ℕ → List ℕ → ℕ → Bool → ℕ → ℕ → ℕ → ℕ → ℕ → List ℕ → List ℕ
-freedIn rows versions lists count installed bucket slot reads writes number buckets = freeAll buckets number (front (listedIn (neededIn rows versions lists count installed bucket slot reads writes)))
+freedIn rows versions lists count installed bucket slot reads writes number buckets = freeAll buckets number (front (listedIn mostHeld (neededIn rows versions lists count installed bucket slot reads writes)))
 
 -- an answer, rows and buckets
 pub record Left : Type 0 where

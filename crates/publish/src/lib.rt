@@ -7,6 +7,8 @@ use holders::push_writes;
 use holders::release_all;
 use holders::stamp_all;
 use holders::unclaim_all;
+use limits::MOST_INDEX_READS;
+use limits::MOST_WRITES;
 use protocol::Answer;
 use protocol::WRONG_PHASE;
 use record::Answered;
@@ -24,8 +26,8 @@ ghost use lib.ListN.{length};
 ghost use Rattle.holders.specs.Needs.{pushAll, rowsWritten};
 ghost use Rattle.publish.specs.Publish.{endOf, postedOne, postedAll, stampedIn, freedIn, publishOf, abortOf};
 
-// Words for the buckets of 16 index reads and of the old and the new keys of 16 pending writes, and for the one that Holding carries.
-pub const MOST_NEEDED: usize = 49;
+// Words for the buckets of all index reads and of the old and the new keys of all pending writes, and for the one that Holding carries.
+pub const MOST_HELD: usize = (MOST_INDEX_READS + MOST_WRITES + MOST_WRITES + 1) as usize;
 
 // End (Installed): the number stops being active.
 pub fn end(t: Transaction) -> Answered
@@ -74,7 +76,7 @@ fn stamp_changes(
 )
     ensures { λ _. ⌜ now (buckets .exit) ≡ stampedIn (now (rows .entry)) (now (versions .entry)) (now (lists .entry)) «bucket_count» slot count stamp (now (buckets .entry)) ⌝ }
 {
-    let mut list = [0u64; MOST_NEEDED];
+    let mut list = [0u64; MOST_HELD];
     let n = push_changes(
         rows,
         versions,
@@ -104,7 +106,7 @@ fn free_needed(
 )
     ensures { λ _. ⌜ now (buckets .exit) ≡ freedIn (now (rows .entry)) (now (versions .entry)) (now (lists .entry)) «bucket_count» installed bucket slot «reads_n» «writes_n» number (now (buckets .entry)) ⌝ }
 {
-    let mut list = [0u64; MOST_NEEDED];
+    let mut list = [0u64; MOST_HELD];
     let held = push(&mut list, 0, bucket);
     let read = push_reads(lists, slot, reads_n, &mut list, held);
     let n = push_writes(
