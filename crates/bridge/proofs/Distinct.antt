@@ -4,7 +4,7 @@ use Prim.Native.Nat.{ℕ, zero, suc, _≤_, _<_}
 use mathlib.Core.Path.{_≡_, refl, sym, _∙_}
 use mathlib.Core.Bool.{true, false≢true}
 use mathlib.Core.Logic.{inl, inr, ⊎-elim}
-use mathlib.Core.List.{List, [], _∷_}
+use mathlib.Core.List.{List, [], _∷_, map}
 use native.Mathlib.Omega.{arith}
 use lib.Dec.{eqb}
 use lib.ListN.{length, take, drop, getD, replicate}
@@ -22,12 +22,14 @@ use Rattle.buckets.specs.Upstream.{inRange}
 use Rattle.buckets.specs.declared.Canonical.the-variants.{Sorted}
 use Rattle.buckets.proofs.Checks.{fine-when}
 use Rattle.buckets.proofs.Sorted.{Below, Ascending, member, buckets-ascending, buckets-member, ascending-unique}
+use Rattle.tables.specs.Lists.{writesOf}
+use Rattle.record.specs.View.{writeView}
 use Rattle.holders.specs.Needs.{rowsWritten}
 use Rattle.install.specs.Install.{rowsListed, pendingInto}
 use Rattle.steps.specs.Words.{Words, view, txnAt, Sized}
 use Rattle.bridge.proofs.Places.{sized-at}
 use Rattle.bridge.proofs.Listing.{listed-all}
-use Rattle.bridge.proofs.Needing.{row-in, row-pending, pending-row}
+use Rattle.bridge.proofs.Needing.{written-pending, pending-written, row-in}
 use Rattle.bridge.proofs.Aborting.{writes-few}
 
 rising-below : (x : ℕ) (ys : List ℕ) → Rising (suc x) ys → Below x ys
@@ -55,26 +57,31 @@ canonical-fine : (input old : List ℕ) → inRange input mostBuckets → length
 unfolding canonicalOf
 canonical-fine input old below room = rw (fine-when mostBuckets (length old) input below (omega arith))
 
+-- of a slot's pending writes, all of rows that the store has
+module _ (xs : List ℕ) (s n : ℕ) (z : model.Sizes) (below : (r : ℕ) → Among r (rowsWritten xs s n) → r < z .rows) where
+  pub sorted-pending : bucketsOf (rowsWritten xs s n) ≡ pendingRows z (map writeView (writesOf xs s n))
+  unfolding pendingRows
+  sorted-pending =
+      let rs = rowsWritten xs s n in
+      let ps = pendingRows z (map writeView (writesOf xs s n)) in
+      ascending-unique (bucketsOf rs) ps (buckets-ascending rs) (rising-ascending 0 ps (pick-rising (pending (map writeView (writesOf xs s n))) 0 (z .rows)))
+      (λ v. buckets-member v rs ∙ same-test (member v rs) (member v ps) (λ e. let m = member-among v rs e in among-member v ps (written-pending xs s n z v (below v m) m)) (λ e. among-member v rs (pending-written xs s n z v (member-among v ps e))))
+
+  pub listed-pending : z .rows ≤ mostBuckets → length (rowsWritten xs s n) ≤ mostWrites → pendingInto xs s n (replicate mostWrites 0)
+      ≡ record { out = laid (pendingRows z (map writeView (writesOf xs s n))) (replicate mostWrites 0); n = length (pendingRows z (map writeView (writesOf xs s n))) }
+  unfolding pendingInto rowsListed
+  listed-pending most few =
+      let rs = rowsWritten xs s n in
+      rw (listed-all 16 rs few, canonical-fine rs (replicate mostWrites 0) (λ i h. omega (arith, below (getD rs i 0) (entry-among rs i h))) few, sorted-pending)
+
 module _ (w : Words) (z : Sized w) (g : Good (view w)) (p : ℕ) where
   pub rows-sorted : bucketsOf (rowsWritten (w .tables .lists) (txnAt w p .slot) (txnAt w p .«writes_n»)) ≡ pendingRows (view w .sizes) (view w .txns p .writes)
-  unfolding pendingRows
-  rows-sorted =
-      let rs = rowsWritten (w .tables .lists) (txnAt w p .slot) (txnAt w p .«writes_n») in
-      let ps = pendingRows (view w .sizes) (view w .txns p .writes) in
-      ascending-unique (bucketsOf rs) ps (buckets-ascending rs) (rising-ascending 0 ps (rises (view w .txns p .writes)))
-      (λ v. buckets-member v rs ∙ same-test (member v rs) (member v ps) (λ e. among-member v ps (row-pending w z g p v (member-among v rs e))) (λ e. among-member v rs (pending-row w z g p v (member-among v ps e))))
-    where
-      rises : (ws : List model.Write) → Rising 0 (pendingRows (view w .sizes) ws)
-      rises ws = pick-rising (pending ws) 0 (w .sizes .rows)
+  rows-sorted = sorted-pending (w .tables .lists) (txnAt w p .slot) (txnAt w p .«writes_n») (view w .sizes) (row-in w z g p)
 
   -- the list that install goes through, and how many they are
   pub pending-into : pendingInto (w .tables .lists) (txnAt w p .slot) (txnAt w p .«writes_n») (replicate mostWrites 0)
       ≡ record { out = laid (pendingRows (view w .sizes) (view w .txns p .writes)) (replicate mostWrites 0); n = length (pendingRows (view w .sizes) (view w .txns p .writes)) }
-  unfolding pendingInto rowsListed
-  pending-into =
-      let rs = rowsWritten (w .tables .lists) (txnAt w p .slot) (txnAt w p .«writes_n») in
-      let few : length rs ≤ mostWrites = omega (arith, writes-few w z g p, sized-at w z p .writes) in
-      rw (listed-all 16 rs few, canonical-fine rs (replicate mostWrites 0) (λ i h. omega (arith, row-in w z g p (getD rs i 0) (entry-among rs i h), good-sized (view w .sizes) (g .sizes) .rows-most)) few, rows-sorted)
+  pending-into = listed-pending (w .tables .lists) (txnAt w p .slot) (txnAt w p .«writes_n») (view w .sizes) (row-in w z g p) (omega (arith, good-sized (view w .sizes) (g .sizes) .rows-most)) (omega (arith, writes-few w z g p, sized-at w z p .writes))
 
   pub pending-front : take (pendingInto (w .tables .lists) (txnAt w p .slot) (txnAt w p .«writes_n») (replicate mostWrites 0) .n) (pendingInto (w .tables .lists) (txnAt w p .slot) (txnAt w p .«writes_n») (replicate mostWrites 0) .out)
       ≡ pendingRows (view w .sizes) (view w .txns p .writes)

@@ -5,7 +5,7 @@ use mathlib.Core.Path.{_≡_, refl, sym, ap, _∙_, fun-ext}
 use mathlib.Core.Bool.{Bool, true, false, cond}
 use mathlib.Core.Logic.{inl, inr, ⊎-elim}
 use mathlib.Core.Option.{none, some}
-use mathlib.Core.List.{List, [], _∷_, _++_}
+use mathlib.Core.List.{List, [], _∷_, _++_, map}
 use native.Mathlib.Omega.{arith}
 use lib.Dec.{eqb}
 use borrow.Author.Tests.{eq-eqb}
@@ -41,6 +41,23 @@ among-pending : (ws : List model.Write) (x : model.Write) → Among x ws → pen
 unfolding pending
 among-pending (y ∷ ws) x (inl e) = or-left _ _ (eq-eqb (y .row) (x .row) (ap (λ (v : model.Write). v .row) (sym e)))
 among-pending (y ∷ ws) x (inr m) = or-right (eqb (y .row) (x .row)) _ (among-pending ws x m)
+
+-- the rows of a slot's pending writes are the pending rows
+module _ (xs : List ℕ) (s n : ℕ) (z : model.Sizes) (r : ℕ) where
+  pub written-pending : r < z .rows → Among r (rowsWritten xs s n) → Among r (pendingRows z (map writeView (lists.writesOf xs s n)))
+  written-pending h m =
+      let ws = lists.writesOf xs s n in
+      let a = map-among (λ (x : Write). x .row) ws r m in
+      which-pendingRows z (map writeView ws) r h (rw (a .2) (among-pending (map writeView ws) (writeView (a .0)) (among-map writeView ws (a .0) (a .1))))
+
+  pub pending-written : Among r (pendingRows z (map writeView (lists.writesOf xs s n))) → Among r (rowsWritten xs s n)
+  unfolding pendingRows
+  pending-written m =
+      let ws = lists.writesOf xs s n in
+      let a = pending-which (map writeView ws) r (pick-which (pending (map writeView ws)) 0 (z .rows) r m .2) in
+      let b = map-among writeView ws (a .0) (a .1) in
+      let e : r ≡ b .0 .row = sym (a .2) ∙ ap (λ (x : model.Write). x .row) (b .2) in
+      rw e (among-map (λ (x : Write). x .row) ws (b .0) (b .1))
 
 -- the bucket of a key
 pub key-buckets : (z : model.Sizes) (k : Key) → keyBuckets z (keyOf k) ≡ bucketsFor (z .buckets) k
@@ -96,19 +113,10 @@ module _ (w : Words) (z : Sized w) (g : Good (view w)) where
       rw (a .2) (g .ranges p .0 .writes-in (writeView (a .0)) (among-map writeView ws (a .0) (a .1)))
 
   pub row-pending : (p r : ℕ) → Among r (rowsWritten (w .tables .lists) (txnAt w p .slot) (txnAt w p .«writes_n»)) → Among r (pendingRows (view w .sizes) (view w .txns p .writes))
-  row-pending p r m =
-      let ws = lists.writesOf (w .tables .lists) (txnAt w p .slot) (txnAt w p .«writes_n») in
-      let a = map-among (λ (x : Write). x .row) ws r m in
-      which-pendingRows (view w .sizes) (view w .txns p .writes) r (row-in p r m) (rw (a .2) (among-pending (view w .txns p .writes) (writeView (a .0)) (among-map writeView ws (a .0) (a .1))))
+  row-pending p r m = written-pending (w .tables .lists) (txnAt w p .slot) (txnAt w p .«writes_n») (view w .sizes) r (row-in p r m) m
 
   pub pending-row : (p r : ℕ) → Among r (pendingRows (view w .sizes) (view w .txns p .writes)) → Among r (rowsWritten (w .tables .lists) (txnAt w p .slot) (txnAt w p .«writes_n»))
-  unfolding pendingRows
-  pending-row p r m =
-      let ws = lists.writesOf (w .tables .lists) (txnAt w p .slot) (txnAt w p .«writes_n») in
-      let a = pending-which (view w .txns p .writes) r (pick-which (pending (view w .txns p .writes)) 0 (w .sizes .rows) r m .2) in
-      let b = map-among writeView ws (a .0) (a .1) in
-      let e : r ≡ b .0 .row = sym (a .2) ∙ ap (λ (x : model.Write). x .row) (b .2) in
-      rw e (among-map (λ (x : Write). x .row) ws (b .0) (b .1))
+  pending-row p r m = pending-written (w .tables .lists) (txnAt w p .slot) (txnAt w p .«writes_n») (view w .sizes) r m
 
   -- they are those that the model needs
   pub needed-listed : (p b : ℕ) → Among b (neededBuckets (view w) (view w .txns p)) → Among b (listedNeeds w p)
