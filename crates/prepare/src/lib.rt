@@ -84,7 +84,7 @@ fn distinct_rows(lists: &[u64], slot: u32, count: u32) -> u64
 }
 
 // The versions that Prepared transactions have reserved: of each slot the distinct rows of its first pending writes, as many as `prepared` says.
-fn reserved(lists: &[u64], prepared: [u32; 8]) -> u64
+pub fn reserved(lists: &[u64], prepared: [u32; 8]) -> u64
     ensures { λ r. ⌜ r ≡ reservedIn (now (lists .entry)) prepared ⌝ }
 {
     distinct_rows(lists, 0, prepared[0])

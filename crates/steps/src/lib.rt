@@ -107,7 +107,7 @@ pub fn prepared_count(number: u64, phase: Phase, writes_n: u32) -> u32
 }
 
 // How many places are not free.
-fn live_count(numbers: [u64; MOST_LIVE]) -> u64
+pub fn live_count(numbers: [u64; MOST_LIVE]) -> u64
     ensures { λ r. ⌜ r ≡ liveIn numbers ⌝ }
 {
     let mut n: u64 = 0;
