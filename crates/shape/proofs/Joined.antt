@@ -1,0 +1,310 @@
+-- The tests as the code makes them are the model's test of what the words stand for.
+-- Assumes nothing.
+use Prim.Native.Nat.{ℕ, zero, suc, _+_, _*_, _≤_, _<_}
+use mathlib.Core.Path.{_≡_, refl, sym, ap, _∙_}
+use mathlib.Core.Bool.{Bool, true, false, cond, not, _&&_, _||_}
+use mathlib.Core.Logic.{inl, inr}
+use mathlib.Core.List.{List, [], _∷_, _++_, map}
+use native.Mathlib.Nat.{zero-add}
+use native.Mathlib.Decide.{decLt}
+use native.Mathlib.Omega.{arith}
+use lib.Dec.{eqb, ltb, leb}
+use lib.ListN.{length, take, getD, length-map, length-take, List·getD-map}
+use borrow.Author.Tests.{eqb-true, ltb-true, leb-true, le-leb}
+use Rattle.limits.specs.Limits.{mostLive, mostActive, mostIndexReads, mostWrites, mostRows, lastNumber}
+use Rattle.model.specs.Lists.{pick, every, all-of}
+use Rattle.model.specs.Store as model
+use Rattle.model.specs.Seeing.{live}
+use Rattle.model.specs.Steps.{pendingRows}
+use Rattle.model.specs.Refusals.{liveCount, reservedBy, reserved}
+use Rattle.model.specs.Shape.{within, goodSizes, goodChains, goodCounts, goodRanges, goodHeads, goodTxn, distinctNumbers, rightShape}
+use Rattle.model.proofs.ListLaws.{Among, and-l, and-r, same-test, each-all, every-each}
+use Rattle.model.proofs.Ranges.{good-sized}
+use Rattle.tables.specs.Fields.{headOf, xminOf, nextOf}
+use Rattle.tables.specs.Lists.{Kind, reads, writes, records, startOf, readOf, writeOf, recordOf, candidateOf, candidates, entryAt, listAt}
+use Rattle.tables.specs.Regions.{words, listOf}
+use Rattle.tables.specs.declared.lists.Write.{Write}
+use Rattle.tables.proofs.Parts.{part-field}
+use Rattle.tables.proofs.Spans.{list-length, list-map}
+use Rattle.buckets.specs.Buckets.{canonicalOf}
+use Rattle.buckets.proofs.Sorted.{buckets-no-longer}
+use Rattle.record.specs.View.{phaseView, readView, writeView, recordView, txnView, rowsPart, versionsPart, chainsView}
+use Rattle.record.specs.Methods.{idleOf}
+use Rattle.record.specs.declared.Transaction.{Transaction}
+use Rattle.holders.specs.Needs.{pushAll, rowsWritten}
+use Rattle.install.specs.Install.{rowsListed, pendingInto}
+use Rattle.prepare.specs.Prepare.{distinctIn, reservedIn}
+use Rattle.steps.specs.declared.Sizes.{Sizes}
+use Rattle.steps.specs.Steps.{preparedCount, liveIn}
+use Rattle.steps.specs.Words.{Words, sizesView, txnAt, view, othersIn}
+use Rattle.bridge.proofs.Places.{number-at}
+use Rattle.bridge.proofs.Starting.{nonzero, pick-nonzero, live-nonzero}
+use Rattle.bridge.proofs.Needing.{written-pending, pending-written}
+use Rattle.bridge.proofs.Distinct.{sorted-pending, listed-pending}
+use Rattle.shape.specs.Shape.{tablesLent, inPlace, allInPlace, tablesFit, shapeOf}
+use Rattle.shape.specs.Tests.{chainsFit, countsFit, writesIn, rangesFit, headedBy, headsFit, leastOf, txnFits, placeFits, txnsFit, unlike, distinctAt, allDistinct}
+
+-- the second test matters only where the first holds
+and-same : (a a′ b b′ : Bool) → a ≡ a′ → (a′ ≡ true → b ≡ b′) → a && b ≡ a′ && b′
+and-same a true b b′ e h = rw (e, h refl)
+and-same a false b b′ e h = rw e
+
+and-true : (a : Bool) → a && true ≡ a
+and-true true = refl
+and-true false = refl
+
+and-assoc : (a b c : Bool) → a && (b && c) ≡ a && b && c
+and-assoc true b c = refl
+and-assoc false b c = refl
+
+-- ---- tests of every number
+
+every-at : (n : ℕ) (test : ℕ → Bool) → every n test ≡ true → (i : ℕ) → i < n → test i ≡ true
+unfolding every
+every-at zero test e i h = absurd (omega arith)
+every-at (suc n) test e i h = elim (decLt i n) [ yes l ↦ every-at n test (and-l (every n test) (test n) e) i l | no l ↦ let d : i ≡ n = omega (arith, l) in rw d (and-r (every n test) (test n) e) ]
+
+every-same : (n : ℕ) (test also : ℕ → Bool) → ((i : ℕ) → i < n → test i ≡ also i) → every n test ≡ every n also
+unfolding every
+every-same zero test also h = refl
+every-same (suc n) test also h = rw (every-same n test also (λ i l. h i (omega arith)), h n (omega arith))
+
+-- ---- tests of every entry
+
+module _ {A : Type 0} where
+  all-append : (test : A → Bool) (xs ys : List A) → all-of test (xs ++ ys) ≡ all-of test xs && all-of test ys
+  unfolding all-of
+  all-append test [] ys = refl
+  all-append test (x ∷ xs) ys = rw (all-append test xs ys) (and-assoc (test x) (all-of test xs) (all-of test ys))
+
+  all-each : (test : A → Bool) (xs : List A) → all-of test xs ≡ true → (x : A) → Among x xs → test x ≡ true
+  unfolding all-of
+  all-each test (y ∷ xs) e x (inl d) = rw d (and-l (test y) (all-of test xs) e)
+  all-each test (y ∷ xs) e x (inr m) = all-each test xs (and-r (test y) (all-of test xs) e) x m
+
+  all-same : (test also : A → Bool) (xs : List A) → ((x : A) → Among x xs → test x ≡ also x) → all-of test xs ≡ all-of also xs
+  unfolding all-of
+  all-same test also [] h = refl
+  all-same test also (x ∷ xs) h = rw (h x (inl refl), all-same test also xs (λ y m. h y (inr m)))
+
+  -- only which entries there are matters
+  all-both : (test : A → Bool) (xs ys : List A) → ((x : A) → Among x xs → Among x ys) → ((x : A) → Among x ys → Among x xs) → all-of test xs ≡ all-of test ys
+  all-both test xs ys to back = same-test _ _ (λ e. each-all test ys (λ x m. all-each test xs e x (back x m))) (λ e. each-all test xs (λ x m. all-each test ys e x (to x m)))
+
+  all-listed : (test : A → Bool) (f : List ℕ → A) (w b : ℕ) (xs : List ℕ) (n : ℕ) → all-of test (listOf f w b xs n) ≡ every n (λ i. test (f (words w (b + w * i) xs)))
+  unfolding all-of listOf every
+  all-listed test f w b xs zero = refl
+  all-listed test f w b xs (suc n) =
+      all-append test (listOf f w b xs n) (f (words w (b + w * n) xs) ∷ [])
+      ∙ rw (all-listed test f w b xs n, and-true (test (f (words w (b + w * n) xs))))
+
+module _ {A B : Type 0} (g : A → B) (f : List ℕ → A) (k : Kind) (xs : List ℕ) (s n : ℕ) where
+  entries : (test : B → Bool) → all-of test (map g (listAt f k xs s n)) ≡ every n (λ i. test (g (entryAt f k xs s i)))
+  entries test = rw (list-map g f (k .w) (startOf k s) xs n) (all-listed test (λ ws. g (f ws)) (k .w) (startOf k s) xs n)
+
+  entries-length : length (map g (listAt f k xs s n)) ≡ n
+  entries-length = rw (list-map g f (k .w) (startOf k s) xs n) (list-length (λ ws. g (f ws)) (k .w) (startOf k s) xs n)
+
+-- ---- a transaction
+
+module _ (xs : List ℕ) (t : Transaction) where
+  counts-same : t .snapshot .«active_n» ≤ mostActive → goodCounts (txnView xs t) ≡ countsFit t
+  unfolding goodCounts
+  counts-same h =
+      let few : length (take (t .snapshot .«active_n») (t .snapshot .active)) ≤ mostActive = rw length-take (omega arith) in
+      rw (
+        le-leb (length (take (t .snapshot .«active_n») (t .snapshot .active))) mostActive few,
+        entries-length readView readOf reads xs (t .slot) (t .«reads_n»),
+        entries-length writeView writeOf writes xs (t .slot) (t .«writes_n»),
+        entries-length recordView recordOf records xs (t .slot) (t .«records_n»),
+        list-length candidateOf 1 (startOf candidates (t .slot)) xs (t .«candidates_n»),
+      )
+
+  ranges-same : (z : Sizes) (used : ℕ) → goodRanges (sizesView z) used (txnView xs t) ≡ rangesFit xs z used t
+  unfolding goodRanges rangesFit
+  ranges-same z used = rw (
+    entries writeView writeOf writes xs (t .slot) (t .«writes_n») (λ (w : model.Write). ltb (w .row) (z .rows)),
+    entries recordView recordOf records xs (t .slot) (t .«records_n») (λ (r : model.ReadRecord). ltb (r .row) (z .rows) && within (r .ptr) used),
+    all-listed (λ r. ltb r (z .rows)) candidateOf 1 (startOf candidates (t .slot)) xs (t .«candidates_n»),
+    entries readView readOf reads xs (t .slot) (t .«reads_n») (λ (r : model.IndexRead). ltb (r .bucket) (z .buckets)),
+  )
+
+  writes-true : (z : Sizes) (used : ℕ) → rangesFit xs z used t ≡ true → writesIn xs (t .slot) (t .«writes_n») (z .rows) ≡ true
+  unfolding rangesFit
+  writes-true z used e = and-l _ _ (and-l _ _ (and-l _ _ (and-l _ _ e)))
+
+  -- the rows of the pending writes, all that the store has
+  rows-below : (n : ℕ) → writesIn xs (t .slot) (t .«writes_n») n ≡ true → (r : ℕ) → Among r (rowsWritten xs (t .slot) (t .«writes_n»)) → r < n
+  rows-below n e r m = ltb-true r n (all-each (λ v. ltb v n) (rowsWritten xs (t .slot) (t .«writes_n»)) (entries (λ (w : Write). w .row) writeOf writes xs (t .slot) (t .«writes_n») (λ v. ltb v n) ∙ e) r m)
+
+-- where pointers are in the part of the table that its size names
+module _ (rows versions xs : List ℕ) (z : Sizes) (used : ℕ) (room : used ≤ z .versions) (heads : (r : ℕ) → r < z .rows → headOf rows r ≤ used) (t : Transaction) where
+  headed-same : (r : ℕ) → r < z .rows
+      → leb 1 (headOf (rowsPart (sizesView z) rows) r) && eqb (xminOf (versionsPart (sizesView z) versions) (headOf (rowsPart (sizesView z) rows) r)) (t .number)
+      ≡ headedBy rows versions (t .number) r
+  headed-same r h = rw (part-field 4 0 (z .rows) rows r (omega arith) h, part-field 6 0 (suc (z .versions)) versions (headOf rows r) (omega arith) (omega (arith, heads r h)))
+
+  heads-same : writesIn xs (t .slot) (t .«writes_n») (z .rows) ≡ true
+      → goodHeads (sizesView z) (chainsView (rowsPart (sizesView z) rows) (versionsPart (sizesView z) versions) used) (txnView xs t) ≡ headsFit rows versions xs t
+  unfolding goodHeads headsFit
+  heads-same e =
+      let rs = rowsWritten xs (t .slot) (t .«writes_n») in
+      let below = rows-below xs t (z .rows) e in
+      let part : ℕ → Bool = λ r. leb 1 (headOf (rowsPart (sizesView z) rows) r) && eqb (xminOf (versionsPart (sizesView z) versions) (headOf (rowsPart (sizesView z) rows) r)) (t .number) in
+      ap (λ (b : Bool). ltb (model.rank (phaseView (t .phase))) 5 || b)
+      (all-both part (pendingRows (sizesView z) (txnView xs t .writes)) rs (λ r m. pending-written xs (t .slot) (t .«writes_n») (sizesView z) r m) (λ r m. written-pending xs (t .slot) (t .«writes_n») (sizesView z) r (below r m) m)
+      ∙ (all-same part (headedBy rows versions (t .number)) rs (λ r m. headed-same r (below r m))
+      ∙ entries (λ (w : Write). w .row) writeOf writes xs (t .slot) (t .«writes_n») (headedBy rows versions (t .number))))
+
+-- a live transaction's number and snapshot; its counts and ranges
+abbrev seenFits : ℕ → Transaction → Bool
+seenFits clock t = ltb (t .number) clock && eqb (t .snapshot .xmin) (leastOf t)
+
+module _ (rows versions xs : List ℕ) (z : Sizes) (clock used : ℕ) (t : Transaction) (e : txnFits rows versions xs z clock used t ≡ true) where
+  front-fits : seenFits clock t && countsFit t && rangesFit xs z used t ≡ true
+  unfolding txnFits
+  front-fits = and-l (seenFits clock t && countsFit t && rangesFit xs z used t) (headsFit rows versions xs t) e
+
+  few-writes : t .«writes_n» ≤ mostWrites
+  few-writes =
+      let counts = and-r (seenFits clock t) (countsFit t) (and-l (seenFits clock t && countsFit t) (rangesFit xs z used t) front-fits) in
+      let two = and-l (leb (t .«reads_n») mostIndexReads && leb (t .«writes_n») mostWrites) _ (and-l _ (leb (t .«candidates_n») mostRows) counts) in
+      leb-true (t .«writes_n») mostWrites (and-r (leb (t .«reads_n») mostIndexReads) _ two)
+
+  writes-fit : writesIn xs (t .slot) (t .«writes_n») (z .rows) ≡ true
+  writes-fit = writes-true xs t z used (and-r (seenFits clock t && countsFit t) (rangesFit xs z used t) front-fits)
+
+-- how many versions a Prepared transaction has reserved
+none-distinct : (xs : List ℕ) (s : ℕ) → distinctIn xs s 0 ≡ 0
+unfolding distinctIn pendingInto rowsListed pushAll listOf canonicalOf
+none-distinct xs s = refl
+
+distinct-count : (xs : List ℕ) (t : Transaction) (z : Sizes) → z .rows ≤ 256 → t .«writes_n» ≤ mostWrites → writesIn xs (t .slot) (t .«writes_n») (z .rows) ≡ true
+    → distinctIn xs (t .slot) (t .«writes_n») ≡ length (pendingRows (sizesView z) (txnView xs t .writes))
+unfolding distinctIn
+distinct-count xs t z most few e =
+    let rs = rowsWritten xs (t .slot) (t .«writes_n») in
+    let below = rows-below xs t (z .rows) e in
+    let n = entries-length (λ (w : Write). w .row) writeOf writes xs (t .slot) (t .«writes_n») in
+    rw (listed-pending xs (t .slot) (t .«writes_n») (sizesView z) below (omega arith) (omega (arith, n)))
+    (omega (arith, ap length (sorted-pending xs (t .slot) (t .«writes_n») (sizesView z) below), buckets-no-longer rs, n))
+
+-- ---- the whole
+
+-- the tests in the order of the code
+abbrev pub tested : Words → Bool
+tested w =
+    tablesFit w
+    && (goodSizes (sizesView (w .sizes))
+    && leb 1 (w .clock)
+    && chainsFit (w .tables .rows) (w .tables .versions) (w .sizes) (w .used)
+    && txnsFit (w .tables .rows) (w .tables .versions) (w .tables .lists) (w .sizes) (w .clock) (w .used) (w .txns)
+    && allDistinct (othersIn (w .txns) .numbers)
+    && leb (w .clock + liveIn (othersIn (w .txns) .numbers)) lastNumber
+    && leb (w .used + reservedIn (w .tables .lists) (othersIn (w .txns) .prepared)) (w .sizes .versions))
+
+module _ (w : Words) where
+  chains-same : goodChains (sizesView (w .sizes)) (view w .chains) ≡ chainsFit (w .tables .rows) (w .tables .versions) (w .sizes) (w .used)
+  unfolding goodChains
+  chains-same =
+      and-same _ _ _ _
+      (ap (λ (b : Bool). leb (w .used) (w .sizes .versions) && b)
+      (every-same (w .sizes .rows) (λ r. leb (view w .chains .head r) (w .used)) (λ r. leb (headOf (w .tables .rows) r) (w .used)) (λ r h. rw (part-field 4 0 (w .sizes .rows) (w .tables .rows) r (omega arith) h))))
+      (λ e.
+      let room = leb-true (w .used) (w .sizes .versions) (and-l _ _ e) in
+      every-same (w .used) (λ p. ltb (view w .chains .next (suc p)) (suc p)) (λ p. ltb (nextOf (w .tables .versions) (suc p)) (suc p)) (λ p h. rw (part-field 6 2 (suc (w .sizes .versions)) (w .tables .versions) (suc p) (omega arith) (omega arith))))
+
+  module _ (eight : length (w .txns) ≡ mostLive) where
+    distinct-same : distinctNumbers (view w .txns) ≡ allDistinct (othersIn (w .txns) .numbers)
+    unfolding distinctNumbers
+    distinct-same = every-same mostLive _ (distinctAt (othersIn (w .txns) .numbers)) (λ i h. rw (number-at (w .txns) i) (go i (txnAt w i .number) (eqb (txnAt w i .number) 0)))
+      where
+        go : (i n : ℕ) (b : Bool) → every i (λ j. not (not b) || not (eqb n (txnAt w j .number))) ≡ b || unlike (othersIn (w .txns) .numbers) i n
+        go i n true = every-each i _ (λ j l. refl)
+        go i n false = every-same i (λ j. not (eqb n (txnAt w j .number))) (λ j. not (eqb n (getD (othersIn (w .txns) .numbers) j 0))) (λ j l. rw (number-at (w .txns) j))
+
+    live-same : liveIn (othersIn (w .txns) .numbers) ≡ liveCount (view w .txns)
+    unfolding liveCount
+    live-same =
+        let ns = othersIn (w .txns) .numbers in
+        let n : length ns ≡ mostLive = length-map (w .txns) (λ (t : Transaction). t .number) ∙ eight in
+        let e = pick-nonzero (λ i. txnAt w i .number) (λ i. live (view w .txns i)) 0 ns (λ i h. rw (zero-add i, number-at (w .txns) i)) (λ i h q. rw (zero-add i, number-at (w .txns) i)) in
+        live-nonzero 0 ns ∙ (zero-add (length (nonzero ns)) ∙ (sym (ap length e) ∙ (length-map (pick (λ i. live (view w .txns i)) 0 (length ns)) (λ i. txnAt w i .number) ∙ ap (λ (m : ℕ). length (pick (λ i. live (view w .txns i)) 0 m)) n)))
+
+  module _ (places : allInPlace (w .txns) ≡ true) where
+    place-in : (i : ℕ) → i < mostLive → inPlace i (txnAt w i) ≡ true
+    place-in i h = every-at mostLive (λ i. inPlace i (txnAt w i)) places i h
+
+    few-active : (i : ℕ) → i < mostLive → txnAt w i .snapshot .«active_n» ≤ mostActive
+    few-active i h = leb-true _ mostActive (and-r (eqb (txnAt w i .slot) i) _ (place-in i h))
+
+    own-slot : (i : ℕ) → i < mostLive → txnAt w i .slot ≡ i
+    own-slot i h = eqb-true (txnAt w i .slot) i (and-l _ (leb (txnAt w i .snapshot .«active_n») mostActive) (place-in i h))
+
+    txn-same : chainsFit (w .tables .rows) (w .tables .versions) (w .sizes) (w .used) ≡ true → (i : ℕ) → i < mostLive
+        → goodTxn (view w) (view w .txns i) ≡ txnFits (w .tables .rows) (w .tables .versions) (w .tables .lists) (w .sizes) (w .clock) (w .used) (txnAt w i)
+    unfolding goodTxn txnFits
+    txn-same k i h =
+        let t = txnAt w i in
+        let first = and-l (leb (w .used) (w .sizes .versions) && every (w .sizes .rows) (λ r. leb (headOf (w .tables .rows) r) (w .used))) _ k in
+        let heads : (r : ℕ) → r < w .sizes .rows → headOf (w .tables .rows) r ≤ w .used = λ r l. leb-true _ (w .used) (every-at (w .sizes .rows) (λ r. leb (headOf (w .tables .rows) r) (w .used)) (and-r (leb (w .used) (w .sizes .versions)) _ first) r l) in
+        and-same _ _ _ _
+        (and-same _ _ _ _ (and-same (seenFits (w .clock) t) _ _ _ refl (λ e. counts-same (w .tables .lists) t (few-active i h))) (λ e. ranges-same (w .tables .lists) t (w .sizes) (w .used)))
+        (λ e. heads-same (w .tables .rows) (w .tables .versions) (w .tables .lists) (w .sizes) (w .used) (leb-true (w .used) (w .sizes .versions) (and-l _ _ first)) heads t (writes-true (w .tables .lists) t (w .sizes) (w .used) (and-r (seenFits (w .clock) t && countsFit t) _ e)))
+
+    txns-same : chainsFit (w .tables .rows) (w .tables .versions) (w .sizes) (w .used) ≡ true
+        → every mostLive (λ i. not (live (view w .txns i)) || goodTxn (view w) (view w .txns i)) ≡ txnsFit (w .tables .rows) (w .tables .versions) (w .tables .lists) (w .sizes) (w .clock) (w .used) (w .txns)
+    unfolding placeFits
+    txns-same k = every-same mostLive _ _ (λ i h. go (eqb (txnAt w i .number) 0) _ _ (txn-same k i h))
+      where
+        go : (b x y : Bool) → x ≡ y → not (not b) || x ≡ b || y
+        go true x y e = refl
+        go false x y e = e
+
+    module _ (sizes : goodSizes (sizesView (w .sizes)) ≡ true) (txns : txnsFit (w .tables .rows) (w .tables .versions) (w .tables .lists) (w .sizes) (w .clock) (w .used) (w .txns) ≡ true) where
+      live-fits : (i : ℕ) → i < mostLive → eqb (txnAt w i .number) 0 ≡ false → txnFits (w .tables .rows) (w .tables .versions) (w .tables .lists) (w .sizes) (w .clock) (w .used) (txnAt w i) ≡ true
+      unfolding placeFits
+      live-fits i h e = rw e at (every-at mostLive (λ i. placeFits (w .tables .rows) (w .tables .versions) (w .tables .lists) (w .sizes) (w .clock) (w .used) (txnAt w i)) txns i h)
+
+      count-same : (i : ℕ) → i < mostLive → eqb (txnAt w i .number) 0 ≡ false → distinctIn (w .tables .lists) i (txnAt w i .«writes_n») ≡ length (pendingRows (sizesView (w .sizes)) (view w .txns i .writes))
+      count-same i h e =
+          let t = txnAt w i in
+          let fits = live-fits i h e in
+          ap (λ (j : ℕ). distinctIn (w .tables .lists) j (t .«writes_n»)) (sym (own-slot i h))
+          ∙ distinct-count (w .tables .lists) t (w .sizes) (good-sized (sizesView (w .sizes)) sizes .rows-most) (few-writes _ _ (w .tables .lists) (w .sizes) (w .clock) (w .used) t fits) (writes-fit _ _ (w .tables .lists) (w .sizes) (w .clock) (w .used) t fits)
+
+      reserved-one : (i : ℕ) → i < mostLive → distinctIn (w .tables .lists) i (getD (othersIn (w .txns) .prepared) i 0) ≡ reservedBy (sizesView (w .sizes)) (view w .txns i)
+      unfolding reservedBy
+      reserved-one i h = rw (List·getD-map (λ (t : Transaction). preparedCount (t .number) (t .phase) (t .«writes_n»)) (w .txns) i (idleOf i)) (go (eqb (txnAt w i .number) 0) refl (eqb (model.rank (phaseView (txnAt w i .phase))) 4))
+        where
+          go : (b : Bool) → eqb (txnAt w i .number) 0 ≡ b → (c : Bool) → distinctIn (w .tables .lists) i (cond b 0 (cond c (txnAt w i .«writes_n») 0)) ≡ cond (not b && c) (length (pendingRows (sizesView (w .sizes)) (view w .txns i .writes))) 0
+          go true e c = none-distinct (w .tables .lists) i
+          go false e false = none-distinct (w .tables .lists) i
+          go false e true = count-same i h e
+
+      reserved-same : reservedIn (w .tables .lists) (othersIn (w .txns) .prepared) ≡ reserved (sizesView (w .sizes)) (view w .txns) mostLive
+      unfolding reservedIn reserved
+      reserved-same = omega (arith, reserved-one 0 (omega arith), reserved-one 1 (omega arith), reserved-one 2 (omega arith), reserved-one 3 (omega arith), reserved-one 4 (omega arith), reserved-one 5 (omega arith), reserved-one 6 (omega arith), reserved-one 7 (omega arith))
+
+  -- the code's test is the model's, both ways
+  pub shape-tested : length (w .txns) ≡ mostLive → shapeOf w ≡ tested w
+  unfolding shapeOf tablesFit rightShape
+  shape-tested eight =
+      let sizes = goodSizes (sizesView (w .sizes)) && leb 1 (w .clock) in
+      let chains = chainsFit (w .tables .rows) (w .tables .versions) (w .sizes) (w .used) in
+      let txns = txnsFit (w .tables .rows) (w .tables .versions) (w .tables .lists) (w .sizes) (w .clock) (w .used) (w .txns) in
+      and-same (tablesFit w) (tablesFit w) (rightShape (view w)) _ refl
+      (λ f.
+      let places = and-r (tablesLent (w .tables .rows) (w .tables .versions) (w .tables .buckets) (w .tables .lists) (w .sizes)) (allInPlace (w .txns)) f in
+      and-same _ _ _ _
+      (and-same _ _ _ _
+      (and-same _ _ _ _
+      (and-same _ _ _ _
+      (and-same sizes _ _ _ refl (λ e. chains-same))
+      (λ e. txns-same places (and-r sizes chains e)))
+      (λ e. distinct-same eight))
+      (λ e. ap (λ (n : ℕ). leb (w .clock + n) lastNumber) (sym (live-same eight))))
+      (λ e.
+      let front : sizes && chains && txns ≡ true = and-l _ _ (and-l _ _ e) in
+      let good = and-l (goodSizes (sizesView (w .sizes))) (leb 1 (w .clock)) (and-l sizes chains (and-l (sizes && chains) txns front)) in
+      ap (λ (n : ℕ). leb (w .used + n) (w .sizes .versions)) (sym (reserved-same places good (and-r (sizes && chains) txns front)))))
