@@ -1,0 +1,123 @@
+-- The loop of the replay: what stands before each record, and each way out of a turn.
+-- Assumes nothing.
+use Prim.Native.Nat.{ℕ, _<_, _≤_}
+use mathlib.Core.Path.{_≡_, refl, sym, ap, subst, _∙_}
+use mathlib.Core.Bool.{true, false}
+use mathlib.Core.Option.{some}
+use mathlib.Core.List.{List, _++_}
+use native.Mathlib.Omega.{arith}
+use lib.ListN.{length, drop, length-append}
+use Rattle.limits.specs.Limits.{mostRows}
+use Rattle.model.specs.Store.{Store}
+use Rattle.model.specs.Machine as machine
+use Rattle.model.specs.Machine.{step, stepIn}
+use Rattle.model.specs.Report.{answerLine}
+use Rattle.model.specs.Replay.{Replayed, malformed, writeThen, replayFrom}
+use Rattle.model.proofs.Good.{step-in}
+use Rattle.protocol.specs.View.{asked}
+use Rattle.protocol.specs.declared.Step.{Step}
+use Rattle.steps.specs.Steps.{Moved}
+use Rattle.steps.specs.Words.{Words, view, placeFor, movedBy, wordsAfter}
+use Rattle.bridge.proofs.Placed.{after}
+use Rattle.bridge.proofs.Same.{Same}
+use Rattle.bridge.proofs.Stepping.{step-same}
+use Rattle.bridge.proofs.Running.{Stands, step-stands, step-view}
+use Rattle.log.specs.declared.Command.{Command}
+use Rattle.log.specs.declared.Command.the-variants.{Open, Ask, Malformed}
+use Rattle.log.specs.declared.Decoded.{Decoded}
+use Rattle.log.specs.Records.{decodedOf}
+use Rattle.log.proofs.Reading.{Reads, reads, read-malformed, read-open, read-ask, read-on}
+use Rattle.lines.specs.declared.Wrote.the-variants.{Next, Full}
+use Rattle.lines.specs.Lines.{Written, writtenAt}
+use Rattle.lines.proofs.Reported.{shown}
+use Rattle.report.specs.Lines.{badLine, lineFor}
+use Rattle.report.proofs.Answers.{line-told}
+use Rattle.replay.specs.Replay.{isAsk, stepOf, Left, malformedAt, Leaves}
+use Rattle.replay.proofs.Turning.{onward, replay-ends, replay-reads, goes-on, goes-full}
+use Rattle.replay.proofs.Lining.{roomIn, line-on, line-off, last-line}
+
+-- before the record at a place: the words stand for a store, the text stands in the report, and the replay of the rest is the whole
+pub record Going (log old : List ℕ) (m : Replayed) (at wrote : ℕ) (report : List ℕ) (w : Words) : Type 0 where
+  pub stands : Stands w
+  pub text : List ℕ
+  pub long : wrote ≡ length text
+  pub laid : report ≡ shown text old
+  pub fits : length text ≤ roomIn old
+  pub rest : m ≡ replayFrom (roomIn old) (drop at log) (some (view w)) text
+
+-- a record that asks for a step
+ask-of : (c : Command) (s : Step) → isAsk c ≡ true → s ≡ stepOf c → c ≡ Ask s
+ask-of (Open rows versions buckets clock) s b e = let z : _≡_ {A = ℕ} 0 1 = cc in absurd (omega arith)
+ask-of (Ask a) s b e = ap (λ (x : Step). Ask x) (sym e)
+ask-of Malformed s b e = let z : _≡_ {A = ℕ} 0 1 = cc in absurd (omega arith)
+
+module _ {log old : List ℕ} {m : Replayed} {at wrote : ℕ} {report : List ℕ} {w : Words} (g : Going log old m at wrote report w) where
+  pub ends : length log ≤ at → Leaves (record { status = 0; wrote = wrote }) report m old
+  ends h = rw (g .rest, replay-ends (roomIn old) log at (some (view w)) (g .text) h, g .long, g .laid) (refl, omega arith, omega (arith, g .fits))
+
+  module _ (h : at < length log) {d : Decoded} (ed : d ≡ decodedOf log at) where
+    there : Reads log at d
+    there = subst (λ (x : Decoded). Reads log at x) (sym ed) (reads log at)
+
+    -- a malformed record, or a second open
+    bad-by : (c : Command) → d .command ≡ c → isAsk c ≡ false → m ≡ malformed (roomIn old) (g .text)
+    bad-by (Open rows versions buckets clock) e b = g .rest ∙ replay-reads (roomIn old) log at (some (view w)) (g .text) _ h (read-open there rows versions buckets clock e)
+    bad-by (Ask s) e b = let z : _≡_ {A = ℕ} 0 1 = cc in absurd (omega arith)
+    bad-by Malformed e b = g .rest ∙ replay-reads (roomIn old) log at (some (view w)) (g .text) _ h (read-malformed there e)
+
+    pub stops-malformed : isAsk (d .command) ≡ false → (l : Left) → l ≡ malformedAt report wrote → Leaves (l .stopped) (l .report) m old
+    stops-malformed b l e =
+        let e′ : l ≡ malformedAt (shown (g .text) old) (length (g .text)) = rw (← g .laid, ← g .long) e in
+        rw (bad-by (d .command) refl b) (last-line old (g .text) badLine (g .fits) 15 (omega arith) l e′)
+
+    module _ (b : isAsk (d .command) ≡ true) {s : Step} (es : s ≡ stepOf (d .command)) where
+      asks : d .command ≡ Ask s
+      asks = ask-of (d .command) s b es
+
+      pub further : at < d .next
+      further = read-on there (λ e. let z : _≡_ {A = Command} (Ask s) Malformed = sym asks ∙ e in let n : _≡_ {A = ℕ} 0 1 = cc in absurd (omega arith)) .0
+
+      module _ (room : mostRows ≤ length (w .tables .found)) where
+        same : Same w s
+        same = step-same w (g .stands .sized) (g .stands .good) s (omega (arith, room))
+
+        -- the line that the code writes is the model's
+        abbrev lineIs : List ℕ
+        lineIs = lineFor s (movedBy w s .stepped .answer) (movedBy w s .found)
+
+        line-same : lineIs ≡ answerLine (asked s) (step (view w) (asked s) .answer)
+        line-same =
+            rw (same .answer, same .lent) (line-told s (stepIn (view w) (asked s) .answer) (w .tables .found))
+            ∙ ap (λ (o : machine.Stepped). answerLine (asked s) (o .answer)) (sym (step-in (view w) (g .stands .good) (asked s)))
+
+        -- what is done behind it
+        abbrev goes-to : List ℕ → Replayed
+        goes-to = onward (roomIn old) (drop (d .next) log) (view (wordsAfter w s))
+
+        turned : m ≡ writeThen (roomIn old) (g .text) lineIs goes-to
+        turned =
+            g .rest
+            ∙ replay-reads (roomIn old) log at (some (view w)) (g .text) _ h (read-ask there s asks)
+            ∙ ap (λ (l : List ℕ). writeThen (roomIn old) (g .text) l (onward (roomIn old) (drop (d .next) log) (step (view w) (asked s) .store))) (sym line-same)
+            ∙ ap (λ (v : Store). writeThen (roomIn old) (g .text) lineIs (onward (roomIn old) (drop (d .next) log) v)) (sym (step-view w s (g .stands .good) same))
+
+        module _ {mv : Moved} (em : mv ≡ movedBy w s) {line : Written} (el : line ≡ writtenAt report wrote (lineFor s (mv .stepped .answer) (mv .found))) where
+          lined : line ≡ writtenAt (shown (g .text) old) (length (g .text)) lineIs
+          lined = rw (← g .laid, ← g .long, ← em) el
+
+          pub stops-full : line .wrote ≡ Full → Leaves (record { status = 10; wrote = wrote }) (line .report) m old
+          stops-full q =
+              let f = line-off old (g .text) lineIs (g .fits) line lined q in
+              rw (turned, goes-full (roomIn old) (g .text) lineIs goes-to (f .full), f .report, g .long) (refl, omega arith, omega (arith, g .fits))
+
+          pub goes : (end : ℕ) → line .wrote ≡ Next end → Going log old m (d .next) end (line .report) (after w (placeFor (w .txns) s) mv)
+          goes end q =
+              let f = line-on old (g .text) lineIs (g .fits) line lined end q in
+              rw em (record {
+                stands = step-stands w s (g .stands .good) same;
+                text = g .text ++ lineIs;
+                long = f .end;
+                laid = f .report;
+                fits = rw (length-append (g .text) lineIs) (f .fits);
+                rest = turned ∙ goes-on (roomIn old) (g .text) lineIs goes-to (f .fits);
+              })

@@ -1,0 +1,6 @@
+pub mod Turning
+pub mod Lining
+pub mod Going
+pub mod Zeroes
+pub mod Beside
+pub mod First

@@ -1,0 +1,355 @@
+// A log replayed into a report: the one function that a host calls.
+use limits::MOST_BUCKETS;
+use limits::MOST_LIVE;
+use limits::MOST_ROWS;
+use limits::MOST_VERSIONS;
+use lines::Wrote;
+use log::Command;
+use log::read_at;
+use protocol::MALFORMED;
+use protocol::NO_ROOM;
+use protocol::Step;
+use protocol::WRONG_SIZE;
+use record::idle;
+use report::answer_line;
+use report::bad_line;
+use report::open_line;
+use steps::Others;
+use steps::Sizes;
+use steps::active_number;
+use steps::place_of;
+use steps::prepared_count;
+use steps::step;
+use steps::wanted;
+use tables::BUCKET_WORDS;
+use tables::ROW_WORDS;
+use tables::VERSION_WORDS;
+use tables::lists::SLOT_WORDS;
+ghost use mathlib.Core.Path.{_≡_};
+ghost use Prim.Native.Nat.{_≤_, min};
+ghost use mathlib.Core.Bool.{true};
+ghost use lib.ListN.{length};
+ghost use Rattle.model.specs.Shape.{within};
+ghost use Rattle.model.specs.Machine.{canOpen};
+ghost use Rattle.model.specs.Replay.{replay, packed, reported, mostRoom};
+ghost use Rattle.steps.specs.Words.{sizesView};
+ghost use Rattle.replay.specs.Replay.{isOpen, isAsk, sizesOf, clockOf, stepOf, stopAfter, malformedAt, unopenedAt, Leaves, Zeroed, openedFrom};
+
+// The status stands above this, the bytes written below it.
+const HALF: u64 = 4294967296;
+
+// How a replay stops: its status, and how many bytes of the report it wrote.
+struct Stopped {
+    status: u64,
+    wrote: usize,
+}
+
+// Whether a record asks for a store.
+fn is_open(command: Command) -> bool
+    ensures { λ r. ⌜ r ≡ isOpen command ⌝ }
+{
+    match command {
+        Command::Open {
+            rows: _,
+            versions: _,
+            buckets: _,
+            clock: _,
+        } => true,
+        Command::Ask(_) => false,
+        Command::Malformed => false,
+    }
+}
+
+// Whether a record asks for a step.
+fn is_ask(command: Command) -> bool
+    ensures { λ r. ⌜ r ≡ isAsk command ⌝ }
+{
+    match command {
+        Command::Open {
+            rows: _,
+            versions: _,
+            buckets: _,
+            clock: _,
+        } => false,
+        Command::Ask(_) => true,
+        Command::Malformed => false,
+    }
+}
+
+// The sizes that an open asks for, and its clock; 0 where it is none.
+fn sizes_of(command: Command) -> Sizes
+    ensures { λ r. ⌜ r ≡ sizesOf command ⌝ }
+{
+    match command {
+        Command::Open {
+            rows,
+            versions,
+            buckets,
+            clock: _,
+        } => Sizes {
+            rows: rows,
+            versions: versions,
+            buckets: buckets,
+        },
+        Command::Ask(_) => Sizes {
+            rows: 0,
+            versions: 0,
+            buckets: 0,
+        },
+        Command::Malformed => Sizes {
+            rows: 0,
+            versions: 0,
+            buckets: 0,
+        },
+    }
+}
+
+fn clock_of(command: Command) -> u64
+    ensures { λ r. ⌜ r ≡ clockOf command ⌝ }
+{
+    match command {
+        Command::Open {
+            rows: _,
+            versions: _,
+            buckets: _,
+            clock,
+        } => clock,
+        Command::Ask(_) => 0,
+        Command::Malformed => 0,
+    }
+}
+
+// The step that a record asks for; begin where it asks for none.
+fn step_of(command: Command) -> Step
+    ensures { λ r. ⌜ r ≡ stepOf command ⌝ }
+{
+    match command {
+        Command::Open {
+            rows: _,
+            versions: _,
+            buckets: _,
+            clock: _,
+        } => Step::Begin,
+        Command::Ask(s) => s,
+        Command::Malformed => Step::Begin,
+    }
+}
+
+// Whether a size is in its range.
+fn in_range(n: u64, most: usize) -> bool
+    ensures { λ r. ⌜ r ≡ within n most ⌝ }
+{
+    if n < 1 {
+        return false;
+    }
+    n <= most as u64
+}
+
+// Whether an open is not refused.
+fn can_open(sizes: Sizes, clock: u64) -> bool
+    ensures { λ r. ⌜ r ≡ canOpen (sizesView sizes) clock ⌝ }
+{
+    if !in_range(sizes.rows, MOST_ROWS) {
+        return false;
+    }
+    if !in_range(sizes.versions, MOST_VERSIONS) {
+        return false;
+    }
+    if !in_range(sizes.buckets, MOST_BUCKETS) {
+        return false;
+    }
+    clock >= 1
+}
+
+// How a replay stops after a last line: with this status, or with 10 where the line did not fit.
+fn stop_after(line: Wrote, status: u64, at: usize) -> Stopped
+    ensures { λ r. ⌜ r ≡ stopAfter line status at ⌝ }
+{
+    match line {
+        Wrote::Next(end) => Stopped {
+            status: status,
+            wrote: end,
+        },
+        Wrote::Full => Stopped {
+            status: NO_ROOM,
+            wrote: at,
+        },
+    }
+}
+
+// `bad 15`, and stop.
+fn stop_malformed(report: &mut [u8], at: usize) -> Stopped
+    ensures { λ r. ⌜ record { stopped = r; report = now (report .exit) } ≡ malformedAt (now (report .entry)) at ⌝ }
+{
+    let line = bad_line(report, at);
+    stop_after(line, MALFORMED, at)
+}
+
+// `open 1`, and stop.
+fn stop_unopened(report: &mut [u8]) -> Stopped
+    ensures { λ r. ⌜ record { stopped = r; report = now (report .exit) } ≡ unopenedAt (now (report .entry)) ⌝ }
+{
+    let line = open_line(report, 0, WRONG_SIZE);
+    stop_after(line, WRONG_SIZE, 0)
+}
+
+// The records after the open, from `start` on, each with its line; the report has `opened` bytes already.
+fn replay_steps(
+    log: &[u8],
+    report: &mut [u8],
+    rows: &mut [u64],
+    versions: &mut [u64],
+    buckets: &mut [u64],
+    lists: &mut [u64],
+    found: &mut [u64],
+    sizes: Sizes,
+    first_clock: u64,
+    start: usize,
+    opened: usize,
+) -> Stopped
+    requires { ⌜ Zeroed (now rows) (now versions) (now buckets) (now lists) (now found) × (canOpen (sizesView sizes) «first_clock» ≡ true) × (opened ≤ min (length (now report)) mostRoom) ⌝ }
+    ensures { λ r. ⌜ Leaves r (now (report .exit)) (openedFrom (now (log .entry)) (now (report .entry)) sizes «first_clock» start opened) (now (report .entry)) ⌝ }
+{
+    let t0 = idle(0);
+    let t1 = idle(1);
+    let t2 = idle(2);
+    let t3 = idle(3);
+    let t4 = idle(4);
+    let t5 = idle(5);
+    let t6 = idle(6);
+    let t7 = idle(7);
+    let mut txns = [t0, t1, t2, t3, t4, t5, t6, t7];
+    let mut numbers = [0u64; MOST_LIVE];
+    let mut active = [0u64; MOST_LIVE];
+    let mut prepared = [0u32; MOST_LIVE];
+    let mut clock = first_clock;
+    let mut used: u64 = 0;
+    let mut wrote = opened;
+    let mut at = start;
+    while at < log.len() {
+        let d = read_at(log, at);
+        let command = d.command;
+        let next = d.next;
+        if !is_ask(command) {
+            return stop_malformed(report, wrote);
+        }
+        let s = step_of(command);
+        let others = Others {
+            numbers: numbers,
+            active: active,
+            prepared: prepared,
+        };
+        let k = place_of(numbers, wanted(s));
+        let t = txns[k];
+        let u = step(
+            rows,
+            versions,
+            buckets,
+            lists,
+            found,
+            sizes,
+            others,
+            t,
+            clock,
+            used,
+            s,
+        );
+        let answer = u.answer;
+        let line = answer_line(report, wrote, s, answer, found);
+        let Wrote::Next(end) = line else {
+            return Stopped {
+                status: NO_ROOM,
+                wrote: wrote,
+            };
+        };
+        let after = u.txn;
+        let number = after.number;
+        let phase = after.phase;
+        numbers[k] = number;
+        active[k] = active_number(number, phase);
+        prepared[k] = prepared_count(number, phase, after.writes_n);
+        txns[k] = after;
+        clock = u.clock;
+        used = u.used;
+        wrote = end;
+        at = next;
+    }
+    Stopped {
+        status: 0,
+        wrote: wrote,
+    }
+}
+
+// The first record, which must be an open, and then the others.
+fn replay_open(
+    log: &[u8],
+    report: &mut [u8],
+    rows: &mut [u64],
+    versions: &mut [u64],
+    buckets: &mut [u64],
+    lists: &mut [u64],
+    found: &mut [u64],
+) -> Stopped
+    requires { ⌜ Zeroed (now rows) (now versions) (now buckets) (now lists) (now found) ⌝ }
+    ensures { λ r. ⌜ Leaves r (now (report .exit)) (replay (now (log .entry)) (length (now (report .entry)))) (now (report .entry)) ⌝ }
+{
+    if log.len() == 0 {
+        return Stopped {
+            status: 0,
+            wrote: 0,
+        };
+    }
+    let d = read_at(log, 0);
+    let command = d.command;
+    let next = d.next;
+    if !is_open(command) {
+        return stop_malformed(report, 0);
+    }
+    let sizes = sizes_of(command);
+    let clock = clock_of(command);
+    if !can_open(sizes, clock) {
+        return stop_unopened(report);
+    }
+    let line = open_line(report, 0, 0);
+    let Wrote::Next(end) = line else {
+        return Stopped {
+            status: NO_ROOM,
+            wrote: 0,
+        };
+    };
+    replay_steps(
+        log,
+        report,
+        rows,
+        versions,
+        buckets,
+        lists,
+        found,
+        sizes,
+        clock,
+        next,
+        end,
+    )
+}
+
+// Replays a log into a report, over tables of the greatest size: status × 4,294,967,296 + bytes written.
+#[no_mangle]
+pub extern "C" fn toruxeng_replay(log: &[u8], report: &mut [u8]) -> u64
+    ensures { λ r. ⌜ (r ≡ packed (replay (now (log .entry)) (length (now (report .entry))))) × (now (report .exit) ≡ reported (replay (now (log .entry)) (length (now (report .entry)))) (now (report .entry))) ⌝ }
+{
+    let mut rows = [0u64; ROW_WORDS * MOST_ROWS];
+    let mut versions = [0u64; VERSION_WORDS * (MOST_VERSIONS + 1)];
+    let mut buckets = [0u64; BUCKET_WORDS * MOST_BUCKETS];
+    let mut lists = [0u64; SLOT_WORDS * MOST_LIVE];
+    let mut found = [0u64; MOST_ROWS];
+    let r = replay_open(
+        log,
+        report,
+        &mut rows,
+        &mut versions,
+        &mut buckets,
+        &mut lists,
+        &mut found,
+    );
+    r.status * HALF + r.wrote as u64
+}
