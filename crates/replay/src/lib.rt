@@ -10,6 +10,7 @@ use protocol::MALFORMED;
 use protocol::NO_ROOM;
 use protocol::Step;
 use protocol::WRONG_SIZE;
+use record::Transaction;
 use record::idle;
 use report::answer_line;
 use report::bad_line;
@@ -32,7 +33,7 @@ ghost use lib.ListN.{length};
 ghost use Rattle.model.specs.Shape.{within};
 ghost use Rattle.model.specs.Machine.{canOpen};
 ghost use Rattle.model.specs.Replay.{replay, packed, reported, mostRoom};
-ghost use Rattle.steps.specs.Words.{sizesView};
+ghost use Rattle.steps.specs.Words.{sizesView, freePlaces};
 ghost use Rattle.replay.specs.Replay.{isOpen, isAsk, sizesOf, clockOf, stepOf, stopAfter, malformedAt, unopenedAt, Leaves, Zeroed, openedFrom};
 
 // The status stands above this, the bytes written below it.
@@ -193,6 +194,21 @@ fn stop_unopened(report: &mut [u8]) -> Stopped
     stop_after(line, WRONG_SIZE, 0)
 }
 
+// Eight free places.
+fn free_places() -> [Transaction; MOST_LIVE]
+    ensures { λ r. ⌜ r ≡ freePlaces ⌝ }
+{
+    let t0 = idle(0);
+    let t1 = idle(1);
+    let t2 = idle(2);
+    let t3 = idle(3);
+    let t4 = idle(4);
+    let t5 = idle(5);
+    let t6 = idle(6);
+    let t7 = idle(7);
+    [t0, t1, t2, t3, t4, t5, t6, t7]
+}
+
 // The records after the open, from `start` on, each with its line; the report has `opened` bytes already.
 fn replay_steps(
     log: &[u8],
@@ -210,15 +226,7 @@ fn replay_steps(
     requires { ⌜ Zeroed (now rows) (now versions) (now buckets) (now lists) (now found) × (canOpen (sizesView sizes) «first_clock» ≡ true) × (opened ≤ min (length (now report)) mostRoom) ⌝ }
     ensures { λ r. ⌜ Leaves r (now (report .exit)) (openedFrom (now (log .entry)) (now (report .entry)) sizes «first_clock» start opened) (now (report .entry)) ⌝ }
 {
-    let t0 = idle(0);
-    let t1 = idle(1);
-    let t2 = idle(2);
-    let t3 = idle(3);
-    let t4 = idle(4);
-    let t5 = idle(5);
-    let t6 = idle(6);
-    let t7 = idle(7);
-    let mut txns = [t0, t1, t2, t3, t4, t5, t6, t7];
+    let mut txns = free_places();
     let mut numbers = [0u64; MOST_LIVE];
     let mut active = [0u64; MOST_LIVE];
     let mut prepared = [0u32; MOST_LIVE];

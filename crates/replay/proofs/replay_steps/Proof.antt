@@ -29,76 +29,55 @@ Inv-loop log report₀ rows₀ versions₀ buckets₀ lists₀ found₀ sizes fi
 abbrev μ-loop : tie.MeasureT-loop
 μ-loop log report₀ rows₀ versions₀ buckets₀ lists₀ found₀ sizes first-clock start opened txns₀ numbers₀ active₀ prepared₀ clock₀ used₀ wrote₀ at₀ report rows versions buckets lists found txns numbers active prepared clock used wrote at = length log - at
 
-idle-requires : tie.Need-idle-requires Inv-loop μ-loop
-idle-requires c κs = search needs
-
-idle-requires-2 : tie.Need-idle-requires-2 Inv-loop μ-loop
-idle-requires-2 c κs = search needs
-
-idle-requires-3 : tie.Need-idle-requires-3 Inv-loop μ-loop
-idle-requires-3 c κs = search needs
-
-idle-requires-4 : tie.Need-idle-requires-4 Inv-loop μ-loop
-idle-requires-4 c κs = search needs
-
-idle-requires-5 : tie.Need-idle-requires-5 Inv-loop μ-loop
-idle-requires-5 c κs = search needs
-
-idle-requires-6 : tie.Need-idle-requires-6 Inv-loop μ-loop
-idle-requires-6 c κs = search needs
-
-idle-requires-7 : tie.Need-idle-requires-7 Inv-loop μ-loop
-idle-requires-7 c κs = search needs
-
-idle-requires-8 : tie.Need-idle-requires-8 Inv-loop μ-loop
-idle-requires-8 c κs = search needs
+free-places-requires : tie.Need-free-places-requires Inv-loop μ-loop
+free-places-requires c κs = tt
 
 loop-holds : tie.Need-loop-holds Inv-loop μ-loop
 loop-holds c =
-    let s = c .before .before .before .before .before .before .before .before .before .before .before .before .before .before .before in
+    let s = c .before .before .before .before .before .before .before .before in
     let a = s .args in
-    rw (c .before .before .before .before .before .before .before .idle .ensures, c .before .before .before .before .before .before .idle2 .ensures, c .before .before .before .before .before .idle3 .ensures, c .before .before .before .before .idle4 .ensures, c .before .before .before .idle5 .ensures, c .before .before .idle6 .ensures, c .before .idle7 .ensures, c .idle8 .ensures)
+    rw (c .free-places .ensures)
     (refl, refl, refl, refl, refl, refl, refl, refl, starts (a .log .now) (a .report .now) (a .rows .now) (a .versions .now) (a .buckets .now) (a .lists .now) (a .found .now) (a .sizes) (a .first-clock) (a .start) (a .opened) (s .pre .0) (s .pre .1) (omega (arith, s .fits .first-clock)) (s .pre .2))
 
 read-at-requires : tie.Need-read-at-requires Inv-loop μ-loop
-read-at-requires c κs = search needs
+read-at-requires c κs = tt
 
 is-ask-requires : tie.Need-is-ask-requires Inv-loop μ-loop
-is-ask-requires c κs = search needs
+is-ask-requires c κs = tt
 
 stop-malformed-requires : tie.Need-stop-malformed-requires Inv-loop μ-loop
-stop-malformed-requires c κs = search needs
+stop-malformed-requires c κs = tt
 
 same-length : tie.Need-same-length Inv-loop μ-loop
-same-length c = search needs
+same-length c = c .before .before .stop-malformed .kept .0 ∙ c .before .before .before .before .before .before .before .before .loop .inv .0
 
 same-length-2 : tie.Need-same-length-2 Inv-loop μ-loop
-same-length-2 c = search needs
+same-length-2 c = c .before .before .before .before .before .before .before .before .loop .inv .1
 
 same-length-3 : tie.Need-same-length-3 Inv-loop μ-loop
-same-length-3 c = search needs
+same-length-3 c = c .before .before .before .before .before .before .before .before .loop .inv .2
 
 same-length-4 : tie.Need-same-length-4 Inv-loop μ-loop
-same-length-4 c = search needs
+same-length-4 c = c .before .before .before .before .before .before .before .before .loop .inv .3
 
 same-length-5 : tie.Need-same-length-5 Inv-loop μ-loop
-same-length-5 c = search needs
+same-length-5 c = c .before .before .before .before .before .before .before .before .loop .inv .4
 
 same-length-6 : tie.Need-same-length-6 Inv-loop μ-loop
-same-length-6 c = search needs
+same-length-6 c = c .before .before .before .before .before .before .before .before .loop .inv .5
 
 returns : tie.Need-returns Inv-loop μ-loop
 returns c =
     stops-malformed (c .before .before .before .before .before .before .before .before .loop .inv .8) (c .before .before .before .before .before .before .before .loop-test .taken) (c .before .before .before .before .before .before .read-at .ensures) (sym (c .before .before .before .before .before .is-ask .ensures) ∙ not-true (c .before .before .before .before .before .is-ask .result) (c .before .before .before .before .if1 .taken)) _ (c .before .before .stop-malformed .ensures)
 
 step-of-requires : tie.Need-step-of-requires Inv-loop μ-loop
-step-of-requires c κs = search needs
+step-of-requires c κs = tt
 
 wanted-requires : tie.Need-wanted-requires Inv-loop μ-loop
-wanted-requires c κs = search needs
+wanted-requires c κs = tt
 
 place-of-requires : tie.Need-place-of-requires Inv-loop μ-loop
-place-of-requires c κs = search needs
+place-of-requires c κs = tt
 
 mul-t : tie.Need-mul-t Inv-loop μ-loop
 mul-t c = search needs
@@ -107,10 +86,10 @@ array-copy-out-t : tie.Need-array-copy-out-t Inv-loop μ-loop
 array-copy-out-t c = search needs
 
 step-requires : tie.Need-step-requires Inv-loop μ-loop
-step-requires c κs = search needs
+step-requires c κs = tt
 
 answer-line-requires : tie.Need-answer-line-requires Inv-loop μ-loop
-answer-line-requires c κs = search needs
+answer-line-requires c κs = tt
 
 enum-known-line : tie.Need-enum-known-line Inv-loop μ-loop
 enum-known-line c = search needs
@@ -139,10 +118,10 @@ same-length-12 c = c .before .before .before .before .before .before .before .be
 returns-2 : tie.Need-returns-2 Inv-loop μ-loop
 returns-2 c =
     let l = c .before .before .before .before .before .before .before .before .before .before .before .before .before .before .before .before .before .before .before .before .before .before .before .before .before .before .before .before .before .before .before .loop in
-    let w = wordsOf (l .rows) (l .versions) (l .buckets) (l .lists) (l .found) (l .txns) (c .before .before .before .before .before .before .before .before .before .before .before .before .before .before .before .before .before .before .before .before .before .before .before .before .before .before .before .before .before .before .before .before .before .before .before .before .before .before .before .before .before .before .before .before .before .before .before .args .sizes) (l .clock) (l .used) in
+    let w = wordsOf (l .rows) (l .versions) (l .buckets) (l .lists) (l .found) (l .txns) (c .before .before .before .before .before .before .before .before .before .before .before .before .before .before .before .before .before .before .before .before .before .before .before .before .before .before .before .before .before .before .before .before .before .before .before .before .before .before .before .before .args .sizes) (l .clock) (l .used) in
     let s = c .before .before .before .before .before .before .before .before .before .before .before .before .before .before .before .before .before .before .before .before .before .before .before .before .before .before .step-of .result in
     let asks = sym (c .before .before .before .before .before .before .before .before .before .before .before .before .before .before .before .before .before .before .before .before .before .before .before .before .before .before .before .before .is-ask .ensures) ∙ not-false (c .before .before .before .before .before .before .before .before .before .before .before .before .before .before .before .before .before .before .before .before .before .before .before .before .before .before .before .before .is-ask .result) (c .before .before .before .before .before .before .before .before .before .before .before .before .before .before .before .before .before .before .before .before .before .before .before .before .before .before .before .if1 .left) in
-    let room = found-room (l .found) (c .before .before .before .before .before .before .before .before .before .before .before .before .before .before .before .before .before .before .before .before .before .before .before .before .before .before .before .before .before .before .before .before .before .before .before .before .before .before .before .before .before .before .before .before .before .before .before .pre .0 .4) (l .inv .5) in
+    let room = found-room (l .found) (c .before .before .before .before .before .before .before .before .before .before .before .before .before .before .before .before .before .before .before .before .before .before .before .before .before .before .before .before .before .before .before .before .before .before .before .before .before .before .before .before .pre .0 .4) (l .inv .5) in
     let em = moved-of w s (l .inv .7) (l .inv .6) (c .before .before .before .before .before .before .before .before .before .before .before .before .before .before .before .before .before .before .before .before .before .before .before .before .before .wanted .ensures) (c .before .before .before .before .before .before .before .before .before .before .before .before .before .before .before .before .before .before .before .before .before .before .before .before .place-of .ensures .1) (c .before .before .before .before .before .before .before .before .before .before .before .before .before .before .before .before .before .before .before .before .before .before .before .before .place-of .ensures .0) _ _ (c .before .before .before .before .before .before .before .before .before .before .before .before .before .before .before .before .before .step .ensures) in
     stops-full (l .inv .8) (c .before .before .before .before .before .before .before .before .before .before .before .before .before .before .before .before .before .before .before .before .before .before .before .before .before .before .before .before .before .before .loop-test .taken) (c .before .before .before .before .before .before .before .before .before .before .before .before .before .before .before .before .before .before .before .before .before .before .before .before .before .before .before .before .before .read-at .ensures) asks (c .before .before .before .before .before .before .before .before .before .before .before .before .before .before .before .before .before .before .before .before .before .before .before .before .before .before .step-of .ensures) room em (c .before .before .before .before .answer-line .ensures) (c .enum-told .given .1)
 
@@ -153,7 +132,7 @@ array-write-numbers : tie.Need-array-write-numbers Inv-loop μ-loop
 array-write-numbers c = omega (arith, c .before .before .before .before .before .before .before .before .before .before .before .before .before .before .before .before .before .before .before .before .before .before .before .before .before .before .place-of .ensures .1)
 
 active-number-requires : tie.Need-active-number-requires Inv-loop μ-loop
-active-number-requires c κs = search needs
+active-number-requires c κs = tt
 
 mul-active : tie.Need-mul-active Inv-loop μ-loop
 mul-active c = omega (arith, c .before .before .before .before .before .before .before .before .before .before .before .before .before .before .before .before .before .before .before .before .before .before .before .before .before .before .before .place-of .ensures .1)
@@ -162,7 +141,7 @@ array-write-active : tie.Need-array-write-active Inv-loop μ-loop
 array-write-active c = omega (arith, c .before .before .before .before .before .before .before .before .before .before .before .before .before .before .before .before .before .before .before .before .before .before .before .before .before .before .before .place-of .ensures .1)
 
 prepared-count-requires : tie.Need-prepared-count-requires Inv-loop μ-loop
-prepared-count-requires c κs = search needs
+prepared-count-requires c κs = tt
 
 mul-prepared : tie.Need-mul-prepared Inv-loop μ-loop
 mul-prepared c = omega (arith, c .before .before .before .before .before .before .before .before .before .before .before .before .before .before .before .before .before .before .before .before .before .before .before .before .before .before .before .before .place-of .ensures .1)
@@ -184,10 +163,10 @@ loop-less c =
 loop-again : tie.Need-loop-again Inv-loop μ-loop
 loop-again c =
     let l = c .before .before .before .before .before .before .before .before .before .before .before .before .before .before .before .before .before .before .before .before .before .before .before .before .before .before .before .before .before .before .before .before .before .before .before .loop in
-    let w = wordsOf (l .rows) (l .versions) (l .buckets) (l .lists) (l .found) (l .txns) (c .before .before .before .before .before .before .before .before .before .before .before .before .before .before .before .before .before .before .before .before .before .before .before .before .before .before .before .before .before .before .before .before .before .before .before .before .before .before .before .before .before .before .before .before .before .before .before .before .before .before .before .args .sizes) (l .clock) (l .used) in
+    let w = wordsOf (l .rows) (l .versions) (l .buckets) (l .lists) (l .found) (l .txns) (c .before .before .before .before .before .before .before .before .before .before .before .before .before .before .before .before .before .before .before .before .before .before .before .before .before .before .before .before .before .before .before .before .before .before .before .before .before .before .before .before .before .before .before .before .args .sizes) (l .clock) (l .used) in
     let s = c .before .before .before .before .before .before .before .before .before .before .before .before .before .before .before .before .before .before .before .before .before .before .before .before .before .before .before .before .before .before .step-of .result in
     let asks = sym (c .before .before .before .before .before .before .before .before .before .before .before .before .before .before .before .before .before .before .before .before .before .before .before .before .before .before .before .before .before .before .before .before .is-ask .ensures) ∙ not-false (c .before .before .before .before .before .before .before .before .before .before .before .before .before .before .before .before .before .before .before .before .before .before .before .before .before .before .before .before .before .before .before .before .is-ask .result) (c .before .before .before .before .before .before .before .before .before .before .before .before .before .before .before .before .before .before .before .before .before .before .before .before .before .before .before .before .before .before .before .if1 .left) in
-    let room = found-room (l .found) (c .before .before .before .before .before .before .before .before .before .before .before .before .before .before .before .before .before .before .before .before .before .before .before .before .before .before .before .before .before .before .before .before .before .before .before .before .before .before .before .before .before .before .before .before .before .before .before .before .before .before .before .pre .0 .4) (l .inv .5) in
+    let room = found-room (l .found) (c .before .before .before .before .before .before .before .before .before .before .before .before .before .before .before .before .before .before .before .before .before .before .before .before .before .before .before .before .before .before .before .before .before .before .before .before .before .before .before .before .before .before .before .before .pre .0 .4) (l .inv .5) in
     let ek = place-of w s (l .inv .7) (l .inv .6) (c .before .before .before .before .before .before .before .before .before .before .before .before .before .before .before .before .before .before .before .before .before .before .before .before .before .before .before .before .before .wanted .ensures) (c .before .before .before .before .before .before .before .before .before .before .before .before .before .before .before .before .before .before .before .before .before .before .before .before .before .before .before .before .place-of .ensures .1) (c .before .before .before .before .before .before .before .before .before .before .before .before .before .before .before .before .before .before .before .before .before .before .before .before .before .before .before .before .place-of .ensures .0) in
     let em = moved-of w s (l .inv .7) (l .inv .6) (c .before .before .before .before .before .before .before .before .before .before .before .before .before .before .before .before .before .before .before .before .before .before .before .before .before .before .before .before .before .wanted .ensures) (c .before .before .before .before .before .before .before .before .before .before .before .before .before .before .before .before .before .before .before .before .before .before .before .before .before .before .before .before .place-of .ensures .1) (c .before .before .before .before .before .before .before .before .before .before .before .before .before .before .before .before .before .before .before .before .before .before .before .before .before .before .before .before .place-of .ensures .0) _ _ (c .before .before .before .before .before .before .before .before .before .before .before .before .before .before .before .before .before .before .before .before .before .step .ensures) in (
       c .before .before .before .before .before .before .before .before .answer-line .kept .0 ∙ l .inv .0,
@@ -202,22 +181,22 @@ loop-again c =
     )
 
 same-length-13 : tie.Need-same-length-13 Inv-loop μ-loop
-same-length-13 c = search needs
+same-length-13 c = c .before .loop .inv .0
 
 same-length-14 : tie.Need-same-length-14 Inv-loop μ-loop
-same-length-14 c = search needs
+same-length-14 c = c .before .loop .inv .1
 
 same-length-15 : tie.Need-same-length-15 Inv-loop μ-loop
-same-length-15 c = search needs
+same-length-15 c = c .before .loop .inv .2
 
 same-length-16 : tie.Need-same-length-16 Inv-loop μ-loop
-same-length-16 c = search needs
+same-length-16 c = c .before .loop .inv .3
 
 same-length-17 : tie.Need-same-length-17 Inv-loop μ-loop
-same-length-17 c = search needs
+same-length-17 c = c .before .loop .inv .4
 
 same-length-18 : tie.Need-same-length-18 Inv-loop μ-loop
-same-length-18 c = search needs
+same-length-18 c = c .before .loop .inv .5
 
 returns-3 : tie.Need-returns-3 Inv-loop μ-loop
 returns-3 c =
@@ -229,14 +208,7 @@ replay-steps-spec =
     (tie.spec
     Inv-loop
     μ-loop
-    idle-requires
-    idle-requires-2
-    idle-requires-3
-    idle-requires-4
-    idle-requires-5
-    idle-requires-6
-    idle-requires-7
-    idle-requires-8
+    free-places-requires
     loop-holds
     read-at-requires
     is-ask-requires
