@@ -4,3 +4,4 @@ pub mod Going
 pub mod Zeroes
 pub mod Beside
 pub mod First
+pub mod Statuses
