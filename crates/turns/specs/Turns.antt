@@ -1,0 +1,62 @@
+-- The public steps and open: what is answered, the machine that goes back, and all the lent words.
+use Prim.Native.Nat.{ℕ, suc, _*_}
+use mathlib.Core.Bool.{cond, not}
+use mathlib.Core.List.{List, [], _∷_, _++_}
+use lib.ListN.{drop, set, replicate}
+use Rattle.model.specs.Machine.{canOpen}
+use Rattle.protocol.specs.declared.Step.{Step}
+use Rattle.protocol.specs.declared.Answer.{Answer}
+use Rattle.protocol.specs.declared.Answer.the-variants as tell
+use Rattle.tables.specs.Fields.{rowWords, versionWords, bucketWords}
+use Rattle.record.specs.Methods.{idleOf}
+use Rattle.record.specs.declared.Transaction.{Transaction}
+use Rattle.steps.specs.declared.Sizes.{Sizes}
+use Rattle.steps.specs.declared.Stepped.{Stepped}
+use Rattle.steps.specs.Words.{Words, sizesView, movedBy, wordsAfter}
+use Rattle.shape.specs.Shape.{tablesLent, shapeOf, wordsOf}
+use Rattle.shape.specs.declared.Machine.{Machine}
+use Rattle.turns.specs.declared.Turned.{Turned}
+
+-- an answer, and the whole store in words
+pub record Left : Type 0 where
+  pub answer : Answer
+  pub words : Words
+
+-- what a public function hands back, with the lent words as it leaves them
+abbrev pub left : Turned → List ℕ → List ℕ → List ℕ → List ℕ → List ℕ → Left
+left r rows versions buckets lists found = record { answer = r .answer; words = wordsOf rows versions buckets lists found (r .machine) }
+
+-- 16 where the shape is wrong, with all as found; else the step
+unfoldable pub turnOf : Words → Step → Left
+turnOf w s = cond (shapeOf w) (record { answer = movedBy w s .stepped .answer; words = wordsAfter w s }) (record { answer = tell.Refused 16; words = w })
+
+-- the record goes back to its place, and clock and last used pointer are taken over
+abbrev pub placedOf : Machine → ℕ → Stepped → Turned
+placedOf m p st = record { answer = st .answer; machine = record { sizes = m .sizes; clock = st .clock; used = st .used; txns = set (m .txns) p (st .txn) } }
+
+-- the first n words of a table are 0; those past them keep their contents
+unfoldable pub cleared : ℕ → List ℕ → List ℕ
+cleared n xs = replicate n 0 ++ drop n xs
+
+-- eight free places
+abbrev pub allIdle : List Transaction
+allIdle = idleOf 0 ∷ idleOf 1 ∷ idleOf 2 ∷ idleOf 3 ∷ idleOf 4 ∷ idleOf 5 ∷ idleOf 6 ∷ idleOf 7 ∷ []
+
+-- a fresh machine
+abbrev pub freshOf : Sizes → ℕ → Machine
+freshOf z clock = record { sizes = z; clock = clock; used = 0; txns = allIdle }
+
+-- a closed machine, which is of no shape: every step of it gets 16
+abbrev pub closedOf : Machine
+closedOf = freshOf (record { rows = 0; versions = 0; buckets = 0 }) 0
+
+-- a refused open leaves the tables as found
+abbrev pub refusedOpen : ℕ → List ℕ → List ℕ → List ℕ → List ℕ → Left
+refusedOpen why rows versions buckets lists = record { answer = tell.Refused why; words = wordsOf rows versions buckets lists [] closedOf }
+
+-- 1 where a size is outside its range or the clock is 0, 16 where a lent table is shorter than its size; else a fresh store
+unfoldable pub openOf : List ℕ → List ℕ → List ℕ → List ℕ → Sizes → ℕ → Left
+openOf rows versions buckets lists z clock =
+    cond (not (canOpen (sizesView z) clock)) (refusedOpen 1 rows versions buckets lists)
+    (cond (not (tablesLent rows versions buckets lists z)) (refusedOpen 16 rows versions buckets lists)
+    (record { answer = tell.Done; words = wordsOf (cleared (rowWords * z .rows) rows) (cleared (versionWords * suc (z .versions)) versions) (cleared (bucketWords * z .buckets) buckets) lists [] (freshOf z clock) }))

@@ -1,0 +1,207 @@
+// Open, and any step of a machine: the shape first, 16 where it is wrong; then the step of the transaction that it names.
+use limits::MOST_LIVE;
+use protocol::Answer;
+use protocol::Step;
+use protocol::WRONG_SHAPE;
+use protocol::WRONG_SIZE;
+use record::Transaction;
+use record::idle;
+use shape::Machine;
+use shape::good_sizes;
+use shape::others_of;
+use shape::right_shape;
+use shape::tables_lent;
+use steps::Sizes;
+use steps::Stepped;
+use steps::place_of;
+use steps::step;
+use steps::wanted;
+use tables::BUCKET_WORDS;
+use tables::ROW_WORDS;
+use tables::VERSION_WORDS;
+ghost use mathlib.Core.Path.{_≡_};
+ghost use mathlib.Core.List.{[]};
+ghost use Prim.Native.Nat.{_<_, _≤_};
+ghost use lib.ListN.{length};
+ghost use Rattle.limits.specs.Limits.{mostLive};
+ghost use Rattle.model.specs.Machine.{canOpen};
+ghost use Rattle.protocol.specs.declared.Answer.the-variants as tell;
+ghost use Rattle.steps.specs.Words.{sizesView};
+ghost use Rattle.shape.specs.Shape.{wordsOf};
+ghost use Rattle.turns.specs.Turns.{left, turnOf, placedOf, cleared, allIdle, freshOf, closedOf, openOf};
+
+// An answer, with the machine that goes back.
+pub struct Turned {
+    pub answer: Answer,
+    pub machine: Machine,
+}
+
+// ---- open
+
+// Eight free places.
+fn all_idle() -> [Transaction; MOST_LIVE]
+    ensures { λ r. ⌜ r ≡ allIdle ⌝ }
+{
+    [
+        idle(0),
+        idle(1),
+        idle(2),
+        idle(3),
+        idle(4),
+        idle(5),
+        idle(6),
+        idle(7),
+    ]
+}
+
+// A machine with no version and no transaction.
+fn fresh(sizes: Sizes, clock: u64) -> Machine
+    ensures { λ r. ⌜ r ≡ freshOf sizes clock ⌝ }
+{
+    let txns = all_idle();
+    Machine {
+        sizes: sizes,
+        clock: clock,
+        used: 0,
+        txns: txns,
+    }
+}
+
+// A refused open: a machine of no shape, so that every step of it gets 16.
+fn refused_open(why: u64) -> Turned
+    ensures { λ r. ⌜ r ≡ record { answer = tell.Refused why; machine = closedOf } ⌝ }
+{
+    let machine = fresh(
+        Sizes {
+            rows: 0,
+            versions: 0,
+            buckets: 0,
+        },
+        0,
+    );
+    Turned {
+        answer: Answer::Refused(why),
+        machine: machine,
+    }
+}
+
+// Whether a store can be opened: sizes within limits, and a clock.
+fn can_open(sizes: Sizes, clock: u64) -> bool
+    ensures { λ r. ⌜ r ≡ canOpen (sizesView sizes) clock ⌝ }
+{
+    if !good_sizes(sizes) {
+        return false;
+    }
+    clock >= 1
+}
+
+// The first n words of a table become 0.
+fn clear(xs: &mut [u64], n: usize)
+    requires { ⌜ n ≤ length (now xs) ⌝ }
+    ensures { λ _. ⌜ now (xs .exit) ≡ cleared n (now (xs .entry)) ⌝ }
+{
+    let mut i = 0;
+    while i < n {
+        xs[i] = 0;
+        i += 1;
+    }
+}
+
+// Open: a fresh store in the lent tables; words past a table's size keep their contents, and so do the lists.
+pub fn open(
+    rows_table: &mut [u64],
+    versions: &mut [u64],
+    buckets: &mut [u64],
+    lists: &[u64],
+    rows: u64,
+    version_count: u64,
+    bucket_count: u64,
+    clock: u64,
+) -> Turned
+    ensures { λ r. ⌜ left r (now («rows_table» .exit)) (now (versions .exit)) (now (buckets .exit)) (now (lists .entry)) []
+        ≡ openOf (now («rows_table» .entry)) (now (versions .entry)) (now (buckets .entry)) (now (lists .entry)) (record { rows = rows; versions = «version_count»; buckets = «bucket_count» }) clock ⌝ }
+{
+    let sizes = Sizes {
+        rows: rows,
+        versions: version_count,
+        buckets: bucket_count,
+    };
+    if !can_open(sizes, clock) {
+        return refused_open(WRONG_SIZE);
+    }
+    if !tables_lent(rows_table, versions, buckets, lists, sizes) {
+        return refused_open(WRONG_SHAPE);
+    }
+    clear(rows_table, ROW_WORDS * (rows as usize));
+    clear(versions, VERSION_WORDS * (version_count as usize + 1));
+    clear(buckets, BUCKET_WORDS * (bucket_count as usize));
+    let machine = fresh(sizes, clock);
+    Turned {
+        answer: Answer::Done,
+        machine: machine,
+    }
+}
+
+// ---- steps
+
+// The record goes back to its place, and clock and last used pointer are taken over.
+fn placed(m: Machine, p: usize, done: Stepped) -> Turned
+    requires { ⌜ p < mostLive ⌝ }
+    ensures { λ r. ⌜ r ≡ placedOf m p done ⌝ }
+{
+    let sizes = m.sizes;
+    let answer = done.answer;
+    let txn = done.txn;
+    let mut txns = m.txns;
+    txns[p] = txn;
+    Turned {
+        answer: answer,
+        machine: Machine {
+            sizes: sizes,
+            clock: done.clock,
+            used: done.used,
+            txns: txns,
+        },
+    }
+}
+
+// Any step: the shape first, then the step of the transaction that it names.
+pub fn turn(
+    rows_table: &mut [u64],
+    versions: &mut [u64],
+    buckets: &mut [u64],
+    lists: &mut [u64],
+    found: &mut [u64],
+    m: Machine,
+    s: Step,
+) -> Turned
+    ensures { λ r. ⌜ left r (now («rows_table» .exit)) (now (versions .exit)) (now (buckets .exit)) (now (lists .exit)) (now (found .exit))
+        ≡ turnOf (wordsOf (now («rows_table» .entry)) (now (versions .entry)) (now (buckets .entry)) (now (lists .entry)) (now (found .entry)) m) s ⌝ }
+{
+    if !right_shape(rows_table, versions, buckets, lists, m) {
+        return Turned {
+            answer: Answer::Refused(WRONG_SHAPE),
+            machine: m,
+        };
+    }
+    let sizes = m.sizes;
+    let txns = m.txns;
+    let others = others_of(txns);
+    let numbers = others.numbers;
+    let p = place_of(numbers, wanted(s));
+    let t = txns[p];
+    let done = step(
+        rows_table,
+        versions,
+        buckets,
+        lists,
+        found,
+        sizes,
+        others,
+        t,
+        m.clock,
+        m.used,
+        s,
+    );
+    placed(m, p, done)
+}
