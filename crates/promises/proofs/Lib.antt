@@ -1,0 +1,3 @@
+pub mod Opened
+pub mod Calls
+pub mod Demands
