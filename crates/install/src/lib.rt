@@ -1,6 +1,7 @@
 // Install: for each distinct pending row, ascending, one new version from its last write.
 use buckets::Canonical;
 use buckets::canonical_buckets_sort;
+use limits::LAST_NUMBER;
 use limits::MOST_BUCKETS;
 use limits::MOST_WRITES;
 use protocol::Answer;
@@ -26,9 +27,6 @@ ghost use Prim.Native.Nat.{_≤_};
 ghost use lib.ListN.{length, take};
 ghost use Rattle.holders.specs.Needs.{pushAll, rowsWritten};
 ghost use Rattle.install.specs.Install.{sortedCount, pendingInto, lastWriteOf, oneMore, versionStored, pushedRow, pushedRows, installOf};
-
-// L: 2^64 − 1, the very last number.
-const LAST_NUMBER: u64 = 18446744073709551615;
 
 // Words for the rows of all pending writes of a transaction.
 pub const MOST_PENDING: usize = MOST_WRITES as usize;

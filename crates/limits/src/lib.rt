@@ -18,3 +18,6 @@ pub const MOST_INDEX_READS: u32 = 16;
 pub const MOST_WRITES: u32 = 16;
 
 pub const MOST_RECORDS: u32 = 64;
+
+// L, the very last number: 2^64 − 1.
+pub const LAST_NUMBER: u64 = 18446744073709551615;

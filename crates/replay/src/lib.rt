@@ -6,12 +6,12 @@ use limits::MOST_VERSIONS;
 use lines::Wrote;
 use log::Command;
 use log::read_at;
+use opening::can_open;
+use opening::free_places;
 use protocol::MALFORMED;
 use protocol::NO_ROOM;
 use protocol::Step;
 use protocol::WRONG_SIZE;
-use record::Transaction;
-use record::idle;
 use report::answer_line;
 use report::bad_line;
 use report::open_line;
@@ -30,10 +30,9 @@ ghost use mathlib.Core.Path.{_≡_};
 ghost use Prim.Native.Nat.{_≤_, min};
 ghost use mathlib.Core.Bool.{true};
 ghost use lib.ListN.{length};
-ghost use Rattle.model.specs.Shape.{within};
 ghost use Rattle.model.specs.Machine.{canOpen};
 ghost use Rattle.model.specs.Replay.{replay, packed, reported, mostRoom};
-ghost use Rattle.steps.specs.Words.{sizesView, freePlaces};
+ghost use Rattle.steps.specs.Words.{sizesView};
 ghost use Rattle.replay.specs.Replay.{isOpen, isAsk, sizesOf, clockOf, stepOf, stopAfter, malformedAt, unopenedAt, Leaves, Zeroed, openedFrom};
 
 // The status stands above this, the bytes written below it.
@@ -136,32 +135,6 @@ fn step_of(command: Command) -> Step
     }
 }
 
-// Whether a size is in its range.
-fn in_range(n: u64, most: usize) -> bool
-    ensures { λ r. ⌜ r ≡ within n most ⌝ }
-{
-    if n < 1 {
-        return false;
-    }
-    n <= most as u64
-}
-
-// Whether an open is not refused.
-fn can_open(sizes: Sizes, clock: u64) -> bool
-    ensures { λ r. ⌜ r ≡ canOpen (sizesView sizes) clock ⌝ }
-{
-    if !in_range(sizes.rows, MOST_ROWS) {
-        return false;
-    }
-    if !in_range(sizes.versions, MOST_VERSIONS) {
-        return false;
-    }
-    if !in_range(sizes.buckets, MOST_BUCKETS) {
-        return false;
-    }
-    clock >= 1
-}
-
 // How a replay stops after a last line: with this status, or with 10 where the line did not fit.
 fn stop_after(line: Wrote, status: u64, at: usize) -> Stopped
     ensures { λ r. ⌜ r ≡ stopAfter line status at ⌝ }
@@ -192,21 +165,6 @@ fn stop_unopened(report: &mut [u8]) -> Stopped
 {
     let line = open_line(report, 0, WRONG_SIZE);
     stop_after(line, WRONG_SIZE, 0)
-}
-
-// Eight free places.
-fn free_places() -> [Transaction; MOST_LIVE]
-    ensures { λ r. ⌜ r ≡ freePlaces ⌝ }
-{
-    let t0 = idle(0);
-    let t1 = idle(1);
-    let t2 = idle(2);
-    let t3 = idle(3);
-    let t4 = idle(4);
-    let t5 = idle(5);
-    let t6 = idle(6);
-    let t7 = idle(7);
-    [t0, t1, t2, t3, t4, t5, t6, t7]
 }
 
 // The records after the open, from `start` on, each with its line; the report has `opened` bytes already.

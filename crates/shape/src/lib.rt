@@ -1,12 +1,13 @@
 // The shape that public steps test first: the model's test, and that the lent tables and the records' slots fit.
+use limits::LAST_NUMBER;
 use limits::MOST_ACTIVE;
-use limits::MOST_BUCKETS;
 use limits::MOST_INDEX_READS;
 use limits::MOST_LIVE;
 use limits::MOST_RECORDS;
 use limits::MOST_ROWS;
-use limits::MOST_VERSIONS;
 use limits::MOST_WRITES;
+use opening::good_sizes;
+use opening::within;
 use prepare::reserved;
 use record::Transaction;
 use record::bucket_in;
@@ -36,7 +37,6 @@ ghost use lib.Dec.{ltb, leb};
 ghost use lib.ListN.{take};
 ghost use Rattle.limits.specs.Limits.{mostLive};
 ghost use Rattle.model.specs.Lists.{least};
-ghost use Rattle.model.specs.Shape as model;
 ghost use Rattle.steps.specs.Words.{sizesView, othersIn};
 ghost use Rattle.shape.specs.Shape.{tablesLent, inPlace, allInPlace, shapeOf, wordsOf};
 ghost use Rattle.shape.specs.Tests.{headsIn, nextsFall, chainsFit, countsFit, writesIn, recordIn, recordsIn, candidatesIn, readsIn, rangesFit, headedBy, rowsHeaded, headsFit, txnFits, placeFits, txnsFit, unlike, distinctAt, allDistinct};
@@ -47,29 +47,6 @@ pub struct Machine {
     pub clock: u64,
     pub used: u64,
     pub txns: [Transaction; MOST_LIVE],
-}
-
-// Whether a number is from 1 to the most.
-fn within(n: u64, most: u64) -> bool
-    ensures { λ r. ⌜ r ≡ model.within n most ⌝ }
-{
-    if n < 1 {
-        return false;
-    }
-    n <= most
-}
-
-// Whether sizes are within limits.
-pub fn good_sizes(sizes: Sizes) -> bool
-    ensures { λ r. ⌜ r ≡ model.goodSizes (sizesView sizes) ⌝ }
-{
-    if !within(sizes.rows, MOST_ROWS as u64) {
-        return false;
-    }
-    if !within(sizes.versions, MOST_VERSIONS as u64) {
-        return false;
-    }
-    within(sizes.buckets, MOST_BUCKETS as u64)
 }
 
 // Whether each lent table has the words that its size names; divided, so that no size wraps.
@@ -506,7 +483,7 @@ pub fn right_shape(
     if !distinct_numbers(numbers) {
         return false;
     }
-    if !sum_within(m.clock, live_count(numbers), 18446744073709551615) {
+    if !sum_within(m.clock, live_count(numbers), LAST_NUMBER) {
         return false;
     }
     sum_within(m.used, reserved(lists, prepared), sizes.versions)

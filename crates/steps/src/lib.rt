@@ -20,6 +20,7 @@ use record::Transaction;
 use record::phase_rank;
 ghost use mathlib.Core.Path.{_≡_};
 ghost use Prim.Native.Nat.{_<_};
+ghost use Rattle.limits.specs.Limits.{lastNumber};
 ghost use Rattle.steps.specs.Steps.{wantedOf, placeIn, activeNumber, preparedCount, oneLive, liveIn, withClock, withBegun, withInstalled, clockAfter, publishStep, isBegin, missesOf, stepOf};
 
 // The sizes that a store was opened with.
@@ -121,7 +122,7 @@ pub fn live_count(numbers: [u64; MOST_LIVE]) -> u64
 
 // One place more.
 fn count_live(n: u64, number: u64) -> u64
-    requires { ⌜ n < 18446744073709551615 ⌝ }
+    requires { ⌜ n < lastNumber ⌝ }
     ensures { λ r. ⌜ r ≡ oneLive n number ⌝ }
 {
     if number == 0 {

@@ -1,18 +1,16 @@
 -- The public steps and open: what is answered, the machine that goes back, and all the lent words.
 use Prim.Native.Nat.{ℕ, suc, _*_}
 use mathlib.Core.Bool.{cond, not}
-use mathlib.Core.List.{List, [], _∷_, _++_}
+use mathlib.Core.List.{List, [], _++_}
 use lib.ListN.{drop, set, replicate}
 use Rattle.model.specs.Machine.{canOpen}
 use Rattle.protocol.specs.declared.Step.{Step}
 use Rattle.protocol.specs.declared.Answer.{Answer}
 use Rattle.protocol.specs.declared.Answer.the-variants as tell
 use Rattle.tables.specs.Fields.{rowWords, versionWords, bucketWords}
-use Rattle.record.specs.Methods.{idleOf}
-use Rattle.record.specs.declared.Transaction.{Transaction}
 use Rattle.steps.specs.declared.Sizes.{Sizes}
 use Rattle.steps.specs.declared.Stepped.{Stepped}
-use Rattle.steps.specs.Words.{Words, sizesView, movedBy, wordsAfter}
+use Rattle.steps.specs.Words.{Words, sizesView, freePlaces, movedBy, wordsAfter}
 use Rattle.shape.specs.Shape.{tablesLent, shapeOf, wordsOf}
 use Rattle.shape.specs.declared.Machine.{Machine}
 use Rattle.turns.specs.declared.Turned.{Turned}
@@ -38,13 +36,9 @@ placedOf m p st = record { answer = st .answer; machine = record { sizes = m .si
 unfoldable pub cleared : ℕ → List ℕ → List ℕ
 cleared n xs = replicate n 0 ++ drop n xs
 
--- eight free places
-abbrev pub allIdle : List Transaction
-allIdle = idleOf 0 ∷ idleOf 1 ∷ idleOf 2 ∷ idleOf 3 ∷ idleOf 4 ∷ idleOf 5 ∷ idleOf 6 ∷ idleOf 7 ∷ []
-
 -- a fresh machine
 abbrev pub freshOf : Sizes → ℕ → Machine
-freshOf z clock = record { sizes = z; clock = clock; used = 0; txns = allIdle }
+freshOf z clock = record { sizes = z; clock = clock; used = 0; txns = freePlaces }
 
 -- a closed machine, which is of no shape: every step of it gets 16
 abbrev pub closedOf : Machine

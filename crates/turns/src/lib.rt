@@ -1,13 +1,11 @@
 // Open, and any step of a machine: the shape first, 16 where it is wrong; then the step of the transaction that it names.
-use limits::MOST_LIVE;
+use opening::can_open;
+use opening::free_places;
 use protocol::Answer;
 use protocol::Step;
 use protocol::WRONG_SHAPE;
 use protocol::WRONG_SIZE;
-use record::Transaction;
-use record::idle;
 use shape::Machine;
-use shape::good_sizes;
 use shape::others_of;
 use shape::right_shape;
 use shape::tables_lent;
@@ -24,11 +22,9 @@ ghost use mathlib.Core.List.{[]};
 ghost use Prim.Native.Nat.{_<_, _≤_};
 ghost use lib.ListN.{length};
 ghost use Rattle.limits.specs.Limits.{mostLive};
-ghost use Rattle.model.specs.Machine.{canOpen};
 ghost use Rattle.protocol.specs.declared.Answer.the-variants as tell;
-ghost use Rattle.steps.specs.Words.{sizesView};
 ghost use Rattle.shape.specs.Shape.{wordsOf};
-ghost use Rattle.turns.specs.Turns.{left, turnOf, placedOf, cleared, allIdle, freshOf, closedOf, openOf};
+ghost use Rattle.turns.specs.Turns.{left, turnOf, placedOf, cleared, freshOf, closedOf, openOf};
 
 // An answer, with the machine that goes back.
 pub struct Turned {
@@ -38,27 +34,11 @@ pub struct Turned {
 
 // ---- open
 
-// Eight free places.
-fn all_idle() -> [Transaction; MOST_LIVE]
-    ensures { λ r. ⌜ r ≡ allIdle ⌝ }
-{
-    [
-        idle(0),
-        idle(1),
-        idle(2),
-        idle(3),
-        idle(4),
-        idle(5),
-        idle(6),
-        idle(7),
-    ]
-}
-
 // A machine with no version and no transaction.
 fn fresh(sizes: Sizes, clock: u64) -> Machine
     ensures { λ r. ⌜ r ≡ freshOf sizes clock ⌝ }
 {
-    let txns = all_idle();
+    let txns = free_places();
     Machine {
         sizes: sizes,
         clock: clock,
@@ -83,16 +63,6 @@ fn refused_open(why: u64) -> Turned
         answer: Answer::Refused(why),
         machine: machine,
     }
-}
-
-// Whether a store can be opened: sizes within limits, and a clock.
-fn can_open(sizes: Sizes, clock: u64) -> bool
-    ensures { λ r. ⌜ r ≡ canOpen (sizesView sizes) clock ⌝ }
-{
-    if !good_sizes(sizes) {
-        return false;
-    }
-    clock >= 1
 }
 
 // The first n words of a table become 0.

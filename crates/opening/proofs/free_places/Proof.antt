@@ -1,8 +1,8 @@
--- `turns::all_idle` meets its contract.
+-- `opening::free_places` meets its contract.
 -- Assumes nothing.
 use borrow.Author.Needs.{needs}
-use Rattle.turns.proofs.all_idle.Statement.{statement}
-use Rattle.turns.proofs.all_idle.Tie as tie
+use Rattle.opening.proofs.free_places.Statement.{statement}
+use Rattle.opening.proofs.free_places.Tie as tie
 
 idle-requires : tie.Need-idle-requires
 idle-requires c κs = search needs
@@ -31,8 +31,8 @@ idle-requires-8 c κs = search needs
 returns : tie.Need-returns
 returns c = rw (c .before .before .before .before .before .before .before .idle .ensures, c .before .before .before .before .before .before .idle2 .ensures, c .before .before .before .before .before .idle3 .ensures, c .before .before .before .before .idle4 .ensures, c .before .before .before .idle5 .ensures, c .before .before .idle6 .ensures, c .before .idle7 .ensures, c .idle8 .ensures)
 
-pub all-idle-spec : {M : Type 1} → statement M
-all-idle-spec =
+pub free-places-spec : {M : Type 1} → statement M
+free-places-spec =
     tie.close
     (tie.spec
     idle-requires

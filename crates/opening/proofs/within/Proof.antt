@@ -1,8 +1,8 @@
--- `shape::within` meets its contract.
+-- `opening::within` meets its contract.
 -- Assumes nothing.
 use borrow.Author.Tests.{le-leb, lt-leb}
-use Rattle.shape.proofs.within.Statement.{statement}
-use Rattle.shape.proofs.within.Tie as tie
+use Rattle.opening.proofs.within.Statement.{statement}
+use Rattle.opening.proofs.within.Tie as tie
 
 returns : tie.Need-returns
 returns c = rw (lt-leb _ _ (c .if1 .taken))

@@ -1,10 +1,10 @@
--- `shape::good_sizes` meets its contract.
+-- `opening::good_sizes` meets its contract.
 -- Assumes nothing.
 use borrow.Author.Tests.{not-true, not-false}
 use Rattle.model.specs.Shape.{goodSizes}
 use borrow.Author.Needs.{needs}
-use Rattle.shape.proofs.good_sizes.Statement.{statement}
-use Rattle.shape.proofs.good_sizes.Tie as tie
+use Rattle.opening.proofs.good_sizes.Statement.{statement}
+use Rattle.opening.proofs.good_sizes.Tie as tie
 
 within-requires : tie.Need-within-requires
 within-requires c κs = search needs

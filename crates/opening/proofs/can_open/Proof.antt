@@ -1,10 +1,10 @@
--- `turns::can_open` meets its contract.
+-- `opening::can_open` meets its contract.
 -- Assumes nothing.
 use borrow.Author.Tests.{not-true, not-false}
 use Rattle.model.specs.Machine.{canOpen}
 use borrow.Author.Needs.{needs}
-use Rattle.turns.proofs.can_open.Statement.{statement}
-use Rattle.turns.proofs.can_open.Tie as tie
+use Rattle.opening.proofs.can_open.Statement.{statement}
+use Rattle.opening.proofs.can_open.Tie as tie
 
 good-sizes-requires : tie.Need-good-sizes-requires
 good-sizes-requires c κs = search needs
