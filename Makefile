@@ -5,7 +5,7 @@ LOGIC := $(lastword $(KIT))
 .PHONY: help kit demo test
 
 help:
-	@echo 'make demo    prove and build the program edges, and run it: the edges of document 01 on the leaf functions'
+	@echo 'make demo    prove, build and run the program replay_log on the worked example of document 01, and show its report'
 	@echo 'make test    prove every crate, try the must-fail edits, run the programs'
 	@echo 'make help    this list'
 
@@ -16,8 +16,8 @@ kit:
 
 # rt runs the program itself, under an emulator where the machine is not x86-64
 demo: kit
-	@rt check edges
-	@cat target/log/edges.stdout
+	@rt check replay_log
+	@cat target/log/replay_log.stdout
 
 test: kit
 	@rt ci
