@@ -1,0 +1,12 @@
+//! Document 01 once more, in plain Rust with vectors and maps.
+//!
+//! It was written from the document alone and shares no code with the proved engine or with its host wrapper,
+//! so that where the two agree, two readings of the document agree.
+
+mod records;
+mod replay;
+mod store;
+
+pub use records::{read_record, Step};
+pub use replay::replay;
+pub use store::{Answer, Phase, Refusal, Store, Values, Verdict};
