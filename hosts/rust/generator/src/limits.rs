@@ -1,0 +1,259 @@
+//! Logs that walk up to a limit of document 01 and past it, or whose reads others overtake.
+
+use twin::Step;
+
+use crate::random::Random;
+use crate::traffic::Traffic;
+use crate::writer::Writer;
+
+/// One case, chosen at random, and then some traffic.
+pub fn at_a_limit(steps: u64, random: &mut Random) -> Vec<u8> {
+    let limit = random.one_of::<fn(&mut Random) -> Writer>(&[
+        live,
+        index_reads,
+        read_records,
+        pending_writes,
+        versions,
+        clock,
+        room,
+        rows_out_of_range,
+        old_snapshot,
+        overtaken,
+        sizes,
+    ]);
+    let mut writer = limit(random);
+    let traffic = Traffic { rows: random.from_to(1, 8), keys: random.from_to(1, 8), live: random.from_to(1, 8) };
+    let tail = random.below(steps / 2 + 1);
+    traffic.go(&mut writer, tail, random);
+    writer.bytes
+}
+
+/// Ordinary sizes, so that only the limit in question is met.
+fn ample(random: &mut Random) -> Writer {
+    let buckets = random.from_to(24, 64) as u32;
+    Writer::open(256, 1024, buckets, random.from_to(1, 9))
+}
+
+/// Eight live transactions, in whatever phase, and more begins.
+fn live(random: &mut Random) -> Writer {
+    let mut writer = ample(random);
+    for round in 0..random.from_to(7, 12) {
+        if let Some(number) = writer.begin() {
+            if random.percent(40) {
+                let _ = writer.step(Step::Put { number, row: round as u32, key: round, payload: 0 });
+            }
+            if random.percent(40) {
+                let ended = [Step::Prepare { number }, Step::Install { number }, Step::End { number }];
+                for step in ended.into_iter().take(random.from_to(1, 3) as usize) {
+                    let _ = writer.step(step);
+                }
+            }
+        }
+    }
+    writer
+}
+
+/// Sixteen buckets read, the seventeenth, and one of the sixteen again.
+fn index_reads(random: &mut Random) -> Writer {
+    let mut writer = ample(random);
+    let Some(number) = writer.begin() else { return writer };
+    if random.percent(30) {
+        writer.put_and_publish(0, 16, 0);
+    }
+    for key in 0..random.from_to(15, 18) {
+        writer.read(number, key, 256);
+    }
+    if random.percent(50) {
+        if let Some(other) = writer.begin() {
+            let _ = writer.step(Step::Capture { number: other, key: random.from_to(14, 18) });
+        }
+    }
+    writer.read(number, random.from_to(14, 18), 256);
+    writer.read(number, random.below(16), 256);
+    let _ = writer.step(Step::Validate { number });
+    writer
+}
+
+/// About 64 versions of one to three keys, read with some of the rows pending.
+fn read_records(random: &mut Random) -> Writer {
+    let mut writer = ample(random);
+    let keys = random.from_to(1, 3);
+    let mut row = 0;
+    while row < random.from_to(60, 70) {
+        let Some(number) = writer.begin() else { break };
+        for _ in 0..16 {
+            let _ = writer.step(Step::Put { number, row: row as u32, key: row % keys, payload: row });
+            row += 1;
+        }
+        writer.commit(number);
+    }
+    let Some(number) = writer.begin() else { return writer };
+    for _ in 0..random.below(17) {
+        let pending = random.below(row) as u32;
+        let _ = writer.step(match random.percent(50) {
+            true => Step::Put { number, row: pending, key: random.below(keys), payload: 0 },
+            false => Step::Erase { number, row: pending },
+        });
+    }
+    for key in (0..keys).chain(0..keys) {
+        writer.read(number, key, random.one_of(&[256, 256, 64, 63]));
+    }
+    let _ = writer.step(Step::Validate { number });
+    writer.commit(number);
+    writer
+}
+
+/// Sixteen pending writes and more.
+fn pending_writes(random: &mut Random) -> Writer {
+    let mut writer = ample(random);
+    let Some(number) = writer.begin() else { return writer };
+    let rows = random.from_to(1, 20);
+    for _ in 0..random.from_to(15, 19) {
+        let row = random.below(rows) as u32;
+        let _ = writer.step(match random.percent(70) {
+            true => Step::Put { number, row, key: random.below(9), payload: 1 },
+            false => Step::Erase { number, row },
+        });
+    }
+    writer.read(number, random.below(9), 256);
+    writer.commit(number);
+    writer
+}
+
+/// A few versions in all, shared by writers that reserve them at the same time.
+fn versions(random: &mut Random) -> Writer {
+    let limit = random.from_to(1, 12);
+    let mut writer = Writer::open(16, limit as u32, 64, 1);
+    for _ in 0..limit + 2 {
+        let Some(number) = writer.begin() else { break };
+        let first = random.below(12) as u32;
+        for row in first..first + random.from_to(1, 3) as u32 {
+            let _ = writer.step(Step::Put { number, row, key: u64::from(row), payload: 0 });
+        }
+        if random.percent(50) {
+            writer.commit(number);
+        } else {
+            let _ = writer.step(Step::Prepare { number });
+        }
+    }
+    writer
+}
+
+/// A clock whose numbers run out.
+fn clock(random: &mut Random) -> Writer {
+    let mut writer = Writer::open(4, 64, 4, u64::MAX - random.below(14));
+    for round in 0..random.from_to(4, 16) {
+        match writer.begin() {
+            Some(number) if random.percent(60) => {
+                let _ = writer.step(Step::Put { number, row: round as u32 % 4, key: round, payload: 0 });
+                writer.commit(number);
+            }
+            Some(number) if random.percent(50) => {
+                let _ = writer.step(Step::Abort { number });
+            }
+            _ => {}
+        }
+    }
+    writer
+}
+
+/// Rooms round the number of matches, up to all 256 rows.
+fn room(random: &mut Random) -> Writer {
+    let mut writer = ample(random);
+    let matches = random.one_of(&[0, 1, 2, 3, 15, 16, 17, 48]);
+    let mut row = 0;
+    while row < matches {
+        let Some(number) = writer.begin() else { break };
+        for _ in 0..16.min(matches - row) {
+            let _ = writer.step(Step::Put { number, row: row as u32, key: 5, payload: row });
+            row += 1;
+        }
+        writer.commit(number);
+    }
+    let Some(number) = writer.begin() else { return writer };
+    for _ in 0..3 {
+        let _ = writer.step(Step::Capture { number, key: 5 });
+        let _ = writer.step(Step::Collect { number });
+        for room in [0, 1, matches.saturating_sub(1), matches, 256, 257, u64::from(u32::MAX)] {
+            if random.percent(40) {
+                let _ = writer.step(Step::Rows { number, room: room as u32 });
+            }
+        }
+    }
+    writer
+}
+
+/// Rows at the count and past it.
+fn rows_out_of_range(random: &mut Random) -> Writer {
+    let rows = random.one_of(&[1, 2, 255, 256]);
+    let mut writer = Writer::open(rows, 64, 8, 1);
+    let Some(number) = writer.begin() else { return writer };
+    for row in [0, rows - 1, rows, rows + 1, u32::MAX, rows - 1] {
+        let _ = writer.step(Step::Put { number, row, key: 1, payload: 0 });
+        let _ = writer.step(Step::Erase { number, row: row ^ random.below(2) as u32 });
+    }
+    writer.read(number, 1, 256);
+    writer.commit(number);
+    writer
+}
+
+/// Rows rewritten under a snapshot that keeps reading the old versions.
+fn old_snapshot(random: &mut Random) -> Writer {
+    let mut writer = ample(random);
+    let keys = random.from_to(1, 2);
+    for row in 0..3 {
+        writer.put_and_publish(row, u64::from(row) % keys, 0);
+    }
+    let Some(old) = writer.begin() else { return writer };
+    if random.percent(50) {
+        writer.read(old, 0, 256);
+    }
+    for round in 0..random.from_to(1, 24) {
+        let row = random.below(3);
+        // the same key again leaves the stamps, another makes the old snapshot stale
+        let key = if random.percent(95) { row % keys } else { random.below(keys) };
+        writer.put_and_publish(row as u32, key, round);
+    }
+    for key in 0..keys {
+        writer.read(old, key, 256);
+    }
+    let _ = writer.step(Step::Validate { number: old });
+    if random.percent(30) {
+        let _ = writer.step(Step::Put { number: old, row: 0, key: 0, payload: 7 });
+    }
+    writer.commit(old);
+    writer
+}
+
+/// A reader whose buckets and rows others change before it validates.
+fn overtaken(random: &mut Random) -> Writer {
+    let mut writer = ample(random);
+    for row in 0..4 {
+        writer.put_and_publish(row, u64::from(row), 0);
+    }
+    let Some(reader) = writer.begin() else { return writer };
+    for _ in 0..random.from_to(1, 4) {
+        writer.read(reader, random.below(4), 256);
+    }
+    for _ in 0..random.from_to(1, 3) {
+        let row = random.below(4);
+        let key = if random.percent(50) { row } else { random.below(4) };
+        writer.put_and_publish(row as u32, key, 1);
+        let _ = writer.step(Step::Validate { number: reader });
+    }
+    if random.percent(30) {
+        writer.read(reader, random.below(4), 256);
+    }
+    let _ = writer.step(Step::Validate { number: reader });
+    writer.commit(reader);
+    writer
+}
+
+/// An open at the edges of its sizes.
+fn sizes(random: &mut Random) -> Writer {
+    let rows = random.one_of(&[1, 256, 1, 256, 0, 257, u32::MAX]);
+    let versions = random.one_of(&[1, 1024, 1, 1024, 0, 1025, u32::MAX]);
+    let buckets = random.one_of(&[1, 4096, 1, 4096, 0, 4097, u32::MAX]);
+    let clock = random.one_of(&[1, 1, 1, 2, 0, u64::MAX]);
+    Writer::open(rows, versions, buckets, clock)
+}
