@@ -84,7 +84,11 @@ impl<'a> Line<'a> {
 /// A number as reports write it: no sign, no leading zero.
 fn decimal(text: &str) -> Option<u64> {
     let plain = text.bytes().all(|byte| byte.is_ascii_digit()) && (text == "0" || !text.starts_with('0'));
-    if plain { text.parse().ok() } else { None }
+    if plain {
+        text.parse().ok()
+    } else {
+        None
+    }
 }
 
 /// The fixed word that a line begins with.

@@ -189,7 +189,11 @@ impl Store {
     /// The transaction of this number in a phase that the step is for, or refusal 4 or 5.
     fn transaction(&self, number: u64, fits: fn(Phase) -> bool) -> Result<&Transaction, Refusal> {
         let transaction = self.transactions.get(&number).ok_or(4u32)?;
-        if fits(transaction.phase) { Ok(transaction) } else { Err(5) }
+        if fits(transaction.phase) {
+            Ok(transaction)
+        } else {
+            Err(5)
+        }
     }
 
     fn change(&mut self, number: u64) -> &mut Transaction {

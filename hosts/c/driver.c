@@ -1,0 +1,222 @@
+/* Replays logs from standard input and says what each call did to the memory round it.
+ *
+ * It stands between the archive, which is for x86-64, and tests that may run on another machine. All numbers are 8 bytes,
+ * little-endian. A request: how many calls (1 to 8, made at the same time, a thread each) and, for each, the length of its log and
+ * its room; then the logs. An answer for each call: the function's answer, a sum of faults, the bytes of stack used; then the report.
+ *
+ * Each call runs in a thread with 512 KiB of stack. Log and report end at a page that cannot be touched and have marked bytes
+ * before them; the log cannot be written.
+ */
+#define _GNU_SOURCE
+#include <pthread.h>
+#include <stdio.h>
+#include <stdlib.h>
+#include <string.h>
+#include <sys/mman.h>
+#include <unistd.h>
+
+#include "toruxeng.h"
+
+enum { CALLS = 8, STACK = 512 * 1024, MARKED = 64, MARK = 0xA5 };
+enum { LARGEST = 256 << 20 };
+
+enum fault { AROUND_REPORT = 1, AFTER_LAST_LINE = 2, LOG_CHANGED = 4 };
+
+/* Bytes that end at a page that cannot be touched. */
+struct buffer {
+    uint8_t *pages;
+    size_t size;
+    uint8_t *bytes;
+    size_t length;
+};
+
+struct call {
+    struct buffer log;
+    struct buffer report;
+    uint8_t *log_copy;
+    uint8_t *stack;
+    pthread_t thread;
+    uint64_t answer;
+};
+
+static size_t page;
+static pthread_barrier_t together;
+
+static void fail(const char *what)
+{
+    fprintf(stderr, "driver: %s\n", what);
+    exit(EXIT_FAILURE);
+}
+
+static void *map(size_t size)
+{
+    void *start = mmap(NULL, size, PROT_READ | PROT_WRITE, MAP_PRIVATE | MAP_ANONYMOUS | MAP_NORESERVE, -1, 0);
+    if (start == MAP_FAILED) {
+        fail("no memory");
+    }
+    return start;
+}
+
+/* False where the input ends before the first byte. */
+static int read_all(void *to, size_t length)
+{
+    size_t done = 0;
+    while (done < length) {
+        ssize_t got = read(STDIN_FILENO, (uint8_t *)to + done, length - done);
+        if (got <= 0) {
+            if (got == 0 && done == 0) {
+                return 0;
+            }
+            fail("the request is cut");
+        }
+        done += (size_t)got;
+    }
+    return 1;
+}
+
+static void write_all(const void *from, size_t length)
+{
+    size_t done = 0;
+    while (done < length) {
+        ssize_t put = write(STDOUT_FILENO, (const uint8_t *)from + done, length - done);
+        if (put <= 0) {
+            fail("the answer cannot be written");
+        }
+        done += (size_t)put;
+    }
+}
+
+static uint64_t read_number(void)
+{
+    uint64_t number;
+    if (!read_all(&number, sizeof number)) {
+        fail("the request is cut");
+    }
+    return number;
+}
+
+/* Makes room for `length` bytes, marks them and the bytes before them. */
+static void prepare_buffer(struct buffer *buffer, uint64_t length)
+{
+    if (length > LARGEST) {
+        fail("a log or a report is too large");
+    }
+    size_t needed = ((size_t)length + MARKED + page - 1) / page * page;
+    if (needed > buffer->size) {
+        if (buffer->pages != NULL) {
+            munmap(buffer->pages, buffer->size + page);
+        }
+        buffer->pages = map(needed + page);
+        buffer->size = needed;
+        if (mprotect(buffer->pages + needed, page, PROT_NONE) != 0) {
+            fail("no page to guard a buffer");
+        }
+    }
+    buffer->length = (size_t)length;
+    buffer->bytes = buffer->pages + buffer->size - buffer->length;
+    memset(buffer->bytes - MARKED, MARK, buffer->length + MARKED);
+}
+
+static int all_marked(const uint8_t *bytes, size_t length)
+{
+    for (size_t i = 0; i < length; i++) {
+        if (bytes[i] != MARK) {
+            return 0;
+        }
+    }
+    return 1;
+}
+
+static void *replay(void *argument)
+{
+    struct call *call = argument;
+    pthread_barrier_wait(&together);
+    call->answer = toruxeng_replay(call->log.bytes, call->log.length, call->report.bytes, call->report.length);
+    return NULL;
+}
+
+static void start(struct call *call)
+{
+    pthread_attr_t attributes;
+    call->stack = map(STACK + page);
+    if (mprotect(call->stack, page, PROT_NONE) != 0 || mprotect(call->log.pages, call->log.size, PROT_READ) != 0
+        || pthread_attr_init(&attributes) != 0 || pthread_attr_setstack(&attributes, call->stack + page, STACK) != 0
+        || pthread_create(&call->thread, &attributes, replay, call) != 0) {
+        fail("a thread cannot be started");
+    }
+    pthread_attr_destroy(&attributes);
+}
+
+/* The stack came filled with zeros, so all below the lowest other byte was not used. */
+static uint64_t stack_used(const struct call *call)
+{
+    size_t untouched = 0;
+    while (untouched < STACK && call->stack[page + untouched] == 0) {
+        untouched++;
+    }
+    return STACK - untouched;
+}
+
+static uint64_t faults(const struct call *call)
+{
+    const struct buffer *log = &call->log;
+    const struct buffer *report = &call->report;
+    size_t written = toruxeng_written(call->answer);
+    uint64_t found = 0;
+    if (!all_marked(report->bytes - MARKED, MARKED)) {
+        found |= AROUND_REPORT;
+    }
+    if (written > report->length || !all_marked(report->bytes + written, report->length - written)) {
+        found |= AFTER_LAST_LINE;
+    }
+    if (!all_marked(log->bytes - MARKED, MARKED) || memcmp(log->bytes, call->log_copy, log->length) != 0) {
+        found |= LOG_CHANGED;
+    }
+    return found;
+}
+
+static void finish(struct call *call)
+{
+    if (pthread_join(call->thread, NULL) != 0 || mprotect(call->log.pages, call->log.size, PROT_READ | PROT_WRITE) != 0) {
+        fail("a thread cannot be joined");
+    }
+    uint64_t head[3] = { call->answer, faults(call), stack_used(call) };
+    write_all(head, sizeof head);
+    size_t written = toruxeng_written(call->answer);
+    write_all(call->report.bytes, written < call->report.length ? written : call->report.length);
+    munmap(call->stack, STACK + page);
+    free(call->log_copy);
+}
+
+int main(void)
+{
+    static struct call calls[CALLS];
+    uint64_t count;
+    page = (size_t)sysconf(_SC_PAGESIZE);
+    while (read_all(&count, sizeof count)) {
+        if (count < 1 || count > CALLS) {
+            fail("a request has 1 to 8 calls");
+        }
+        for (uint64_t i = 0; i < count; i++) {
+            prepare_buffer(&calls[i].log, read_number());
+            prepare_buffer(&calls[i].report, read_number());
+        }
+        for (uint64_t i = 0; i < count; i++) {
+            struct buffer *log = &calls[i].log;
+            calls[i].log_copy = malloc(log->length + 1);
+            if (calls[i].log_copy == NULL || (log->length > 0 && !read_all(log->bytes, log->length))) {
+                fail("the request is cut");
+            }
+            memcpy(calls[i].log_copy, log->bytes, log->length);
+        }
+        pthread_barrier_init(&together, NULL, (unsigned)count);
+        for (uint64_t i = 0; i < count; i++) {
+            start(&calls[i]);
+        }
+        for (uint64_t i = 0; i < count; i++) {
+            finish(&calls[i]);
+        }
+        pthread_barrier_destroy(&together);
+    }
+    return EXIT_SUCCESS;
+}

@@ -1,0 +1,94 @@
+//! The wrapper over the engine itself.
+
+use std::env;
+use std::process::Command;
+
+use engine as _;
+use toruxeng::{replay, replay_or_abort, Log, Refusal, Status};
+
+const PRINTED: &str = include_str!("../../../vectors/doc-printed-report.report");
+const GUARD: usize = 64;
+const MARK: u8 = 0xA5;
+
+/// The worked example of document 01.
+fn worked_example() -> Log {
+    let mut log = Log::open(4, 8, 4, 1);
+    log.begin().put(1, 2, 6, 10).prepare(1).install(1).end(1).publish(1);
+    log.begin().capture(3, 6).collect(3).rows(3, 4);
+    log.begin().put(4, 0, 2, 7).prepare(4).validate(3).install(4).end(4).publish(4);
+    log.validate(3).prepare(3);
+    log
+}
+
+#[test]
+fn the_worked_example_prints_its_report() {
+    let log = worked_example();
+    let mut report = [0; 1024];
+    let report = replay(log.bytes(), &mut report).expect("status 0");
+    assert_eq!(std::str::from_utf8(report.bytes()), Ok(PRINTED));
+    assert_eq!(report.lines().count(), 20);
+    let mut again = [0; 1024];
+    assert_eq!(replay_or_abort(log.bytes(), &mut again).bytes(), report.bytes());
+}
+
+#[test]
+fn every_room_gives_whole_lines_and_touches_nothing_else() {
+    let log = worked_example();
+    for room in 0..PRINTED.len() + 2 {
+        let mut guarded = vec![MARK; GUARD + room + GUARD];
+        let answer = replay(log.bytes(), &mut guarded[GUARD..GUARD + room]);
+        let written = match answer {
+            Ok(report) => report.bytes().len(),
+            Err(stopped) => {
+                assert_eq!(stopped.status, Status::ReportFull);
+                stopped.report.bytes().len()
+            }
+        };
+        assert_eq!(answer.is_ok(), room >= PRINTED.len());
+        let whole = PRINTED[..room.min(PRINTED.len())].rfind('\n').map_or(0, |end| end + 1);
+        assert_eq!(written, whole);
+        assert_eq!(&guarded[GUARD..GUARD + written], PRINTED[..whole].as_bytes());
+        assert!(guarded[..GUARD].iter().chain(&guarded[GUARD + written..]).all(|&byte| byte == MARK));
+    }
+}
+
+#[test]
+fn a_stopped_replay_keeps_its_lines() {
+    let mut report = [0; 64];
+    let refused = replay(Log::open(0, 1, 1, 1).bytes(), &mut report).expect_err("no rows");
+    assert_eq!((refused.status, refused.report.bytes()), (Status::OpenRefused, &b"open 1\n"[..]));
+    assert_eq!(refused.to_string(), "replay stopped with status 1: the open was refused");
+
+    let mut log = Log::open(1, 1, 1, 1).begin().bytes().to_vec();
+    log.push(0);
+    let malformed = replay(&log, &mut report).expect_err("a stray byte");
+    assert_eq!(malformed.status, Status::LogMalformed);
+    assert_eq!(malformed.report.bytes(), b"open 0\nbegin 0 1\nbad 15\n");
+    assert_eq!(malformed.report.last().expect("a last line").answer, Err(Refusal::Malformed));
+}
+
+#[test]
+fn an_empty_log_and_an_empty_report_are_fine() {
+    assert_eq!(replay(&[], &mut []).expect("nothing to do").bytes(), b"");
+    let full = replay(Log::open(1, 1, 1, 1).bytes(), &mut []).expect_err("no room");
+    assert_eq!((full.status, full.report.bytes()), (Status::ReportFull, &b""[..]));
+}
+
+#[test]
+fn replay_or_abort_aborts() {
+    const ABORTS: &str = "TORUXENG_TEST_ABORTS";
+    if env::var_os(ABORTS).is_some() {
+        replay_or_abort(&[0], &mut [0; 64]);
+        return;
+    }
+    let itself = env::current_exe().expect("the test knows its program");
+    let output = Command::new(itself)
+        .args(["--exact", "replay_or_abort_aborts", "--nocapture"])
+        .env(ABORTS, "")
+        .output()
+        .expect("the test can run itself");
+    use std::os::unix::process::ExitStatusExt;
+    const SIGABRT: i32 = 6;
+    assert_eq!(output.status.signal(), Some(SIGABRT));
+    assert!(String::from_utf8_lossy(&output.stderr).contains("replay stopped with status 15: the log is malformed"));
+}
