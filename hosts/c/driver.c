@@ -1,14 +1,15 @@
 /* Replays logs from standard input and says what each call did to the memory round it.
  *
  * It stands between the archive, which is for x86-64, and tests that may run on another machine. All numbers are 8 bytes,
- * little-endian. A request: how many calls (1 to 8, made at the same time, a thread each) and, for each, the length of its log and
- * its room; then the logs. An answer for each call: the function's answer, a sum of faults, the bytes of stack used; then the report.
+ * little-endian. A request: how many calls (1 to 8, made at the same time, a thread each), whether to measure the stack (1 or 0) and, for
+ * each, the length of its log and its room; then the logs. An answer for each call: the function's answer, a sum of faults, the bytes of
+ * stack used (0 where not measured); then the report.
  *
- * Each call runs in a thread with 512 KiB of stack. Log and report end at a page that cannot be touched and have marked bytes
- * before them; the log cannot be written.
+ * Each call runs in a thread with 512 KiB of stack. Log and report end at a page that cannot be touched and have marked bytes before them.
  */
 #define _GNU_SOURCE
 #include <pthread.h>
+#include <semaphore.h>
 #include <stdio.h>
 #include <stdlib.h>
 #include <string.h>
@@ -30,17 +31,20 @@ struct buffer {
     size_t length;
 };
 
+/* One of the calls of a request, with its thread, which waits between requests. */
 struct call {
     struct buffer log;
     struct buffer report;
     uint8_t *log_copy;
+    uint64_t answer;
     uint8_t *stack;
     pthread_t thread;
-    uint64_t answer;
+    int thread_ends;
+    sem_t begun;
+    sem_t done;
 };
 
 static size_t page;
-static pthread_barrier_t together;
 
 static void fail(const char *what)
 {
@@ -117,6 +121,19 @@ static void prepare_buffer(struct buffer *buffer, uint64_t length)
     memset(buffer->bytes - MARKED, MARK, buffer->length + MARKED);
 }
 
+static void read_log(struct call *call)
+{
+    struct buffer *log = &call->log;
+    call->log_copy = malloc(log->length + 1);
+    if (call->log_copy == NULL) {
+        fail("no memory");
+    }
+    if (log->length > 0 && !read_all(log->bytes, log->length)) {
+        fail("the request is cut");
+    }
+    memcpy(call->log_copy, log->bytes, log->length);
+}
+
 static int all_marked(const uint8_t *bytes, size_t length)
 {
     for (size_t i = 0; i < length; i++) {
@@ -130,16 +147,23 @@ static int all_marked(const uint8_t *bytes, size_t length)
 static void *replay(void *argument)
 {
     struct call *call = argument;
-    pthread_barrier_wait(&together);
-    call->answer = toruxeng_replay(call->log.bytes, call->log.length, call->report.bytes, call->report.length);
-    return NULL;
+    for (;;) {
+        sem_wait(&call->begun);
+        if (call->thread_ends) {
+            return NULL;
+        }
+        call->answer = toruxeng_replay(call->log.bytes, call->log.length, call->report.bytes, call->report.length);
+        sem_post(&call->done);
+    }
 }
 
-static void start(struct call *call)
+/* A thread on a stack of zeros with a page below it that cannot be touched. */
+static void start_thread(struct call *call)
 {
     pthread_attr_t attributes;
-    call->stack = map(STACK + page);
-    if (mprotect(call->stack, page, PROT_NONE) != 0 || mprotect(call->log.pages, call->log.size, PROT_READ) != 0
+    call->stack = map(page + STACK);
+    call->thread_ends = 0;
+    if (mprotect(call->stack, page, PROT_NONE) != 0 || sem_init(&call->begun, 0, 0) != 0 || sem_init(&call->done, 0, 0) != 0
         || pthread_attr_init(&attributes) != 0 || pthread_attr_setstack(&attributes, call->stack + page, STACK) != 0
         || pthread_create(&call->thread, &attributes, replay, call) != 0) {
         fail("a thread cannot be started");
@@ -147,7 +171,18 @@ static void start(struct call *call)
     pthread_attr_destroy(&attributes);
 }
 
-/* The stack came filled with zeros, so all below the lowest other byte was not used. */
+static void end_thread(struct call *call)
+{
+    call->thread_ends = 1;
+    sem_post(&call->begun);
+    if (pthread_join(call->thread, NULL) != 0) {
+        fail("a thread cannot be joined");
+    }
+    munmap(call->stack, page + STACK);
+    call->stack = NULL;
+}
+
+/* The stack was all zeros, so all below the lowest other byte was not used. */
 static uint64_t stack_used(const struct call *call)
 {
     size_t untouched = 0;
@@ -175,16 +210,13 @@ static uint64_t faults(const struct call *call)
     return found;
 }
 
-static void finish(struct call *call)
+static void finish(struct call *call, int measured)
 {
-    if (pthread_join(call->thread, NULL) != 0 || mprotect(call->log.pages, call->log.size, PROT_READ | PROT_WRITE) != 0) {
-        fail("a thread cannot be joined");
-    }
-    uint64_t head[3] = { call->answer, faults(call), stack_used(call) };
+    sem_wait(&call->done);
+    uint64_t head[3] = { call->answer, faults(call), measured ? stack_used(call) : 0 };
     write_all(head, sizeof head);
     size_t written = toruxeng_written(call->answer);
     write_all(call->report.bytes, written < call->report.length ? written : call->report.length);
-    munmap(call->stack, STACK + page);
     free(call->log_copy);
 }
 
@@ -197,26 +229,26 @@ int main(void)
         if (count < 1 || count > CALLS) {
             fail("a request has 1 to 8 calls");
         }
+        int measured = read_number() != 0;
         for (uint64_t i = 0; i < count; i++) {
             prepare_buffer(&calls[i].log, read_number());
             prepare_buffer(&calls[i].report, read_number());
         }
         for (uint64_t i = 0; i < count; i++) {
-            struct buffer *log = &calls[i].log;
-            calls[i].log_copy = malloc(log->length + 1);
-            if (calls[i].log_copy == NULL || (log->length > 0 && !read_all(log->bytes, log->length))) {
-                fail("the request is cut");
+            read_log(&calls[i]);
+            if (calls[i].stack != NULL && measured) {
+                end_thread(&calls[i]);
             }
-            memcpy(calls[i].log_copy, log->bytes, log->length);
-        }
-        pthread_barrier_init(&together, NULL, (unsigned)count);
-        for (uint64_t i = 0; i < count; i++) {
-            start(&calls[i]);
+            if (calls[i].stack == NULL) {
+                start_thread(&calls[i]);
+            }
         }
         for (uint64_t i = 0; i < count; i++) {
-            finish(&calls[i]);
+            sem_post(&calls[i].begun);
         }
-        pthread_barrier_destroy(&together);
+        for (uint64_t i = 0; i < count; i++) {
+            finish(&calls[i], measured);
+        }
     }
     return EXIT_SUCCESS;
 }

@@ -16,8 +16,6 @@ pub struct Replayed {
     /// Status × 4,294,967,296 + bytes written
     pub answer: u64,
     pub report: Vec<u8>,
-    /// Bytes of the calling thread's stack, of 512 KiB, that had been written at its end.
-    pub stack: u64,
 }
 
 /// A running driver.
@@ -53,25 +51,33 @@ impl Driver {
     /// # Panics
     /// Where a call wrote outside its report or after its last line, or the process died.
     pub fn replay_together(&mut self, calls: &[(&[u8], usize)]) -> Vec<Replayed> {
-        let mut request = Vec::new();
-        request.extend((calls.len() as u64).to_le_bytes());
-        for (log, room) in calls {
-            request.extend((log.len() as u64).to_le_bytes());
-            request.extend((*room as u64).to_le_bytes());
-        }
-        calls.iter().for_each(|(log, _)| request.extend(*log));
-        self.to.write_all(&request).expect("the driver takes a request");
-        calls.iter().map(|(log, room)| self.answer(log, *room)).collect()
+        self.request(calls, false);
+        calls.iter().map(|(log, room)| self.answer(log, *room).0).collect()
     }
 
-    fn answer(&mut self, log: &[u8], room: usize) -> Replayed {
+    /// How many of the 512 KiB of stack the call wrote to, its thread's own start included.
+    pub fn stack_used(&mut self, log: &[u8], room: usize) -> u64 {
+        self.request(&[(log, room)], true);
+        self.answer(log, room).1
+    }
+
+    fn request(&mut self, calls: &[(&[u8], usize)], measured: bool) {
+        let lengths = calls.iter().flat_map(|(log, room)| [log.len() as u64, *room as u64]);
+        let numbers = [calls.len() as u64, measured.into()].into_iter().chain(lengths);
+        let mut request: Vec<u8> = numbers.flat_map(u64::to_le_bytes).collect();
+        calls.iter().for_each(|(log, _)| request.extend(*log));
+        self.to.write_all(&request).expect("the driver takes a request");
+    }
+
+    /// What the call gave back, and the stack that it used.
+    fn answer(&mut self, log: &[u8], room: usize) -> (Replayed, u64) {
         let [answer, faults, stack] = [(); 3].map(|_| self.number(log));
         for (fault, what) in FAULTS {
             assert!(faults & fault == 0, "{what} (room {room}, log {log:02x?})");
         }
         let mut report = vec![0; answer as u32 as usize];
         self.from.read_exact(&mut report).expect("the driver sends the report");
-        Replayed { answer, report, stack }
+        (Replayed { answer, report }, stack)
     }
 
     fn number(&mut self, log: &[u8]) -> u64 {

@@ -1,0 +1,69 @@
+//! The engine beside the twin.
+
+use std::fmt;
+
+use engine::{Driver, Replayed};
+
+/// A log that the two answer differently, and their answers.
+pub struct Difference {
+    log: Vec<u8>,
+    room: usize,
+    engine: Replayed,
+    twin: (u64, Vec<u8>),
+}
+
+impl fmt::Display for Difference {
+    fn fmt(&self, to: &mut fmt::Formatter) -> fmt::Result {
+        writeln!(to, "engine and twin differ on the log {:02x?}, room {}", self.log, self.room)?;
+        let mut rest = self.log.as_slice();
+        while let Some((step, next)) = twin::read_record(rest) {
+            writeln!(to, "    {step:?}")?;
+            rest = next;
+        }
+        let report = |bytes: &[u8]| String::from_utf8_lossy(bytes).into_owned();
+        writeln!(to, "engine: status {}, report\n{}", self.engine.answer >> 32, report(&self.engine.report))?;
+        write!(to, "twin: status {}, report\n{}", self.twin.0 >> 32, report(&self.twin.1))
+    }
+}
+
+/// What the twin answers and writes.
+pub fn twin_replay(log: &[u8], room: usize) -> (u64, Vec<u8>) {
+    let mut report = vec![0; room];
+    let answer = twin::replay(log, &mut report);
+    report.truncate(answer as u32 as usize);
+    (answer, report)
+}
+
+/// The report's length where there is room for all of it.
+pub fn report_length(log: &[u8]) -> usize {
+    // a record of 4 bytes has the shortest line for its length, and the longest line is that of 256 rows
+    const LONGEST_LINE: usize = 1024;
+    twin_replay(log, LONGEST_LINE * (log.len() / 4 + 1)).1.len()
+}
+
+/// Both replay the log; where they differ, the difference, on a log from which no record can be left out.
+pub fn compare(driver: &mut Driver, log: &[u8], room: usize) -> Result<Replayed, Box<Difference>> {
+    let engine = driver.replay(log, room);
+    let twin = twin_replay(log, room);
+    if (engine.answer, &engine.report) == (twin.0, &twin.1) {
+        return Ok(engine);
+    }
+    let records = records(log);
+    for left_out in 0..records.len() {
+        let shorter = records.iter().enumerate().filter(|&(i, _)| i != left_out).flat_map(|(_, record)| record.to_vec());
+        compare(driver, &shorter.collect::<Vec<u8>>(), room)?;
+    }
+    Err(Box::new(Difference { log: log.to_vec(), room, engine, twin }))
+}
+
+/// The log cut into its records; what is no record comes last, in one piece.
+fn records(log: &[u8]) -> Vec<&[u8]> {
+    let mut records = Vec::new();
+    let mut rest = log;
+    while !rest.is_empty() {
+        let next = twin::read_record(rest).map_or(&[][..], |(_, next)| next);
+        records.push(&rest[..rest.len() - next.len()]);
+        rest = next;
+    }
+    records
+}
