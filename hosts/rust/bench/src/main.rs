@@ -1,0 +1,152 @@
+//! `bench`: the proved engine and the plain twin over the same logs, in turns, in one process.
+//!
+//! `bench once ENGINE ROUNDS` only replays the benchmark log so often, for a tool that counts instructions.
+
+mod heap;
+mod instructions;
+mod machine;
+
+use std::time::{Duration, Instant};
+
+use generator::{benchmark, with_chains, with_live, with_rows, Random};
+
+const SEED: u64 = 1;
+const STEPS: u64 = 100_000;
+const ROUNDS: usize = 31;
+const GROWTH_STEPS: u64 = 20_000;
+const GROWTH_ROUNDS: usize = 11;
+
+/// One of the two that are compared; it gives the length of the report.
+#[derive(Clone, Copy, Debug, PartialEq, Eq)]
+enum Engine {
+    Proved,
+    Twin,
+}
+
+impl Engine {
+    const BOTH: [Engine; 2] = [Engine::Proved, Engine::Twin];
+
+    fn of_name(name: &str) -> Option<Engine> {
+        Engine::BOTH.into_iter().find(|engine| engine.name() == name)
+    }
+
+    fn name(self) -> &'static str {
+        match self {
+            Engine::Proved => "proved",
+            Engine::Twin => "twin",
+        }
+    }
+
+    fn replay(self, log: &[u8], report: &mut [u8]) -> usize {
+        match self {
+            Engine::Proved => toruxeng::replay(log, report).expect("the log ends well").bytes().len(),
+            Engine::Twin => {
+                let answer = twin::replay(log, report);
+                assert_eq!(answer >> 32, 0, "the log ends well");
+                answer as u32 as usize
+            }
+        }
+    }
+}
+
+/// A log with room for its report.
+struct Case {
+    log: Vec<u8>,
+    report: Vec<u8>,
+    steps: usize,
+}
+
+impl Case {
+    fn of_log(log: Vec<u8>) -> Case {
+        const LONGEST_LINE: usize = 1024;
+        let mut report = vec![0; log.len() / 4 * LONGEST_LINE];
+        let length = Engine::Twin.replay(&log, &mut report);
+        report.truncate(length);
+        let steps = report.iter().filter(|&&byte| byte == b'\n').count();
+        let expected = report.clone();
+        report.fill(0);
+        Engine::Proved.replay(&log, &mut report);
+        assert!(report == expected, "the two differ; `make soak` finds where");
+        Case { log, report, steps }
+    }
+
+    fn time(&mut self, engine: Engine) -> Duration {
+        self.report.fill(0);
+        let start = Instant::now();
+        engine.replay(&self.log, &mut self.report);
+        start.elapsed()
+    }
+
+    /// The median nanoseconds of a step for each engine, the two replaying in turns.
+    fn medians(&mut self, rounds: usize) -> [f64; 2] {
+        let mut times = [Vec::new(), Vec::new()];
+        for _ in 0..rounds {
+            for (engine, times) in Engine::BOTH.into_iter().zip(&mut times) {
+                times.push(self.time(engine));
+            }
+        }
+        times.map(|mut times| {
+            times.sort();
+            times[times.len() / 2].as_nanos() as f64 / self.steps as f64
+        })
+    }
+}
+
+fn print_growth(what: &str, log: Vec<u8>) {
+    let mut case = Case::of_log(log);
+    let [proved, twin] = case.medians(GROWTH_ROUNDS);
+    println!("{what:<28}{proved:>10.1}{twin:>10.1}{:>8.2}", proved / twin);
+}
+
+fn benchmark_case() -> Case {
+    Case::of_log(benchmark(STEPS, &mut Random::of_seed(SEED)))
+}
+
+fn bench() {
+    println!("machine: {}", machine::name());
+    let mut case = benchmark_case();
+    let (log, report) = (case.log.len(), case.report.len());
+    println!("log: seed {SEED}, {} steps, {log} bytes; report {report} bytes", case.steps);
+
+    let [proved, twin] = case.medians(ROUNDS);
+    println!("nanoseconds of a step, median of {ROUNDS} rounds: proved {proved:.1}, twin {twin:.1}, ratio {:.2}", proved / twin);
+    match instructions::of_a_replay() {
+        Ok([proved, twin]) => {
+            let of_a_step = |count: u64| count as f64 / case.steps as f64;
+            println!("instructions of a step: proved {:.0}, twin {:.0}", of_a_step(proved), of_a_step(twin));
+        }
+        Err(why) => println!("instructions of a step: not counted, {why}"),
+    }
+    for engine in Engine::BOTH {
+        let most = heap::most_used_by(|| {
+            engine.replay(&case.log, &mut case.report);
+        });
+        println!("heap in use at most: {} {most} bytes", engine.name());
+    }
+
+    println!("\n{:<28}{:>10}{:>10}{:>8}", "nanoseconds of a step", "proved", "twin", "ratio");
+    for rows in [16, 64, 256] {
+        print_growth(&format!("{rows} rows in use"), with_rows(rows, GROWTH_STEPS, &mut Random::of_seed(SEED)));
+    }
+    for versions in [1, 16, 256] {
+        print_growth(&format!("chains of {versions} versions"), with_chains(versions, GROWTH_STEPS));
+    }
+    for live in 1..=8 {
+        print_growth(&format!("{live} live transactions"), with_live(live, GROWTH_STEPS, &mut Random::of_seed(SEED)));
+    }
+}
+
+fn main() {
+    let arguments: Vec<String> = std::env::args().skip(1).collect();
+    match arguments.iter().map(String::as_str).collect::<Vec<_>>()[..] {
+        [] => bench(),
+        ["once", engine, rounds] => {
+            let engine = Engine::of_name(engine).expect("an engine is proved or twin");
+            let mut case = benchmark_case();
+            for _ in 0..rounds.parse().expect("rounds are a number") {
+                case.time(engine);
+            }
+        }
+        _ => panic!("bench, or bench once ENGINE ROUNDS"),
+    }
+}
