@@ -43,17 +43,42 @@ pub fn report_length(log: &[u8]) -> usize {
 
 /// Both replay the log; where they differ, the difference, on a log from which no record can be left out.
 pub fn compare(driver: &mut Driver, log: &[u8], room: usize) -> Result<Replayed, Box<Difference>> {
-    let engine = driver.replay(log, room);
-    let twin = twin_replay(log, room);
-    if (engine.answer, &engine.report) == (twin.0, &twin.1) {
+    let (engine, twin) = both(driver, log, room);
+    if agree(&engine, &twin) {
         return Ok(engine);
     }
-    let records = records(log);
-    for left_out in 0..records.len() {
-        let shorter = records.iter().enumerate().filter(|&(i, _)| i != left_out).flat_map(|(_, record)| record.to_vec());
-        compare(driver, &shorter.collect::<Vec<u8>>(), room)?;
+    let log = shortened(driver, log, room);
+    let (engine, twin) = both(driver, &log, room);
+    Err(Box::new(Difference { log, room, engine, twin }))
+}
+
+fn both(driver: &mut Driver, log: &[u8], room: usize) -> (Replayed, (u64, Vec<u8>)) {
+    (driver.replay(log, room), twin_replay(log, room))
+}
+
+fn agree(engine: &Replayed, twin: &(u64, Vec<u8>)) -> bool {
+    (engine.answer, &engine.report) == (twin.0, &twin.1)
+}
+
+/// Leaves records out, half of the log first and single ones last, as long as the two still differ.
+fn shortened(driver: &mut Driver, log: &[u8], room: usize) -> Vec<u8> {
+    let mut records = records(log);
+    let mut count = records.len() / 2;
+    while count > 0 {
+        let mut place = 0;
+        while place < records.len() {
+            let mut fewer = records.clone();
+            fewer.drain(place..records.len().min(place + count));
+            let (engine, twin) = both(driver, &fewer.concat(), room);
+            if agree(&engine, &twin) {
+                place += count;
+            } else {
+                records = fewer;
+            }
+        }
+        count /= 2;
     }
-    Err(Box::new(Difference { log: log.to_vec(), room, engine, twin }))
+    records.concat()
 }
 
 /// The log cut into its records; what is no record comes last, in one piece.

@@ -1,12 +1,12 @@
-//! What the archive defines and asks for: nothing in it can unwind, panic or allocate.
+//! What the archive defines and asks for: nothing in it can unwind, panic, allocate or keep anything between calls.
 
-use std::env;
-use std::path::PathBuf;
+use std::fs;
+use std::path::{Path, PathBuf};
 use std::process::Command;
 
+/// Where `rt staticlib replay` writes it.
 fn archive() -> PathBuf {
-    let folder = env::var_os("TORUXENG_ARCHIVE").expect("TORUXENG_ARCHIVE names the archive's folder; `make hosts` builds it");
-    PathBuf::from(folder).join("libreplay.a")
+    Path::new(env!("CARGO_MANIFEST_DIR")).join("../../../target/staticlib/libreplay.a")
 }
 
 /// The names that `nm` lists with these flags.
@@ -17,6 +17,10 @@ fn symbols(flags: &[&str]) -> Vec<String> {
     // a line of the member's name ends in a colon and has no type
     let name = |line: &str| line.split_once(' ').map(|(name, _)| name.to_string());
     listed.lines().filter(|line| !line.ends_with(':')).filter_map(name).collect()
+}
+
+fn count(bytes: &[u8], part: &str) -> usize {
+    bytes.windows(part.len()).filter(|window| *window == part.as_bytes()).count()
 }
 
 #[test]
@@ -32,9 +36,11 @@ fn asks_for_memory_moves_only() {
 }
 
 #[test]
-fn has_nothing_to_unwind() {
-    let bytes = std::fs::read(archive()).expect("the archive can be read");
-    for section in [".eh_frame", ".gcc_except_table", ".init_array", ".data.", ".bss."] {
-        assert!(!bytes.windows(section.len()).any(|window| window == section.as_bytes()), "{section}");
+fn has_nothing_to_unwind_and_no_state() {
+    let bytes = fs::read(archive()).expect("the archive can be read");
+    for section in [".eh_frame", ".gcc_except_table", ".init_array", ".bss.", ".tdata", ".tbss"] {
+        assert_eq!(count(&bytes, section), 0, "{section}");
     }
+    // the linker's read-only data has a name of the same start
+    assert_eq!(count(&bytes, ".data."), count(&bytes, ".data.rel.ro"));
 }

@@ -73,7 +73,7 @@ impl Driver {
     fn answer(&mut self, log: &[u8], room: usize) -> (Replayed, u64) {
         let [answer, faults, stack] = [(); 3].map(|_| self.number(log));
         for (fault, what) in FAULTS {
-            assert!(faults & fault == 0, "{what} (room {room}, log {log:02x?})");
+            assert!(faults & fault == 0, "{what}: room {room}, {}", shown(log));
         }
         let mut report = vec![0; answer as u32 as usize];
         self.from.read_exact(&mut report).expect("the driver sends the report");
@@ -83,9 +83,18 @@ impl Driver {
     fn number(&mut self, log: &[u8]) -> u64 {
         let mut bytes = [0; 8];
         if self.from.read_exact(&mut bytes).is_err() {
-            panic!("the driver died ({:?}) at the log {log:02x?}", self.process.wait());
+            panic!("the driver died ({:?}): {}", self.process.wait(), shown(log));
         }
         u64::from_le_bytes(bytes)
+    }
+}
+
+fn shown(log: &[u8]) -> String {
+    const SHORT: usize = 4096;
+    if log.len() <= SHORT {
+        format!("log {log:02x?}")
+    } else {
+        format!("a log of {} bytes; its seed gives it again", log.len())
     }
 }
 

@@ -25,6 +25,10 @@ const NUMBERS: [(&str, &[u32]); 14] = [
     ("bad", &[15]),
 ];
 
+/// The longest lines, as the host wrapper counts on them.
+const LONGEST_ROWS_LINE: usize = 330;
+const LONGEST_OTHER_LINE: usize = 60;
+
 /// How often each line's word and number came, verdicts as a third part, and how often each status.
 #[derive(Default)]
 struct Counts {
@@ -42,6 +46,8 @@ impl Counts {
         for line in written.lines() {
             let mut words = line.split(' ');
             let word = words.next().expect("a line has its word").to_string();
+            let longest = if word == "rows" { LONGEST_ROWS_LINE } else { LONGEST_OTHER_LINE };
+            assert!(line.len() < longest, "{line}");
             let mut number = || words.next().map(|number| number.parse::<u32>().expect("a number"));
             let first = number().expect("a line has its number");
             if (word.as_str(), first) == ("validate", 0) {

@@ -7,7 +7,6 @@
 use engine as _;
 use toruxeng::{replay, replay_or_abort, Advice, Log, Refusal, Report, Stopped, Values, Verdict};
 
-const REPORT_ROOM: usize = 16 * 1024;
 const ROOM: u32 = 16;
 
 /// The scheme keys of this example; a row holds one.
@@ -32,10 +31,11 @@ struct Terminal {
 impl Terminal {
     fn new(wish: Wish) -> Terminal {
         // buckets well above the keys that are used together: keys that share a bucket refuse each other
-        Terminal { log: Log::open(64, 1024, 257, 1), report: vec![0; REPORT_ROOM], wish }
+        Terminal { log: Log::open(64, 1024, 257, 1), report: Vec::new(), wish }
     }
 
     fn replay(&mut self) -> Result<Report<'_>, Stopped<'_>> {
+        self.report.resize(self.log.report_room(), 0);
         match self.wish {
             Wish::Answer => replay(self.log.bytes(), &mut self.report),
             Wish::Abort => Ok(replay_or_abort(self.log.bytes(), &mut self.report)),

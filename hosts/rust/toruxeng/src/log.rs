@@ -1,15 +1,23 @@
 //! The bytes of a log, step by step.
 
+const ROWS: u16 = 5;
+
+/// A rows line has at most 80 rows, 64 by read records and 16 by pending writes.
+const LONGEST_ROWS_LINE: usize = "rows 0 80".len() + 80 * " 255".len() + "\n".len();
+/// The line of verdict 1 has the most and the largest values of the others.
+const LONGEST_OTHER_LINE: usize = "validate 0 1 4095 18446744073709551615 18446744073709551615\n".len();
+
 /// A log that begins with its open, the only place where one may stand.
 #[derive(Clone, Debug)]
 pub struct Log {
     bytes: Vec<u8>,
+    report_room: usize,
 }
 
 impl Log {
     /// A log for a fresh store of these sizes. Sizes out of range are refused by the replay (status 1), not here.
     pub fn open(rows: u32, versions: u32, buckets: u32, clock: u64) -> Log {
-        let mut log = Log { bytes: Vec::new() };
+        let mut log = Log { bytes: Vec::new(), report_room: 0 };
         let sizes = [rows, versions, buckets].map(u32::to_le_bytes).concat();
         log.record(1, &[&sizes, &clock.to_le_bytes()]);
         log
@@ -17,6 +25,11 @@ impl Log {
 
     pub fn bytes(&self) -> &[u8] {
         &self.bytes
+    }
+
+    /// So many bytes hold the report of this log, whatever the answers.
+    pub fn report_room(&self) -> usize {
+        self.report_room
     }
 
     pub fn begin(&mut self) -> &mut Log {
@@ -32,7 +45,7 @@ impl Log {
     }
 
     pub fn rows(&mut self, number: u64, room: u32) -> &mut Log {
-        self.record(5, &[&number.to_le_bytes(), &room.to_le_bytes()])
+        self.record(ROWS, &[&number.to_le_bytes(), &room.to_le_bytes()])
     }
 
     pub fn put(&mut self, number: u64, row: u32, key: u64, payload: u64) -> &mut Log {
@@ -72,6 +85,7 @@ impl Log {
         self.bytes.extend((length as u16).to_le_bytes());
         self.bytes.extend(kind.to_le_bytes());
         self.bytes.extend(fields.concat());
+        self.report_room += if kind == ROWS { LONGEST_ROWS_LINE } else { LONGEST_OTHER_LINE };
         self
     }
 }

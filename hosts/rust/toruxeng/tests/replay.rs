@@ -23,7 +23,7 @@ fn worked_example() -> Log {
 #[test]
 fn the_worked_example_prints_its_report() {
     let log = worked_example();
-    let mut report = [0; 1024];
+    let mut report = vec![0; log.report_room()];
     let report = replay(log.bytes(), &mut report).expect("status 0");
     assert_eq!(std::str::from_utf8(report.bytes()), Ok(PRINTED));
     assert_eq!(report.lines().count(), 20);
@@ -47,7 +47,7 @@ fn every_room_gives_whole_lines_and_touches_nothing_else() {
         assert_eq!(answer.is_ok(), room >= PRINTED.len());
         let whole = PRINTED[..room.min(PRINTED.len())].rfind('\n').map_or(0, |end| end + 1);
         assert_eq!(written, whole);
-        assert_eq!(&guarded[GUARD..GUARD + written], PRINTED[..whole].as_bytes());
+        assert_eq!(&guarded[GUARD..GUARD + written], &PRINTED.as_bytes()[..whole]);
         assert!(guarded[..GUARD].iter().chain(&guarded[GUARD + written..]).all(|&byte| byte == MARK));
     }
 }

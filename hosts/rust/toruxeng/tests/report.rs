@@ -1,7 +1,7 @@
 //! Lines as values, of reports that were kept as bytes.
 
 use engine as _;
-use toruxeng::{Advice, Kind, Line, Refusal, Report, Values, Verdict};
+use toruxeng::{Advice, Kind, Line, Log, Refusal, Report, Values, Verdict};
 
 const PRINTED: &str = include_str!("../../../vectors/doc-printed-report.report");
 
@@ -97,4 +97,11 @@ fn refusals_have_their_numbers_and_advice() {
     assert!(advised(Advice::BeginAnew).eq([8, 14]));
     assert!(advised(Advice::MakeRoom).eq([2, 3, 9, 10, 11, 12, 13]));
     assert!(advised(Advice::Correct).eq([1, 4, 5, 6, 15, 16]));
+}
+
+#[test]
+fn a_log_tells_the_room_of_its_report() {
+    let mut log = Log::open(1, 1, 1, 1);
+    assert_eq!(log.report_room(), 60);
+    assert_eq!(log.begin().rows(1, 256).report_room(), 60 + 60 + 330);
 }
