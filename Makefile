@@ -1,12 +1,17 @@
 # `make help` lists the targets.
 KIT := rattle-kit-5b logic 064da1ca440f63e7
 LOGIC := $(lastword $(KIT))
+STEPS ?= 5000000
+SEED ?=
 
-.PHONY: help kit demo test
+.PHONY: help kit demo hosts soak bench test
 
 help:
 	@echo 'make demo    prove, build and run the program replay_log on the worked example of document 01, and show its report'
-	@echo 'make test    prove every crate, try the must-fail edits, run the programs'
+	@echo 'make test    the host tests; then prove every crate, try the must-fail edits, run the programs'
+	@echo 'make hosts   the host tests alone: the archive against a plain Rust twin, the C and Rust examples'
+	@echo 'make soak    the archive against the twin for STEPS steps (5000000) from SEED (the time)'
+	@echo 'make bench   the times of the archive and of the twin, and how they grow'
 	@echo 'make help    this list'
 
 # one clear line where the toolchain is missing or proves by another logic
@@ -19,5 +24,15 @@ demo: kit
 	@rt check replay_log
 	@cat target/log/replay_log.stdout
 
-test: kit
+hosts: kit
+	@hosts/test
+
+soak: kit
+	@hosts/build
+	@cd hosts/rust && TORUXENG_DRIVER=$(CURDIR)/target/hosts/driver cargo run --offline --quiet --release -p compare --bin soak $(STEPS) $(SEED)
+
+bench: kit
+	@archive=$$(hosts/native) && cd hosts/rust && TORUXENG_ARCHIVE=$$archive cargo run --offline --quiet --release -p bench
+
+test: kit hosts
 	@rt ci
