@@ -19,6 +19,7 @@ pub fn at_a_limit(steps: u64, random: &mut Random) -> Vec<u8> {
         rows_out_of_range,
         old_snapshot,
         overtaken,
+        begun_between,
         sizes,
     ]);
     let mut writer = limit(random);
@@ -139,9 +140,12 @@ fn versions(random: &mut Random) -> Writer {
     writer
 }
 
-/// A clock whose numbers run out.
+/// A clock whose numbers run out, also where eight are live just then.
 fn clock(random: &mut Random) -> Writer {
-    let mut writer = Writer::open(4, 64, 4, u64::MAX - random.below(14));
+    let mut writer = Writer::open(4, 64, 4, u64::MAX - random.below(20));
+    for _ in 0..random.one_of(&[0, 7, 9]) {
+        let _ = writer.begin();
+    }
     for round in 0..random.from_to(4, 16) {
         match writer.begin() {
             Some(number) if random.percent(60) => {
@@ -228,9 +232,11 @@ fn old_snapshot(random: &mut Random) -> Writer {
 /// A reader whose buckets and rows others change before it validates.
 fn overtaken(random: &mut Random) -> Writer {
     let mut writer = ample(random);
+    let Some(loader) = writer.begin() else { return writer };
     for row in 0..4 {
-        writer.put_and_publish(row, u64::from(row), 0);
+        let _ = writer.step(Step::Put { number: loader, row, key: u64::from(row), payload: 0 });
     }
+    writer.commit(loader);
     let Some(reader) = writer.begin() else { return writer };
     for _ in 0..random.from_to(1, 4) {
         writer.read(reader, random.below(4), 256);
@@ -246,6 +252,26 @@ fn overtaken(random: &mut Random) -> Writer {
     }
     let _ = writer.step(Step::Validate { number: reader });
     writer.commit(reader);
+    writer
+}
+
+/// A reader that begins while a writer is in one of its last phases and reads once it has published.
+fn begun_between(random: &mut Random) -> Writer {
+    let mut writer = ample(random);
+    writer.put_and_publish(0, 0, 0);
+    let Some(number) = writer.begin() else { return writer };
+    // the same key leaves the stamps, so that the reader is not stale
+    let _ = writer.step(Step::Put { number, row: 0, key: 0, payload: 1 });
+    let last = [Step::Prepare { number }, Step::Install { number }, Step::End { number }, Step::Publish { number }];
+    let before = random.below(5) as usize;
+    last[..before].iter().for_each(|&step| drop(writer.step(step)));
+    let reader = writer.begin();
+    last[before..].iter().for_each(|&step| drop(writer.step(step)));
+    if let Some(reader) = reader {
+        writer.read(reader, 0, 256);
+        let _ = writer.step(Step::Validate { number: reader });
+        writer.commit(reader);
+    }
     writer
 }
 
