@@ -5,8 +5,9 @@
 mod heap;
 mod instructions;
 mod machine;
+mod processor_time;
 
-use std::time::{Duration, Instant};
+use std::time::Duration;
 
 use generator::{benchmark, with_chains, with_live, with_rows, Random};
 
@@ -58,13 +59,9 @@ struct Case {
 
 impl Case {
     fn of_log(log: Vec<u8>) -> Case {
-        const LONGEST_LINE: usize = 1024;
-        let mut report = vec![0; log.len() / 4 * LONGEST_LINE];
-        let length = Engine::Twin.replay(&log, &mut report);
-        report.truncate(length);
-        let steps = report.iter().filter(|&&byte| byte == b'\n').count();
-        let expected = report.clone();
-        report.fill(0);
+        let (_, expected) = twin::whole_report(&log);
+        let steps = expected.iter().filter(|&&byte| byte == b'\n').count();
+        let mut report = vec![0; expected.len()];
         Engine::Proved.replay(&log, &mut report);
         assert!(report == expected, "the two differ; `make soak` finds where");
         Case { log, report, steps }
@@ -72,9 +69,9 @@ impl Case {
 
     fn time(&mut self, engine: Engine) -> Duration {
         self.report.fill(0);
-        let start = Instant::now();
+        let start = processor_time::now();
         engine.replay(&self.log, &mut self.report);
-        start.elapsed()
+        processor_time::now() - start
     }
 
     /// The median nanoseconds of a step for each engine, the two replaying in turns.
@@ -92,10 +89,13 @@ impl Case {
     }
 }
 
+fn print_medians(what: &str, case: &mut Case, rounds: usize) {
+    let [proved, twin] = case.medians(rounds);
+    println!("{what:<28}{proved:>8.1}{twin:>8.1}{:>7.2}", proved / twin);
+}
+
 fn print_growth(what: &str, log: Vec<u8>) {
-    let mut case = Case::of_log(log);
-    let [proved, twin] = case.medians(GROWTH_ROUNDS);
-    println!("{what:<28}{proved:>10.1}{twin:>10.1}{:>8.2}", proved / twin);
+    print_medians(what, &mut Case::of_log(log), GROWTH_ROUNDS);
 }
 
 fn benchmark_case() -> Case {
@@ -108,8 +108,6 @@ fn bench() {
     let (log, report) = (case.log.len(), case.report.len());
     println!("log: seed {SEED}, {} steps, {log} bytes; report {report} bytes", case.steps);
 
-    let [proved, twin] = case.medians(ROUNDS);
-    println!("nanoseconds of a step, median of {ROUNDS} rounds: proved {proved:.1}, twin {twin:.1}, ratio {:.2}", proved / twin);
     match instructions::of_a_replay() {
         Ok([proved, twin]) => {
             let of_a_step = |count: u64| count as f64 / case.steps as f64;
@@ -124,7 +122,8 @@ fn bench() {
         println!("heap in use at most: {} {most} bytes", engine.name());
     }
 
-    println!("\n{:<28}{:>10}{:>10}{:>8}", "nanoseconds of a step", "proved", "twin", "ratio");
+    println!("\n{:<28}{:>8}{:>8}{:>7}", "nanoseconds of a step", "proved", "twin", "ratio");
+    print_medians("the benchmark log", &mut case, ROUNDS);
     for rows in [16, 64, 256] {
         print_growth(&format!("{rows} rows in use"), with_rows(rows, GROWTH_STEPS, &mut Random::of_seed(SEED)));
     }

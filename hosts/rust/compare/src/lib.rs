@@ -36,9 +36,7 @@ pub fn twin_replay(log: &[u8], room: usize) -> (u64, Vec<u8>) {
 
 /// The report's length where there is room for all of it.
 pub fn report_length(log: &[u8]) -> usize {
-    // a record of 4 bytes has the shortest line for its length, and the longest line is that of 256 rows
-    const LONGEST_LINE: usize = 1024;
-    twin_replay(log, LONGEST_LINE * (log.len() / 4 + 1)).1.len()
+    twin::whole_report(log).1.len()
 }
 
 /// Both replay the log; where they differ, the difference, on a log from which no record can be left out.

@@ -71,7 +71,7 @@ fn counts(families: &[Family]) -> Counts {
         for _ in 0..LOGS {
             let steps = random.from_to(1, STEPS);
             let log = log(family, steps, &mut random);
-            let length = twin::replay(&log, &mut [0; 1 << 16]) as u32 as usize;
+            let length = twin::whole_report(&log).1.len();
             counts.add(&log, room(length, &mut random));
         }
     }

@@ -8,5 +8,5 @@ mod replay;
 mod store;
 
 pub use records::{read_record, Step};
-pub use replay::replay;
+pub use replay::{replay, whole_report};
 pub use store::{Answer, Phase, Refusal, Store, Values, Verdict};

@@ -65,6 +65,16 @@ pub fn replay(log: &[u8], report: &mut [u8]) -> u64 {
     status << 32 | report.written as u64
 }
 
+/// The status, and the report where there is room for all of it.
+pub fn whole_report(log: &[u8]) -> (u64, Vec<u8>) {
+    // the longest line is one of 80 rows, 64 by read records and 16 by pending writes; no record is shorter than 4 bytes
+    const LONGEST_LINE: usize = 330;
+    let mut report = vec![0; (log.len() / 4 + 1) * LONGEST_LINE];
+    let answer = replay(log, &mut report);
+    report.truncate(answer as u32 as usize);
+    (answer >> 32, report)
+}
+
 /// Ends well, or with the status that stops the replay.
 fn replay_into(log: &[u8], report: &mut Report) -> Result<(), u64> {
     let mut store = None;

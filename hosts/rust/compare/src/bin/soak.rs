@@ -6,7 +6,7 @@ use std::time::{SystemTime, UNIX_EPOCH};
 
 use compare::{compare, report_length};
 use engine::Driver;
-use generator::{log, room, Family, Random};
+use generator::{log, longest_chain, room, Family, Random};
 
 const LONGEST: u64 = 2000;
 
@@ -46,5 +46,8 @@ fn main() -> ExitCode {
     }
     println!("no difference in {done} steps of {logs} logs");
     println!("logs by status: {statuses:?}\nsteps by number: {numbers:?}");
+    let chain = longest_chain(1);
+    let stack = [&[][..], &chain].map(|log| driver.stack_used(log, report_length(log)));
+    println!("stack of a thread that replays an empty log: {} bytes; the longest chain: {} bytes", stack[0], stack[1]);
     ExitCode::SUCCESS
 }
