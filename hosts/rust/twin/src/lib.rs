@@ -1,6 +1,6 @@
 //! Document 01 once more, in plain Rust with vectors and maps.
 //!
-//! It was written from the document alone and shares no code with the proved engine or with its host wrapper,
+//! It was written from the document and its readings (docs/DECISIONS.md), and shares no code with the proved engine or its host wrapper,
 //! so that where the two agree, two readings of the document agree.
 
 mod records;
