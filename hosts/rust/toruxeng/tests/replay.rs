@@ -6,7 +6,7 @@ use std::process::Command;
 use engine as _;
 use toruxeng::{replay, replay_or_abort, Log, Refusal, Status};
 
-const PRINTED: &str = include_str!("../../../vectors/doc-printed-report.report");
+const PRINTED: &str = include_str!("../../../../crates/replay_log/stdout");
 const GUARD: usize = 64;
 const MARK: u8 = 0xA5;
 

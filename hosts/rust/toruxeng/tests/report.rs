@@ -3,7 +3,7 @@
 use engine as _;
 use toruxeng::{Advice, Kind, Line, Log, Refusal, Report, Values, Verdict};
 
-const PRINTED: &str = include_str!("../../../vectors/doc-printed-report.report");
+const PRINTED: &str = include_str!("../../../../crates/replay_log/stdout");
 
 fn only_line(text: &str) -> Line<'_> {
     let mut lines = Report::of_bytes(text.as_bytes()).expect("a report").lines();

@@ -1,9 +1,7 @@
-//! The hand-made logs of `hosts/vectors`, each with the report that document 01 asks for.
+//! The hand-made logs of `crates/cases/data`, each with the report that document 01 asks for.
 
 use std::fs;
 use std::path::Path;
-
-const PLENTY: usize = 1 << 16;
 
 pub struct Vector {
     pub name: String,
@@ -13,31 +11,34 @@ pub struct Vector {
     pub report: Vec<u8>,
 }
 
-/// All that the table of INDEX.md lists.
+/// All of them, in the order of the file.
 ///
 /// # Panics
-/// Where a file is missing or has another length than the table says.
+/// Where the file is missing, is cut, or has more or fewer vectors than `vectors.txt` names.
 pub fn all() -> Vec<Vector> {
-    let folder = Path::new(env!("CARGO_MANIFEST_DIR")).join("../../vectors");
-    let index = fs::read_to_string(folder.join("INDEX.md")).expect("the vectors have an index");
-    let rows = index.lines().filter(|line| line.starts_with('|')).skip(2);
-    rows.map(|row| of_row(&folder, row)).collect()
+    let folder = Path::new(env!("CARGO_MANIFEST_DIR")).join("../../../crates/cases/data");
+    let words = fs::read_to_string(folder.join("vectors.txt")).expect("the vectors in words");
+    let packed = fs::read(folder.join("vectors")).expect("the vectors as bytes");
+    let mut rest = &packed[..];
+    let vectors = words.lines().filter_map(|line| line.strip_prefix("## ")).map(|name| next(name, &mut rest)).collect();
+    assert!(rest.is_empty(), "each vector has its name");
+    vectors
 }
 
-fn of_row(folder: &Path, row: &str) -> Vector {
-    let cells: Vec<&str> = row.split('|').map(str::trim).collect();
-    let [_, name, log_length, room, status, report_length, _] = cells[..] else { panic!("the index has five columns: {row}") };
-    let number = |cell: &str| cell.parse::<usize>().expect("a cell of the index is a number");
-    let bytes = |ending: &str, length: &str| {
-        let bytes = fs::read(folder.join(name).with_extension(ending)).expect("a vector has its log and its report");
-        assert_eq!(bytes.len(), number(length), "{name}.{ending}");
-        bytes
-    };
+/// Four numbers of two bytes, the lowest first: log bytes, room, status, report bytes; then the log and the report.
+fn next(name: &str, rest: &mut &[u8]) -> Vector {
+    let [log, room, status, report] = [(); 4].map(|()| usize::from(u16::from_le_bytes([taken(rest, 1)[0], taken(rest, 1)[0]])));
     Vector {
         name: name.to_string(),
-        log: bytes("log", log_length),
-        room: if room == "-" { PLENTY } else { number(room) },
-        status: number(status) as u64,
-        report: bytes("report", report_length),
+        log: taken(rest, log).to_vec(),
+        room,
+        status: status as u64,
+        report: taken(rest, report).to_vec(),
     }
+}
+
+fn taken<'a>(rest: &mut &'a [u8], length: usize) -> &'a [u8] {
+    let (front, behind) = rest.split_at(length);
+    *rest = behind;
+    front
 }
