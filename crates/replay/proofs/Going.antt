@@ -52,6 +52,7 @@ ask-of (Ask a) s b e = ap (λ (x : Step). Ask x) (sym e)
 ask-of Malformed s b e = let z : _≡_ {A = ℕ} 0 1 = cc in absurd (omega arith)
 
 module _ {log old : List ℕ} {m : Replayed} {at wrote : ℕ} {report : List ℕ} {w : Words} (g : Going log old m at wrote report w) where
+  -- the log is at its end
   pub ends : length log ≤ at → Leaves (record { status = 0; wrote = wrote }) report m old
   ends h = rw (g .rest, replay-ends (roomIn old) log at (some (view w)) (g .text) h, g .long, g .laid) (refl, omega arith, omega (arith, g .fits))
 
@@ -74,6 +75,7 @@ module _ {log old : List ℕ} {m : Replayed} {at wrote : ℕ} {report : List ℕ
       asks : d .command ≡ Ask s
       asks = ask-of (d .command) s b es
 
+      -- the next record is further on
       pub further : at < d .next
       further = read-on there (λ e. let z : _≡_ {A = Command} (Ask s) Malformed = sym asks ∙ e in let n : _≡_ {A = ℕ} 0 1 = cc in absurd (omega arith)) .0
 
@@ -105,11 +107,13 @@ module _ {log old : List ℕ} {m : Replayed} {at wrote : ℕ} {report : List ℕ
           lined : line ≡ writtenAt (shown (g .text) old) (length (g .text)) lineIs
           lined = rw (← g .laid, ← g .long, ← em) el
 
+          -- the line does not fit
           pub stops-full : line .wrote ≡ Full → Leaves (record { status = 10; wrote = wrote }) (line .report) m old
           stops-full q =
               let f = line-off old (g .text) lineIs (g .fits) line lined q in
               rw (turned, goes-full (roomIn old) (g .text) lineIs goes-to (f .full), f .report, g .long) (refl, omega arith, omega (arith, g .fits))
 
+          -- on, with the words that the step leaves
           pub goes : (end : ℕ) → line .wrote ≡ Next end → Going log old m (d .next) end (line .report) (after w (placeFor (w .txns) s) mv)
           goes end q =
               let f = line-on old (g .text) lineIs (g .fits) line lined end q in
