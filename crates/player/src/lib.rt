@@ -1,8 +1,7 @@
 // Plays a sequence of public steps that is written as a text, and tells whether every answer is the expected one.
-//
-// A step is its name and its numbers, then `:` and document 01's number and values of the answer, as `capture 3 6: 0 2;`.
 // After the values of rows come the rows. Names that document 01 has not change a word of the state, as `stamp 2 9: 0;`.
-use limits::MOST_LIVE;
+use changes::changed_machine;
+use changes::changed_table;
 use machine::abort;
 use machine::begin;
 use machine::capture;
@@ -17,14 +16,12 @@ use machine::rows;
 use machine::validate;
 use protocol::Answer;
 use protocol::Verdict;
+use script::Line;
+use script::MOST;
+use script::code;
+use script::line_of;
+use script::step_end;
 use shape::Machine;
-use tables::set_claim;
-use tables::set_head;
-use tables::set_holder;
-use tables::set_next;
-use tables::set_stamp;
-use tables::set_xmax;
-use tables::set_xmin;
 use tables::word;
 use turns::Turned;
 use turns::open;
@@ -41,211 +38,10 @@ const LISTS: usize = 4352;
 
 const FOUND: usize = 256;
 
-// The most numbers that a step, or an answer, has.
-const MOST: usize = 8;
-
-// One step as written: its name's first three letters as a number, its numbers, and those of the answer.
-struct Line {
-    name: u64,
-    value: u64,
-    digits: bool,
-    answered: bool,
-    numbers: [u64; MOST],
-    n: usize,
-    answer: [u64; MOST],
-    k: usize,
-}
-
 // An answer in numbers: document 01's number, and the values behind it.
 struct Told {
     numbers: [u64; MOST],
     k: usize,
-}
-
-// The byte at a place, 0 past the end.
-fn byte(text: &[u8], at: usize) -> u8 {
-    if at < text.len() {
-        return text[at];
-    }
-    0
-}
-
-// Three letters as a number.
-fn joined(a: u8, b: u8, c: u8) -> u64 {
-    a as u64 * 65536 + b as u64 * 256 + c as u64
-}
-
-fn code(text: &[u8]) -> u64 {
-    joined(byte(text, 0), byte(text, 1), byte(text, 2))
-}
-
-// Ten times a number and one digit more; it may wrap.
-fn longer(value: u64, digit: u64) -> u64 {
-    let two = std::num::wrapping_add_u64(value, value);
-    let four = std::num::wrapping_add_u64(two, two);
-    let eight = std::num::wrapping_add_u64(four, four);
-    std::num::wrapping_add_u64(std::num::wrapping_add_u64(eight, two), digit)
-}
-
-impl Line {
-    // A number ends: it goes behind those before it.
-    fn ended(self) -> Line {
-        let mut line = self;
-        let n = line.n;
-        let k = line.k;
-        if !line.digits {
-            return line;
-        }
-        line.digits = false;
-        line.value = 0;
-        if self.answered {
-            if k < MOST {
-                line.answer[k] = self.value;
-                line.k = k + 1;
-            }
-            return line;
-        }
-        if n < MOST {
-            line.numbers[n] = self.value;
-            line.n = n + 1;
-        }
-        line
-    }
-
-    // One byte more: a letter of the name, a digit, the colon before the answer, or a space.
-    fn with(self, c: u8) -> Line {
-        if c >= b'0' && c <= b'9' {
-            let mut line = self;
-            line.value = longer(self.value, (c - b'0') as u64);
-            line.digits = true;
-            return line;
-        }
-        if c >= b'a' && c <= b'z' {
-            let mut line = self;
-            if line.name < 65536 {
-                line.name = line.name * 256 + c as u64;
-            }
-            return line;
-        }
-        let mut line = self.ended();
-        if c == b':' {
-            line.answered = true;
-        }
-        line
-    }
-}
-
-fn empty() -> Line {
-    Line {
-        name: 0,
-        value: 0,
-        digits: false,
-        answered: false,
-        numbers: [0; MOST],
-        n: 0,
-        answer: [0; MOST],
-        k: 0,
-    }
-}
-
-// Where the step at a place ends: behind its `;`.
-fn step_end(text: &[u8], from: usize) -> usize {
-    let mut at = from;
-    while at < text.len() {
-        if text[at] == b';' {
-            return at + 1;
-        }
-        at += 1;
-    }
-    at
-}
-
-// The step that is written from a place up to another.
-fn line_of(text: &[u8], from: usize, to: usize) -> Line {
-    let mut line = empty();
-    let mut at = from;
-    while at < to {
-        line = line.with(byte(text, at));
-        at += 1;
-    }
-    line
-}
-
-// A change of the state that is no step: of a word of a table, or of the machine beside the tables.
-fn changed_table(
-    rows_table: &mut [u64],
-    versions: &mut [u64],
-    buckets: &mut [u64],
-    name: u64,
-    a: u64,
-    b: u64,
-) {
-    if name == code(b"head") {
-        set_head(rows_table, a as usize, b);
-        return;
-    }
-    if name == code(b"claim") {
-        set_claim(rows_table, a as usize, b);
-        return;
-    }
-    if name == code(b"xmin") {
-        set_xmin(versions, a as usize, b);
-        return;
-    }
-    if name == code(b"xmax") {
-        set_xmax(versions, a as usize, b);
-        return;
-    }
-    if name == code(b"next") {
-        set_next(versions, a as usize, b);
-        return;
-    }
-    if name == code(b"stamp") {
-        set_stamp(buckets, a as usize, b);
-        return;
-    }
-    if name == code(b"holder") {
-        set_holder(buckets, a as usize, b);
-        return;
-    }
-}
-
-fn changed_record(m: Machine, name: u64, place: usize, b: u64) -> Machine {
-    let mut txns = m.txns;
-    if place >= MOST_LIVE {
-        return m;
-    }
-    let mut t = txns[place];
-    if name == code(b"number") {
-        t.number = b;
-    }
-    if name == code(b"slot") {
-        if b < 8 {
-            t.slot = b as u32;
-        }
-    }
-    if name == code(b"least") {
-        let mut snapshot = t.snapshot;
-        snapshot.xmin = b;
-        t.snapshot = snapshot;
-    }
-    txns[place] = t;
-    let mut changed = m;
-    changed.txns = txns;
-    changed
-}
-
-fn changed_machine(m: Machine, name: u64, a: u64, b: u64) -> Machine {
-    let mut changed = m;
-    if name == code(b"clock") {
-        changed.clock = a;
-        return changed;
-    }
-    if name == code(b"used") {
-        changed.used = a;
-        return changed;
-    }
-    changed_record(m, name, a as usize, b)
 }
 
 // Prepare to abort; another name changes the state.

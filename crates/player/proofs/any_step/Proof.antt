@@ -8,10 +8,10 @@ slice-aggregate-code : tie.Need-slice-aggregate-code
 slice-aggregate-code c = search needs
 
 code-requires : tie.Need-code-requires
-code-requires c κs = search needs
+code-requires c κs = tt
 
 begin-requires : tie.Need-begin-requires
-begin-requires c κs = search needs
+begin-requires c κs = tt
 
 same-length : tie.Need-same-length
 same-length c = c .before .before .before .before .before .before .before .before .begin .kept .0
@@ -32,10 +32,10 @@ slice-aggregate-code-2 : tie.Need-slice-aggregate-code-2
 slice-aggregate-code-2 c = search needs
 
 code-requires-2 : tie.Need-code-requires-2
-code-requires-2 c κs = search needs
+code-requires-2 c κs = tt
 
 capture-requires : tie.Need-capture-requires
-capture-requires c κs = search needs
+capture-requires c κs = tt
 
 same-length-5 : tie.Need-same-length-5
 same-length-5 c = c .before .before .before .before .before .before .before .before .capture .kept .0
@@ -56,10 +56,10 @@ slice-aggregate-code-3 : tie.Need-slice-aggregate-code-3
 slice-aggregate-code-3 c = search needs
 
 code-requires-3 : tie.Need-code-requires-3
-code-requires-3 c κs = search needs
+code-requires-3 c κs = tt
 
 collect-requires : tie.Need-collect-requires
-collect-requires c κs = search needs
+collect-requires c κs = tt
 
 same-length-9 : tie.Need-same-length-9
 same-length-9 c = c .before .before .before .before .before .before .before .before .collect .kept .0
@@ -80,10 +80,10 @@ slice-aggregate-code-4 : tie.Need-slice-aggregate-code-4
 slice-aggregate-code-4 c = search needs
 
 code-requires-4 : tie.Need-code-requires-4
-code-requires-4 c κs = search needs
+code-requires-4 c κs = tt
 
 rows-requires : tie.Need-rows-requires
-rows-requires c κs = search needs
+rows-requires c κs = tt
 
 same-length-13 : tie.Need-same-length-13
 same-length-13 c = c .before .before .before .before .before .before .before .before .before .before .rows .kept .0
@@ -107,10 +107,10 @@ slice-aggregate-code-5 : tie.Need-slice-aggregate-code-5
 slice-aggregate-code-5 c = search needs
 
 code-requires-5 : tie.Need-code-requires-5
-code-requires-5 c κs = search needs
+code-requires-5 c κs = tt
 
 put-requires : tie.Need-put-requires
-put-requires c κs = search needs
+put-requires c κs = tt
 
 same-length-18 : tie.Need-same-length-18
 same-length-18 c = c .before .before .before .before .before .before .before .before .put .kept .0
@@ -131,10 +131,10 @@ slice-aggregate-code-6 : tie.Need-slice-aggregate-code-6
 slice-aggregate-code-6 c = search needs
 
 code-requires-6 : tie.Need-code-requires-6
-code-requires-6 c κs = search needs
+code-requires-6 c κs = tt
 
 erase-requires : tie.Need-erase-requires
-erase-requires c κs = search needs
+erase-requires c κs = tt
 
 same-length-22 : tie.Need-same-length-22
 same-length-22 c = c .before .before .before .before .before .before .before .before .erase .kept .0
@@ -152,7 +152,7 @@ returns-6 : tie.Need-returns-6
 returns-6 c = search needs
 
 later-step-requires : tie.Need-later-step-requires
-later-step-requires c κs = search needs
+later-step-requires c κs = tt
 
 same-length-26 : tie.Need-same-length-26
 same-length-26 c = c .before .before .before .before .before .before .before .before .later-step .kept .0

@@ -10,7 +10,7 @@ array-read-room-of : tie.Need-array-read-room-of
 array-read-room-of c = search needs
 
 room-of-requires : tie.Need-room-of-requires
-room-of-requires c κs = search needs
+room-of-requires c κs = tt
 
 slice-relend-prefix-any-step : tie.Need-slice-relend-prefix-any-step
 slice-relend-prefix-any-step c = search needs
@@ -31,7 +31,7 @@ array-read-any-step-4 : tie.Need-array-read-any-step-4
 array-read-any-step-4 c = search needs
 
 any-step-requires : tie.Need-any-step-requires
-any-step-requires c κs = search needs
+any-step-requires c κs = tt
 
 same-length : tie.Need-same-length
 same-length c = search needs

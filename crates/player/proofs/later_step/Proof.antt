@@ -8,10 +8,10 @@ slice-aggregate-code : tie.Need-slice-aggregate-code
 slice-aggregate-code c = search needs
 
 code-requires : tie.Need-code-requires
-code-requires c κs = search needs
+code-requires c κs = tt
 
 prepare-requires : tie.Need-prepare-requires
-prepare-requires c κs = search needs
+prepare-requires c κs = tt
 
 same-length : tie.Need-same-length
 same-length c = c .before .before .before .before .before .before .before .before .prepare .kept .0
@@ -32,10 +32,10 @@ slice-aggregate-code-2 : tie.Need-slice-aggregate-code-2
 slice-aggregate-code-2 c = search needs
 
 code-requires-2 : tie.Need-code-requires-2
-code-requires-2 c κs = search needs
+code-requires-2 c κs = tt
 
 install-requires : tie.Need-install-requires
-install-requires c κs = search needs
+install-requires c κs = tt
 
 same-length-5 : tie.Need-same-length-5
 same-length-5 c = c .before .before .before .before .before .before .before .before .install .kept .0
@@ -56,10 +56,10 @@ slice-aggregate-code-3 : tie.Need-slice-aggregate-code-3
 slice-aggregate-code-3 c = search needs
 
 code-requires-3 : tie.Need-code-requires-3
-code-requires-3 c κs = search needs
+code-requires-3 c κs = tt
 
 end-requires : tie.Need-end-requires
-end-requires c κs = search needs
+end-requires c κs = tt
 
 same-length-9 : tie.Need-same-length-9
 same-length-9 c = c .before .before .before .before .before .before .before .before .end .kept .0
@@ -80,10 +80,10 @@ slice-aggregate-code-4 : tie.Need-slice-aggregate-code-4
 slice-aggregate-code-4 c = search needs
 
 code-requires-4 : tie.Need-code-requires-4
-code-requires-4 c κs = search needs
+code-requires-4 c κs = tt
 
 publish-requires : tie.Need-publish-requires
-publish-requires c κs = search needs
+publish-requires c κs = tt
 
 same-length-13 : tie.Need-same-length-13
 same-length-13 c = c .before .before .before .before .before .before .before .before .publish .kept .0
@@ -104,10 +104,10 @@ slice-aggregate-code-5 : tie.Need-slice-aggregate-code-5
 slice-aggregate-code-5 c = search needs
 
 code-requires-5 : tie.Need-code-requires-5
-code-requires-5 c κs = search needs
+code-requires-5 c κs = tt
 
 validate-requires : tie.Need-validate-requires
-validate-requires c κs = search needs
+validate-requires c κs = tt
 
 same-length-17 : tie.Need-same-length-17
 same-length-17 c = c .before .before .before .before .before .before .before .before .validate .kept .0
@@ -128,10 +128,10 @@ slice-aggregate-code-6 : tie.Need-slice-aggregate-code-6
 slice-aggregate-code-6 c = search needs
 
 code-requires-6 : tie.Need-code-requires-6
-code-requires-6 c κs = search needs
+code-requires-6 c κs = tt
 
 abort-requires : tie.Need-abort-requires
-abort-requires c κs = search needs
+abort-requires c κs = tt
 
 same-length-21 : tie.Need-same-length-21
 same-length-21 c = c .before .before .before .before .before .before .before .before .abort .kept .0
@@ -149,10 +149,10 @@ returns-6 : tie.Need-returns-6
 returns-6 c = search needs
 
 changed-table-requires : tie.Need-changed-table-requires
-changed-table-requires c κs = search needs
+changed-table-requires c κs = tt
 
 changed-machine-requires : tie.Need-changed-machine-requires
-changed-machine-requires c κs = search needs
+changed-machine-requires c κs = tt
 
 same-length-25 : tie.Need-same-length-25
 same-length-25 c = c .before .before .before .before .before .before .before .changed-table .kept .0

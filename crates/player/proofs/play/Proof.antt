@@ -16,10 +16,10 @@ abbrev μ-loop : tie.MeasureT-loop
 μ-loop name text rows-table₀ versions₀ buckets₀ lists₀ found₀ at₀ m₀ step₀ t21 rows-table versions buckets lists found at m step = length text - at
 
 step-end-requires : tie.Need-step-end-requires Inv-loop μ-loop
-step-end-requires c κs = search needs
+step-end-requires c κs = tt
 
 line-of-requires : tie.Need-line-of-requires Inv-loop μ-loop
-line-of-requires c κs = search needs
+line-of-requires c κs = tt
 
 slice-aggregate-open : tie.Need-slice-aggregate-open Inv-loop μ-loop
 slice-aggregate-open c = search needs
@@ -46,22 +46,22 @@ array-read-open-4 : tie.Need-array-read-open-4 Inv-loop μ-loop
 array-read-open-4 c = search needs
 
 open-requires : tie.Need-open-requires Inv-loop μ-loop
-open-requires c κs = search needs
+open-requires c κs = tt
 
 write-all-requires : tie.Need-write-all-requires Inv-loop μ-loop
-write-all-requires c κs = search needs
+write-all-requires c κs = tt
 
 slice-aggregate-in-numbers : tie.Need-slice-aggregate-in-numbers Inv-loop μ-loop
 slice-aggregate-in-numbers c = search needs
 
 in-numbers-requires : tie.Need-in-numbers-requires Inv-loop μ-loop
-in-numbers-requires c κs = search needs
+in-numbers-requires c κs = tt
 
 expected-requires : tie.Need-expected-requires Inv-loop μ-loop
-expected-requires c κs = search needs
+expected-requires c κs = tt
 
 differed-requires : tie.Need-differed-requires Inv-loop μ-loop
-differed-requires c κs = search needs
+differed-requires c κs = tt
 
 returns : tie.Need-returns Inv-loop μ-loop
 returns c = search needs
@@ -70,10 +70,10 @@ loop-holds : tie.Need-loop-holds Inv-loop μ-loop
 loop-holds c = search needs
 
 step-end-requires-2 : tie.Need-step-end-requires-2 Inv-loop μ-loop
-step-end-requires-2 c κs = search needs
+step-end-requires-2 c κs = tt
 
 line-of-requires-2 : tie.Need-line-of-requires-2 Inv-loop μ-loop
-line-of-requires-2 c κs = search needs
+line-of-requires-2 c κs = tt
 
 slice-aggregate-asked : tie.Need-slice-aggregate-asked Inv-loop μ-loop
 slice-aggregate-asked c = search needs
@@ -91,22 +91,22 @@ slice-aggregate-asked-5 : tie.Need-slice-aggregate-asked-5 Inv-loop μ-loop
 slice-aggregate-asked-5 c = search needs
 
 asked-requires : tie.Need-asked-requires Inv-loop μ-loop
-asked-requires c κs = search needs
+asked-requires c κs = tt
 
 slice-aggregate-in-numbers-2 : tie.Need-slice-aggregate-in-numbers-2 Inv-loop μ-loop
 slice-aggregate-in-numbers-2 c = sym (c .before .before .before .before .before .before .before .asked .kept .1 .1 .1 .1 .0 ∙ c .before .before .before .before .before .before .before .before .before .before .before .before .before .before .before .before .loop .inv .4)
 
 in-numbers-requires-2 : tie.Need-in-numbers-requires-2 Inv-loop μ-loop
-in-numbers-requires-2 c κs = search needs
+in-numbers-requires-2 c κs = tt
 
 wrapping-add-u64-requires : tie.Need-wrapping-add-u64-requires Inv-loop μ-loop
-wrapping-add-u64-requires c κs = search needs
+wrapping-add-u64-requires c κs = tt
 
 expected-requires-2 : tie.Need-expected-requires-2 Inv-loop μ-loop
-expected-requires-2 c κs = search needs
+expected-requires-2 c κs = tt
 
 differed-requires-2 : tie.Need-differed-requires-2 Inv-loop μ-loop
-differed-requires-2 c κs = search needs
+differed-requires-2 c κs = tt
 
 returns-2 : tie.Need-returns-2 Inv-loop μ-loop
 returns-2 c = search needs
@@ -124,7 +124,7 @@ slice-aggregate-write-all : tie.Need-slice-aggregate-write-all Inv-loop μ-loop
 slice-aggregate-write-all c = search needs
 
 write-all-requires-2 : tie.Need-write-all-requires-2 Inv-loop μ-loop
-write-all-requires-2 c κs = search needs
+write-all-requires-2 c κs = tt
 
 returns-4 : tie.Need-returns-4 Inv-loop μ-loop
 returns-4 c = search needs

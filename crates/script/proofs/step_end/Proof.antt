@@ -1,10 +1,10 @@
--- `player::step_end` meets its contract.
+-- `script::step_end` meets its contract.
 -- Assumes nothing.
 use borrow.Author.Needs.{needs}
 use Prim.Native.Nat.{_≤_, _-_}
 use lib.ListN.{length}
-use Rattle.player.proofs.step_end.Statement.{statement}
-use Rattle.player.proofs.step_end.Tie as tie
+use Rattle.script.proofs.step_end.Statement.{statement}
+use Rattle.script.proofs.step_end.Tie as tie
 
 abbrev Inv-loop : tie.InvT-loop
 Inv-loop text from at₀ at =

@@ -1,9 +1,9 @@
--- `player::line_of` meets its contract.
+-- `script::line_of` meets its contract.
 -- Assumes nothing.
 use borrow.Author.Needs.{needs}
 use Prim.Native.Nat.{_≤_, _-_}
-use Rattle.player.proofs.line_of.Statement.{statement}
-use Rattle.player.proofs.line_of.Tie as tie
+use Rattle.script.proofs.line_of.Statement.{statement}
+use Rattle.script.proofs.line_of.Tie as tie
 
 abbrev Inv-loop : tie.InvT-loop
 Inv-loop text from to line₀ at₀ line at =
