@@ -2,20 +2,16 @@
 // After the values of rows come the rows. Names that document 01 has not change a word of the state, as `stamp 2 9: 0;`.
 use changes::changed_machine;
 use changes::changed_table;
-use machine::abort;
-use machine::begin;
-use machine::capture;
-use machine::collect;
-use machine::end;
-use machine::erase;
-use machine::install;
-use machine::prepare;
-use machine::publish;
-use machine::put;
-use machine::rows;
-use machine::validate;
+use finishing::abort;
+use finishing::end;
+use finishing::install;
+use finishing::publish;
 use protocol::Answer;
 use protocol::Verdict;
+use reading::begin;
+use reading::capture;
+use reading::collect;
+use reading::rows;
 use script::Line;
 use script::MOST;
 use script::code;
@@ -25,6 +21,10 @@ use shape::Machine;
 use tables::word;
 use turns::Turned;
 use turns::open;
+use writing::erase;
+use writing::prepare;
+use writing::put;
+use writing::validate;
 ghost use Prim.Native.Nat.{_≤_};
 
 // Words of the lent tables: 256 rows, 511 versions, 64 buckets, and the lists of eight transactions.

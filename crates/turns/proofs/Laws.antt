@@ -22,7 +22,7 @@ use Rattle.bridge.proofs.Places.{default-any}
 use Rattle.shape.specs.Shape.{tablesLent, tablesFit, shapeOf, wordsOf}
 use Rattle.shape.specs.declared.Machine.{Machine}
 use Rattle.turns.specs.declared.Turned.{Turned}
-use Rattle.turns.specs.Turns.{left, turnOf, placedOf, cleared}
+use Rattle.turns.specs.Turns.{Left, left, turnOf, placedOf, cleared}
 
 -- the list lent for the rows of a read is no part of the shape
 pub shape-found : (rows versions buckets lists found : List ℕ) (m : Machine) → shapeOf (wordsOf rows versions buckets lists found m) ≡ shapeOf (wordsOf rows versions buckets lists [] m)
@@ -81,3 +81,8 @@ module _ (rows versions buckets lists : List ℕ) (z : Sizes) (e : tablesLent ro
 
   pub buckets-lent : 2 * z .buckets ≤ length buckets
   buckets-lent = leb-true _ _ (and-r (leb (4 * z .rows) (length rows) && leb (6 * suc (z .versions)) (length versions)) (leb (2 * z .buckets) (length buckets)) three)
+
+-- an empty list that was lent comes back empty
+pub lent-none : (r : Turned) (rows versions buckets lists found : List ℕ) (x : Left) → length found ≡ 0 → left r rows versions buckets lists found ≡ x → left r rows versions buckets lists [] ≡ x
+lent-none r rows versions buckets lists [] x n e = e
+lent-none r rows versions buckets lists (y ∷ found) x n e = absurd (omega arith)

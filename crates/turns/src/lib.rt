@@ -175,3 +175,19 @@ pub fn turn(
     );
     placed(m, p, done)
 }
+
+// A step that finds no rows needs no list for them.
+pub fn turn_without_list(
+    rows_table: &mut [u64],
+    versions: &mut [u64],
+    buckets: &mut [u64],
+    lists: &mut [u64],
+    m: Machine,
+    s: Step,
+) -> Turned
+    ensures { λ r. ⌜ left r (now («rows_table» .exit)) (now (versions .exit)) (now (buckets .exit)) (now (lists .exit)) []
+        ≡ turnOf (wordsOf (now («rows_table» .entry)) (now (versions .entry)) (now (buckets .entry)) (now (lists .entry)) [] m) s ⌝ }
+{
+    let mut none = [0u64; 0];
+    turn(rows_table, versions, buckets, lists, &mut none, m, s)
+}
