@@ -32,7 +32,8 @@ use Rattle.record.specs.declared.Phase.the-variants as phase
 use Rattle.record.specs.declared.Transaction.{Transaction}
 use Rattle.install.specs.Install.{oneMore}
 use Rattle.begin.specs.Begin.{keptNone, snapshotOf, spent, begunOf, refusedBegin, beginOf}
-use Rattle.steps.specs.Steps.{activeNumber, liveIn, missesOf, stepOf, withBegun, stays}
+use Rattle.places.specs.Places.{activeNumber, liveIn, missesOf}
+use Rattle.steps.specs.Steps.{stepOf, withBegun, stays}
 use Rattle.steps.specs.Words.{Words, view, txnAt, othersIn, placeFor, movedBy, SizedTxn, Sized}
 use Rattle.bridge.proofs.Places.{default-any, standing, number-at, numbers-eight, there, nowhere, not-there, sized-at}
 use Rattle.bridge.proofs.Placed.{txns-set, sized-set}

@@ -17,7 +17,7 @@ use Rattle.model.specs.Refusals.{placeOf}
 use Rattle.protocol.specs.declared.Step.{Step}
 use Rattle.record.specs.Methods.{idleOf}
 use Rattle.record.specs.declared.Transaction.{Transaction}
-use Rattle.steps.specs.Steps.{placeFrom, wantedOf}
+use Rattle.places.specs.Places.{placeFrom, wantedOf}
 use Rattle.steps.specs.Words.{Words, view, txnAt, placeFor, SizedTxn, Sized}
 
 module _ (test : ℕ → Bool) where

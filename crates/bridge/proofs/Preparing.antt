@@ -34,7 +34,8 @@ use Rattle.holders.specs.Needs.{pushAll, rowsWritten}
 use Rattle.holders.specs.Holders.{anyTaken, anyClaimed, holdAll, claimAll}
 use Rattle.prepare.specs.Prepare.{isClear, distinctIn, reservedIn, lacks, neededInto, left, prepareWith, prepareOf}
 use Rattle.install.specs.Install.{rowsListed, pendingInto}
-use Rattle.steps.specs.Steps.{preparedCount, inPrepared}
+use Rattle.places.specs.Places.{preparedCount}
+use Rattle.steps.specs.Steps.{inPrepared}
 use Rattle.steps.specs.Words.{Words, sizesView, view, txnAt, othersIn, Sized}
 use Rattle.bridge.proofs.Places.{standing, sized-at}
 use Rattle.bridge.proofs.Placed.{txns-set, sized-set}

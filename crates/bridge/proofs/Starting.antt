@@ -19,7 +19,7 @@ use Rattle.model.proofs.ListLaws.{pick-few}
 use Rattle.model.specs.Seeing.{active}
 use Rattle.begin.specs.Begin.{lower, keepActive, keepAll}
 use Rattle.begin.specs.declared.Kept.{Kept}
-use Rattle.steps.specs.Steps.{liveFrom}
+use Rattle.places.specs.Places.{liveFrom}
 
 -- the numbers that are not 0
 unfoldable pub nonzero : List ℕ → List ℕ

@@ -16,7 +16,7 @@ use Rattle.protocol.specs.declared.Verdict.the-variants as verdict
 use Rattle.protocol.specs.declared.Answer.{Answer}
 use Rattle.protocol.specs.declared.Answer.the-variants as tell
 use Rattle.protocol.specs.View.{asked, told}
-use Rattle.steps.specs.declared.Sizes.{Sizes}
+use Rattle.places.specs.declared.Sizes.{Sizes}
 use Rattle.steps.specs.Words.{Words, sizesView, view}
 use Rattle.turns.specs.Turns.{openOf}
 use Rattle.promises.proofs.Opened.{open-stands, open-view}

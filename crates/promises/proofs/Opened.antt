@@ -15,7 +15,7 @@ use Rattle.model.proofs.ListLaws.{and-r}
 use Rattle.protocol.specs.declared.Answer.the-variants as tell
 use Rattle.tables.specs.Fields.{rowWords, versionWords, bucketWords}
 use Rattle.tables.specs.Lists.{listsWords}
-use Rattle.steps.specs.declared.Sizes.{Sizes}
+use Rattle.places.specs.declared.Sizes.{Sizes}
 use Rattle.steps.specs.Words.{Words, sizesView, view}
 use Rattle.bridge.proofs.Running.{Stands}
 use Rattle.bridge.proofs.Opening.{Opened, opened-view, opened-stands}

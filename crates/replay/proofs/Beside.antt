@@ -8,8 +8,9 @@ use lib.ListN.{length, getD, set}
 use Rattle.protocol.specs.declared.Step.{Step}
 use Rattle.record.specs.Methods.{idleOf}
 use Rattle.record.specs.declared.Transaction.{Transaction}
-use Rattle.steps.specs.declared.Others.{Others}
-use Rattle.steps.specs.Steps.{wantedOf, placeIn, activeNumber, preparedCount, Moved, stepOf}
+use Rattle.places.specs.declared.Others.{Others}
+use Rattle.places.specs.Places.{wantedOf, placeIn, activeNumber, preparedCount}
+use Rattle.steps.specs.Steps.{Moved, stepOf}
 use Rattle.steps.specs.Words.{Words, othersIn, placeFor, movedBy}
 use Rattle.bridge.proofs.Places.{default-any}
 

@@ -11,7 +11,7 @@ use lib.Seq.{take-append-seam, drop-append-add, drop-drop}
 use Rattle.model.specs.Store.{fresh}
 use Rattle.model.specs.Machine.{canOpen}
 use Rattle.model.specs.Replay.{Replayed, malformed, opens, replay}
-use Rattle.steps.specs.declared.Sizes.{Sizes}
+use Rattle.places.specs.declared.Sizes.{Sizes}
 use Rattle.steps.specs.Words.{sizesView}
 use Rattle.log.specs.declared.Command.{Command}
 use Rattle.log.specs.declared.Command.the-variants.{Open, Ask, Malformed}

@@ -15,7 +15,7 @@ use Rattle.model.specs.Machine.{canOpen}
 use Rattle.model.proofs.ListLaws.{and-l, and-r}
 use Rattle.tables.specs.Fields.{rowWords, versionWords, bucketWords}
 use Rattle.record.specs.declared.Transaction.{Transaction}
-use Rattle.steps.specs.declared.Sizes.{Sizes}
+use Rattle.places.specs.declared.Sizes.{Sizes}
 use Rattle.steps.specs.Words.{Words, sizesView, freePlaces}
 use Rattle.bridge.proofs.Opening.{Opened, opened-view, opened-stands}
 use Rattle.replay.specs.Replay.{Zeroed, openedFrom}

@@ -13,7 +13,7 @@ use Rattle.tables.specs.Fields.{rowWords, versionWords, bucketWords}
 use Rattle.tables.specs.Lists.{listsWords}
 use Rattle.protocol.specs.declared.Step.{Step}
 use Rattle.protocol.specs.declared.Step.the-variants as ask
-use Rattle.steps.specs.declared.Sizes.{Sizes}
+use Rattle.places.specs.declared.Sizes.{Sizes}
 use Rattle.steps.specs.Words.{sizesView}
 use Rattle.log.specs.declared.Command.{Command}
 use Rattle.log.specs.declared.Command.the-variants as command

@@ -34,8 +34,8 @@ use Rattle.record.specs.declared.Transaction.{Transaction}
 use Rattle.holders.specs.Needs.{pushAll, rowsWritten}
 use Rattle.install.specs.Install.{rowsListed, pendingInto}
 use Rattle.prepare.specs.Prepare.{distinctIn, reservedIn}
-use Rattle.steps.specs.declared.Sizes.{Sizes}
-use Rattle.steps.specs.Steps.{preparedCount, liveIn}
+use Rattle.places.specs.declared.Sizes.{Sizes}
+use Rattle.places.specs.Places.{preparedCount, liveIn}
 use Rattle.steps.specs.Words.{Words, sizesView, txnAt, view, othersIn}
 use Rattle.bridge.proofs.Places.{number-at}
 use Rattle.bridge.proofs.Starting.{nonzero, pick-nonzero, live-nonzero}

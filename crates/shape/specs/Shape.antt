@@ -11,7 +11,7 @@ use Rattle.tables.specs.Fields.{rowWords, versionWords, bucketWords}
 use Rattle.tables.specs.Lists.{listsWords}
 use Rattle.record.specs.Methods.{idleOf}
 use Rattle.record.specs.declared.Transaction.{Transaction}
-use Rattle.steps.specs.declared.Sizes.{Sizes}
+use Rattle.places.specs.declared.Sizes.{Sizes}
 use Rattle.steps.specs.Words.{Words, view}
 use Rattle.shape.specs.declared.Machine.{Machine}
 

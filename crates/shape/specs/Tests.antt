@@ -13,7 +13,7 @@ use Rattle.tables.specs.Lists.{readAt, writeAt, recordAt, candidateAt}
 use Rattle.record.specs.View.{phaseView}
 use Rattle.record.specs.Methods.{idleOf}
 use Rattle.record.specs.declared.Transaction.{Transaction}
-use Rattle.steps.specs.declared.Sizes.{Sizes}
+use Rattle.places.specs.declared.Sizes.{Sizes}
 
 -- heads at most the last used pointer; each next below its own pointer
 abbrev pub headsIn : List ℕ → ℕ → ℕ → Bool

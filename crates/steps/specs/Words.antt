@@ -12,9 +12,10 @@ use Rattle.tables.specs.Lists.{listsWords}
 use Rattle.record.specs.View.{rowsPart, versionsPart, bucketsPart, chainsView, indexView, heldView, txnView}
 use Rattle.record.specs.Methods.{idleOf}
 use Rattle.record.specs.declared.Transaction.{Transaction}
-use Rattle.steps.specs.declared.Sizes.{Sizes}
-use Rattle.steps.specs.declared.Others.{Others}
-use Rattle.steps.specs.Steps.{wantedOf, placeIn, activeNumber, preparedCount, Tables, Moved, stepOf}
+use Rattle.places.specs.declared.Sizes.{Sizes}
+use Rattle.places.specs.declared.Others.{Others}
+use Rattle.places.specs.Places.{wantedOf, placeIn, activeNumber, preparedCount}
+use Rattle.steps.specs.Steps.{Tables, Moved, stepOf}
 
 -- the tables, the eight records, and the numbers beside them
 pub record Words : Type 0 where

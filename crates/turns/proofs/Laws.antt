@@ -14,9 +14,10 @@ use Rattle.model.proofs.ListLaws.{and-l, and-r}
 use Rattle.protocol.specs.declared.Step.{Step}
 use Rattle.record.specs.Methods.{idleOf}
 use Rattle.record.specs.declared.Transaction.{Transaction}
-use Rattle.steps.specs.declared.Sizes.{Sizes}
-use Rattle.steps.specs.declared.Others.{Others}
-use Rattle.steps.specs.Steps.{wantedOf, placeIn, Moved, stepOf}
+use Rattle.places.specs.declared.Sizes.{Sizes}
+use Rattle.places.specs.declared.Others.{Others}
+use Rattle.places.specs.Places.{wantedOf, placeIn}
+use Rattle.steps.specs.Steps.{Moved, stepOf}
 use Rattle.steps.specs.Words.{othersIn, placeFor, movedBy}
 use Rattle.bridge.proofs.Places.{default-any}
 use Rattle.shape.specs.Shape.{tablesLent, tablesFit, shapeOf, wordsOf}

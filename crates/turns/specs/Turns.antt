@@ -8,7 +8,7 @@ use Rattle.protocol.specs.declared.Step.{Step}
 use Rattle.protocol.specs.declared.Answer.{Answer}
 use Rattle.protocol.specs.declared.Answer.the-variants as tell
 use Rattle.tables.specs.Fields.{rowWords, versionWords, bucketWords}
-use Rattle.steps.specs.declared.Sizes.{Sizes}
+use Rattle.places.specs.declared.Sizes.{Sizes}
 use Rattle.steps.specs.declared.Stepped.{Stepped}
 use Rattle.steps.specs.Words.{Words, sizesView, freePlaces, movedBy, wordsAfter}
 use Rattle.shape.specs.Shape.{tablesLent, shapeOf, wordsOf}

@@ -1,6 +1,9 @@
 // Open, and any step of a machine: the shape first, 16 where it is wrong; then the step of the transaction that it names.
 use opening::can_open;
 use opening::free_places;
+use places::Sizes;
+use places::place_of;
+use places::wanted;
 use protocol::Answer;
 use protocol::Step;
 use protocol::WRONG_SHAPE;
@@ -9,11 +12,8 @@ use shape::Machine;
 use shape::others_of;
 use shape::right_shape;
 use shape::tables_lent;
-use steps::Sizes;
 use steps::Stepped;
-use steps::place_of;
 use steps::step;
-use steps::wanted;
 use tables::BUCKET_WORDS;
 use tables::ROW_WORDS;
 use tables::VERSION_WORDS;

@@ -6,7 +6,7 @@ use Prim.Native.Nat.{_≤_, _-_}
 use native.Mathlib.Omega.{arith}
 use lib.ListN.{length, take, length-set}
 use Rattle.record.specs.declared.Transaction.{Transaction}
-use Rattle.steps.specs.Steps.{activeNumber, preparedCount}
+use Rattle.places.specs.Places.{activeNumber, preparedCount}
 use Rattle.steps.specs.Words.{othersIn}
 use Rattle.shape.proofs.Laws.{filled-next, filled-all}
 use Rattle.shape.proofs.others_of.Statement.{statement}

@@ -8,8 +8,8 @@ use lib.ListN.{length, length-map}
 use borrow.Author.Tests.{le-leb, lt-leb, not-true, not-false}
 use Rattle.limits.specs.Limits.{lastNumber}
 use Rattle.prepare.specs.Prepare.{reservedIn}
-use Rattle.steps.specs.declared.Others.{Others}
-use Rattle.steps.specs.Steps.{liveIn}
+use Rattle.places.specs.declared.Others.{Others}
+use Rattle.places.specs.Places.{liveIn}
 use Rattle.steps.specs.Words.{othersIn}
 use Rattle.shape.specs.Shape.{tablesFit, wordsOf}
 use Rattle.shape.specs.Tests.{allDistinct}

@@ -1,9 +1,9 @@
--- `steps::wanted` meets its contract.
+-- `places::wanted` meets its contract.
 -- Assumes nothing.
 use borrow.Author.Needs.{needs}
 use Prim.Native.Nat.{_-_}
-use Rattle.steps.proofs.wanted.Statement.{statement}
-use Rattle.steps.proofs.wanted.Tie as tie
+use Rattle.places.proofs.wanted.Statement.{statement}
+use Rattle.places.proofs.wanted.Tie as tie
 
 enum-told : tie.Need-enum-told
 enum-told c = search needs

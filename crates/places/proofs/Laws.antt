@@ -9,7 +9,7 @@ use native.Mathlib.Numerals.{add-one}
 use lib.Dec.{eqb}
 use lib.ListN.{length, drop, getD, drop-of-length-le}
 use lib.Seq.{drop-cons}
-use Rattle.steps.specs.Steps.{placeFrom, oneLive, liveFrom}
+use Rattle.places.specs.Places.{placeFrom, oneLive, liveFrom}
 
 module _ (l : List ℕ) (i : ℕ) where
   pub place-next : (n : ℕ) → i < length l → placeFrom i (drop i l) n ≡ cond (eqb (getD l i 0) n) i (placeFrom (i + 1) (drop (i + 1) l) n)

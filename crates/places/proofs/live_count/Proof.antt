@@ -1,14 +1,14 @@
--- `steps::live_count` meets its contract.
+-- `places::live_count` meets its contract.
 -- Assumes nothing.
 use borrow.Author.Needs.{needs}
 use mathlib.Core.Path.{_≡_, refl, sym, _∙_}
 use Prim.Native.Nat.{_≤_, _-_, _+_}
 use native.Mathlib.Omega.{arith}
 use lib.ListN.{length, drop, getD}
-use Rattle.steps.specs.Steps.{liveFrom, liveIn}
-use Rattle.steps.proofs.Laws.{live-next, live-end, live-one}
-use Rattle.steps.proofs.live_count.Statement.{statement}
-use Rattle.steps.proofs.live_count.Tie as tie
+use Rattle.places.specs.Places.{liveFrom, liveIn}
+use Rattle.places.proofs.Laws.{live-next, live-end, live-one}
+use Rattle.places.proofs.live_count.Statement.{statement}
+use Rattle.places.proofs.live_count.Tie as tie
 
 abbrev Inv-loop : tie.InvT-loop
 Inv-loop numbers n₀ i₀ n i =

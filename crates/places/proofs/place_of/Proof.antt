@@ -1,4 +1,4 @@
--- `steps::place_of` meets its contract.
+-- `places::place_of` meets its contract.
 -- Assumes nothing.
 use borrow.Author.Tests.{eq-eqb, ne-eqb}
 use borrow.Author.Needs.{needs}
@@ -6,10 +6,10 @@ use mathlib.Core.Path.{_≡_, refl, _∙_}
 use Prim.Native.Nat.{_≤_, _-_}
 use native.Mathlib.Omega.{arith}
 use lib.ListN.{length, drop}
-use Rattle.steps.specs.Steps.{placeFrom, placeIn}
-use Rattle.steps.proofs.Laws.{place-next, place-end}
-use Rattle.steps.proofs.place_of.Statement.{statement}
-use Rattle.steps.proofs.place_of.Tie as tie
+use Rattle.places.specs.Places.{placeFrom, placeIn}
+use Rattle.places.proofs.Laws.{place-next, place-end}
+use Rattle.places.proofs.place_of.Statement.{statement}
+use Rattle.places.proofs.place_of.Tie as tie
 
 abbrev Inv-loop : tie.InvT-loop
 Inv-loop number numbers i₀ i =

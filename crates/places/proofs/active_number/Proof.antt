@@ -1,10 +1,10 @@
--- `steps::active_number` meets its contract.
+-- `places::active_number` meets its contract.
 -- Assumes nothing.
 use borrow.Author.Tests.{eq-eqb, ne-eqb}
 use borrow.Author.Needs.{needs}
 use Prim.Native.Nat.{_-_}
-use Rattle.steps.proofs.active_number.Statement.{statement}
-use Rattle.steps.proofs.active_number.Tie as tie
+use Rattle.places.proofs.active_number.Statement.{statement}
+use Rattle.places.proofs.active_number.Tie as tie
 
 phase-rank-requires : tie.Need-phase-rank-requires
 phase-rank-requires c κs = search needs

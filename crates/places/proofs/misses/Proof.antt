@@ -1,11 +1,11 @@
--- `steps::misses` meets its contract.
+-- `places::misses` meets its contract.
 -- Assumes nothing.
 use borrow.Author.Tests.{eq-eqb, ne-eqb}
 use borrow.Author.Needs.{needs}
 use Prim.Native.Nat.{_-_}
-use Rattle.steps.specs.Steps.{missesOf}
-use Rattle.steps.proofs.misses.Statement.{statement}
-use Rattle.steps.proofs.misses.Tie as tie
+use Rattle.places.specs.Places.{missesOf}
+use Rattle.places.proofs.misses.Statement.{statement}
+use Rattle.places.proofs.misses.Tie as tie
 
 wanted-requires : tie.Need-wanted-requires
 wanted-requires c κs = search needs

@@ -1,10 +1,10 @@
--- `steps::prepared_count` meets its contract.
+-- `places::prepared_count` meets its contract.
 -- Assumes nothing.
 use borrow.Author.Tests.{eq-eqb, ne-eqb}
 use borrow.Author.Needs.{needs}
 use Prim.Native.Nat.{_-_}
-use Rattle.steps.proofs.prepared_count.Statement.{statement}
-use Rattle.steps.proofs.prepared_count.Tie as tie
+use Rattle.places.proofs.prepared_count.Statement.{statement}
+use Rattle.places.proofs.prepared_count.Tie as tie
 
 returns : tie.Need-returns
 returns c = rw (eq-eqb _ _ (c .if1 .taken))
