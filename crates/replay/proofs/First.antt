@@ -22,8 +22,10 @@ use Rattle.lines.specs.declared.Wrote.the-variants.{Next, Full}
 use Rattle.lines.specs.Lines.{Written, writtenAt}
 use Rattle.lines.proofs.Reported.{shown, shown-long}
 use Rattle.report.specs.Lines.{badLine, openLine}
-use Rattle.replay.specs.declared.Stopped.{Stopped}
-use Rattle.replay.specs.Replay.{isOpen, sizesOf, clockOf, Left, malformedAt, unopenedAt, leftBy, Leaves, openedFrom}
+use Rattle.stops.specs.declared.Stopped.{Stopped}
+use Rattle.commands.specs.Commands.{isOpen, sizesOf, clockOf}
+use Rattle.stops.specs.Stops.{Left, malformedAt, unopenedAt}
+use Rattle.replay.specs.Replay.{leftBy, Leaves, openedFrom}
 use Rattle.replay.proofs.Turning.{onward, replay-ends, replay-reads, replay-grows, goes-on, goes-full}
 use Rattle.replay.proofs.Lining.{roomIn, On, line-on, line-off, last-line}
 

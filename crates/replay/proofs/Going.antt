@@ -32,7 +32,9 @@ use Rattle.lines.specs.Lines.{Written, writtenAt}
 use Rattle.lines.proofs.Reported.{shown}
 use Rattle.report.specs.Lines.{badLine, lineFor}
 use Rattle.report.proofs.Answers.{line-told}
-use Rattle.replay.specs.Replay.{isAsk, stepOf, Left, malformedAt, Leaves}
+use Rattle.commands.specs.Commands.{isAsk, stepOf}
+use Rattle.stops.specs.Stops.{Left, malformedAt}
+use Rattle.replay.specs.Replay.{Leaves}
 use Rattle.replay.proofs.Turning.{onward, replay-ends, replay-reads, goes-on, goes-full}
 use Rattle.replay.proofs.Lining.{roomIn, line-on, line-off, last-line}
 

@@ -12,7 +12,8 @@ use Rattle.model.specs.Replay.{stops, writeThen, mostRoom}
 use Rattle.lines.specs.declared.Wrote.the-variants.{Next, Full}
 use Rattle.lines.specs.Lines.{Written, writtenAt}
 use Rattle.lines.proofs.Reported.{shown, written-on, written-stop}
-use Rattle.replay.specs.Replay.{Left, stopWith, Leaves}
+use Rattle.stops.specs.Stops.{Left, stopWith}
+use Rattle.replay.specs.Replay.{Leaves}
 use Rattle.replay.proofs.Turning.{goes-on, goes-full}
 
 -- the room that is used

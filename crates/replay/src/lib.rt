@@ -1,10 +1,14 @@
 // A log replayed into a report: the one function that a host calls.
+use commands::clock_of;
+use commands::is_ask;
+use commands::is_open;
+use commands::sizes_of;
+use commands::step_of;
 use limits::MOST_BUCKETS;
 use limits::MOST_LIVE;
 use limits::MOST_ROWS;
 use limits::MOST_VERSIONS;
 use lines::Wrote;
-use log::Command;
 use log::read_at;
 use opening::can_open;
 use opening::free_places;
@@ -14,14 +18,13 @@ use places::active_number;
 use places::place_of;
 use places::prepared_count;
 use places::wanted;
-use protocol::MALFORMED;
 use protocol::NO_ROOM;
-use protocol::Step;
-use protocol::WRONG_SIZE;
 use report::answer_line;
-use report::bad_line;
 use report::open_line;
 use steps::step;
+use stops::Stopped;
+use stops::stop_malformed;
+use stops::stop_unopened;
 use tables::BUCKET_WORDS;
 use tables::ROW_WORDS;
 use tables::VERSION_WORDS;
@@ -33,139 +36,10 @@ ghost use lib.ListN.{length};
 ghost use Rattle.model.specs.Machine.{canOpen};
 ghost use Rattle.model.specs.Replay.{replay, packed, reported, mostRoom};
 ghost use Rattle.steps.specs.Words.{sizesView};
-ghost use Rattle.replay.specs.Replay.{isOpen, isAsk, sizesOf, clockOf, stepOf, stopAfter, malformedAt, unopenedAt, Leaves, Zeroed, openedFrom};
+ghost use Rattle.replay.specs.Replay.{Leaves, Zeroed, openedFrom};
 
 // The status stands above this, the bytes written below it.
 const HALF: u64 = 4294967296;
-
-// How a replay stops: its status, and how many bytes of the report it wrote.
-struct Stopped {
-    status: u64,
-    wrote: usize,
-}
-
-// Whether a record asks for a store.
-fn is_open(command: Command) -> bool
-    ensures { λ r. ⌜ r ≡ isOpen command ⌝ }
-{
-    match command {
-        Command::Open {
-            rows: _,
-            versions: _,
-            buckets: _,
-            clock: _,
-        } => true,
-        Command::Ask(_) => false,
-        Command::Malformed => false,
-    }
-}
-
-// Whether a record asks for a step.
-fn is_ask(command: Command) -> bool
-    ensures { λ r. ⌜ r ≡ isAsk command ⌝ }
-{
-    match command {
-        Command::Open {
-            rows: _,
-            versions: _,
-            buckets: _,
-            clock: _,
-        } => false,
-        Command::Ask(_) => true,
-        Command::Malformed => false,
-    }
-}
-
-// The sizes that an open asks for, and its clock; 0 where it is none.
-fn sizes_of(command: Command) -> Sizes
-    ensures { λ r. ⌜ r ≡ sizesOf command ⌝ }
-{
-    match command {
-        Command::Open {
-            rows,
-            versions,
-            buckets,
-            clock: _,
-        } => Sizes {
-            rows: rows,
-            versions: versions,
-            buckets: buckets,
-        },
-        Command::Ask(_) => Sizes {
-            rows: 0,
-            versions: 0,
-            buckets: 0,
-        },
-        Command::Malformed => Sizes {
-            rows: 0,
-            versions: 0,
-            buckets: 0,
-        },
-    }
-}
-
-fn clock_of(command: Command) -> u64
-    ensures { λ r. ⌜ r ≡ clockOf command ⌝ }
-{
-    match command {
-        Command::Open {
-            rows: _,
-            versions: _,
-            buckets: _,
-            clock,
-        } => clock,
-        Command::Ask(_) => 0,
-        Command::Malformed => 0,
-    }
-}
-
-// The step that a record asks for; begin where it asks for none.
-fn step_of(command: Command) -> Step
-    ensures { λ r. ⌜ r ≡ stepOf command ⌝ }
-{
-    match command {
-        Command::Open {
-            rows: _,
-            versions: _,
-            buckets: _,
-            clock: _,
-        } => Step::Begin,
-        Command::Ask(s) => s,
-        Command::Malformed => Step::Begin,
-    }
-}
-
-// How a replay stops after a last line: with this status, or with 10 where the line did not fit.
-fn stop_after(line: Wrote, status: u64, at: usize) -> Stopped
-    ensures { λ r. ⌜ r ≡ stopAfter line status at ⌝ }
-{
-    match line {
-        Wrote::Next(end) => Stopped {
-            status: status,
-            wrote: end,
-        },
-        Wrote::Full => Stopped {
-            status: NO_ROOM,
-            wrote: at,
-        },
-    }
-}
-
-// `bad 15`, and stop.
-fn stop_malformed(report: &mut [u8], at: usize) -> Stopped
-    ensures { λ r. ⌜ record { stopped = r; report = now (report .exit) } ≡ malformedAt (now (report .entry)) at ⌝ }
-{
-    let line = bad_line(report, at);
-    stop_after(line, MALFORMED, at)
-}
-
-// `open 1`, and stop.
-fn stop_unopened(report: &mut [u8]) -> Stopped
-    ensures { λ r. ⌜ record { stopped = r; report = now (report .exit) } ≡ unopenedAt (now (report .entry)) ⌝ }
-{
-    let line = open_line(report, 0, WRONG_SIZE);
-    stop_after(line, WRONG_SIZE, 0)
-}
 
 // The records after the open, from `start` on, each with its line; the report has `opened` bytes already.
 fn replay_steps(

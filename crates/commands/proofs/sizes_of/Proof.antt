@@ -1,8 +1,8 @@
--- `replay::sizes_of` meets its contract.
+-- `commands::sizes_of` meets its contract.
 -- Assumes nothing.
 use borrow.Author.Needs.{needs}
-use Rattle.replay.proofs.sizes_of.Statement.{statement}
-use Rattle.replay.proofs.sizes_of.Tie as tie
+use Rattle.commands.proofs.sizes_of.Statement.{statement}
+use Rattle.commands.proofs.sizes_of.Tie as tie
 
 enum-known-command : tie.Need-enum-known-command
 enum-known-command c = search needs

@@ -1,8 +1,8 @@
--- `replay::stop_unopened` meets its contract.
+-- `stops::stop_unopened` meets its contract.
 -- Assumes nothing.
 use borrow.Author.Needs.{needs}
-use Rattle.replay.proofs.stop_unopened.Statement.{statement}
-use Rattle.replay.proofs.stop_unopened.Tie as tie
+use Rattle.stops.proofs.stop_unopened.Statement.{statement}
+use Rattle.stops.proofs.stop_unopened.Tie as tie
 
 open-line-requires : tie.Need-open-line-requires
 open-line-requires c κs = search needs

@@ -1,8 +1,8 @@
--- `replay::stop_after` meets its contract.
+-- `stops::stop_after` meets its contract.
 -- Assumes nothing.
 use borrow.Author.Needs.{needs}
-use Rattle.replay.proofs.stop_after.Statement.{statement}
-use Rattle.replay.proofs.stop_after.Tie as tie
+use Rattle.stops.proofs.stop_after.Statement.{statement}
+use Rattle.stops.proofs.stop_after.Tie as tie
 
 enum-known-line : tie.Need-enum-known-line
 enum-known-line c = search needs

@@ -1,8 +1,8 @@
--- `replay::stop_malformed` meets its contract.
+-- `stops::stop_malformed` meets its contract.
 -- Assumes nothing.
 use borrow.Author.Needs.{needs}
-use Rattle.replay.proofs.stop_malformed.Statement.{statement}
-use Rattle.replay.proofs.stop_malformed.Tie as tie
+use Rattle.stops.proofs.stop_malformed.Statement.{statement}
+use Rattle.stops.proofs.stop_malformed.Tie as tie
 
 bad-line-requires : tie.Need-bad-line-requires
 bad-line-requires c κs = search needs
