@@ -8,7 +8,7 @@ SEED ?=
 
 help:
 	@echo 'make demo    prove, build and run the program replay_log on the worked example of document 01, and show its report'
-	@echo 'make test    the host tests; then prove every crate, try the must-fail edits, run the programs'
+	@echo 'make test    prove every crate, try the must-fail edits, run the programs; beside that the host tests'
 	@echo 'make hosts   the host tests alone: the archive against a plain Rust twin, the C and Rust examples'
 	@echo 'make soak    the archive against the twin for STEPS steps (5000000) from SEED (the time)'
 	@echo 'make bench   the times of the archive and of the twin, and how they grow'
@@ -34,5 +34,6 @@ soak: kit
 bench: kit
 	@archive=$$(hosts/native) && cd hosts/rust && TORUXENG_ARCHIVE=$$archive cargo run --offline --quiet --release -p bench
 
-test: kit hosts
-	@rt ci
+# both cores stay busy where the crates of a pair, or the edits, take unlike times
+test: kit
+	@RT_JOBS=$$((2 * $$(nproc))) hosts/beside rt ci
