@@ -30,7 +30,8 @@ use Rattle.tables.proofs.Laws.{field-length}
 use Rattle.tables.proofs.Parts.{part-field}
 use Rattle.tables.proofs.Spans.{sets-other, words-at, list-length, list-at, list-kept}
 use Rattle.record.specs.View.{phaseView, txnView, keyView}
-use Rattle.record.specs.Methods.{withPhase, withCandidates, refusedOf, left, postedUpTo, keptIn, collectedLeft, collectOf}
+use Rattle.postings.specs.Postings.{postedUpTo, keptIn}
+use Rattle.record.specs.Methods.{withPhase, withCandidates, refusedOf, left, collectedLeft, collectOf}
 use Rattle.record.specs.declared.Phase.the-variants as phase
 use Rattle.record.specs.declared.Transaction.{Transaction}
 use Rattle.steps.specs.Steps.{inBuckets}

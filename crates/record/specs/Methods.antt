@@ -1,23 +1,22 @@
 -- What the record's methods give back, and the words they leave.
-use Prim.Native.Nat.{ℕ, _+_, _%_, min}
+use Prim.Native.Nat.{ℕ, _+_, _%_}
 use mathlib.Core.Bool.{Bool, true, false, cond, not, _&&_}
 use mathlib.Core.List.{List, [], _∷_}
 use lib.Dec.{eqb, ltb, leb}
 use lib.ListN.{replicate, length}
-use lib.Seq.{sets}
-use Rattle.limits.specs.Limits.{mostRows, mostActive, mostIndexReads, mostWrites}
+use Rattle.limits.specs.Limits.{mostActive, mostIndexReads, mostWrites}
 use Rattle.model.specs.Store.{rank, bucketIn, keyIn}
-use Rattle.model.specs.Lists.{pick}
 use Rattle.protocol.specs.declared.Answer.{Answer}
 use Rattle.protocol.specs.declared.Answer.the-variants as tell
-use Rattle.tables.specs.Fields.{stampOf, holderOf, setHolder, postedOf, postedKeyOf}
-use Rattle.tables.specs.Lists.{reads, writes, candidates, placeOf, stored}
+use Rattle.tables.specs.Fields.{stampOf, holderOf, setHolder}
+use Rattle.tables.specs.Lists.{reads, writes, stored}
 use Rattle.tables.specs.declared.lists.Write.{Write}
 use Rattle.scans.specs.Scans.{readPrefix}
 use Rattle.scans.specs.declared.Found.{Found}
 use Rattle.scans.specs.declared.Found.the-variants.{At, Nothing}
 use Rattle.buckets.specs.Buckets.{precedes}
 use Rattle.chain.specs.declared.Snapshot.{Snapshot}
+use Rattle.postings.specs.Postings.{postedUpTo, keptIn}
 use Rattle.record.specs.declared.Phase.{Phase}
 use Rattle.record.specs.declared.Phase.the-variants as phase
 use Rattle.record.specs.declared.Transaction.{Transaction}
@@ -122,27 +121,7 @@ writeOf rowCount t w lists =
 
 -- ---- collect
 
--- a row is posted with exactly this key
-abbrev pub postedWith : List ℕ → ℕ → ℕ → Bool
-postedWith rows k r = not (eqb (postedOf rows r) 0) && eqb (postedKeyOf rows r) k
-
--- the rows posted with this key, ascending; no more than the candidates have room for
-abbrev pub postedUpTo : List ℕ → ℕ → ℕ → List ℕ
-postedUpTo rows k n = pick (postedWith rows k) 0 (min n mostRows)
-
--- the candidates of a slot stored
-abbrev pub keptIn : List ℕ → ℕ → List ℕ → List ℕ
-keptIn lists slot rs = sets lists (placeOf candidates slot 0) rs
-
--- how many were kept, and the lists
-pub record Kept : Type 0 where
-  pub n : ℕ
-  pub lists : List ℕ
-
--- one row: it is kept behind those kept before it where it is posted with the key
-abbrev pub keepOne : List ℕ → ℕ → ℕ → ℕ → Kept → Kept
-keepOne rows k slot r st = cond (postedWith rows k r) (record { n = st .n + 1; lists = stored candidates (st .lists) slot (st .n) (r ∷ []) }) st
-
+-- the posted rows are kept, and the bucket is free
 abbrev pub collectedLeft : Transaction → ℕ → ℕ → List ℕ → List ℕ → List ℕ → Left
 collectedLeft t b k rs buckets lists =
     left (record { answer = tell.Count (length rs); txn = withCandidates (withPhase t (phase.Collected k)) (length rs) }) (setHolder buckets b 0) (keptIn lists (t .slot) rs)

@@ -2,8 +2,8 @@
 use buckets::stamp_precedes_snapshot;
 use chain::Snapshot;
 use limits::MOST_INDEX_READS;
-use limits::MOST_ROWS;
 use limits::MOST_WRITES;
+use postings::keep_posted;
 use protocol::Answer;
 use protocol::MANY_READS;
 use protocol::MANY_WRITES;
@@ -15,21 +15,16 @@ use protocol::WRONG_PHASE;
 use scans::Found;
 use scans::find_read_prefix;
 use tables::holder_at;
-use tables::lists::put_candidate;
 use tables::lists::put_read;
 use tables::lists::put_write;
-use tables::posted_at;
-use tables::posted_key_at;
 use tables::set_holder;
 use tables::stamp_at;
 ghost use mathlib.Core.Path.{_≡_};
 ghost use mathlib.Core.Bool.{false};
-ghost use Prim.Native.Nat.{_%_, _<_, min};
-ghost use lib.ListN.{length};
-ghost use Rattle.limits.specs.Limits.{mostRows};
+ghost use Prim.Native.Nat.{_%_};
 ghost use Rattle.model.specs.Store.{rank, bucketIn, keyIn};
 ghost use Rattle.record.specs.View.{phaseView};
-ghost use Rattle.record.specs.Methods.{idleOf, withPhase, withMark, takenBy, refusedOf, tooMany, holdOf, captureOf, writeOf, postedWith, postedUpTo, keptIn, keepOne, collectOf};
+ghost use Rattle.record.specs.Methods.{idleOf, withPhase, withMark, takenBy, refusedOf, tooMany, holdOf, captureOf, writeOf, collectOf};
 
 // The phase carries its bucket and key.
 pub enum Phase {
@@ -325,52 +320,4 @@ fn too_many(found: Found, n: u32) -> bool
         Found::At(_) => false,
         Found::Nothing => n >= MOST_INDEX_READS,
     }
-}
-
-// The row count, or the candidates' room where that is less.
-fn clipped(row_count: u64) -> u32
-    ensures { λ r. ⌜ r ≡ min «row_count» mostRows ⌝ }
-{
-    if row_count < MOST_ROWS as u64 {
-        row_count as u32
-    } else {
-        MOST_ROWS as u32
-    }
-}
-
-// Whether a row is posted with the key.
-pub fn posted_with(rows: &[u64], row: u32, key: u64) -> bool
-    ensures { λ r. ⌜ r ≡ postedWith (now (rows .entry)) key row ⌝ }
-{
-    let r = row as usize;
-    if posted_at(rows, r) == 0 {
-        return false;
-    }
-    posted_key_at(rows, r) == key
-}
-
-// Keeps the rows posted with the key, and tells how many they are.
-fn keep_posted(rows: &[u64], lists: &mut [u64], slot: u32, row_count: u64, key: u64) -> u32
-    ensures { λ r. ⌜ (r ≡ length (postedUpTo (now (rows .entry)) key «row_count»)) × (now (lists .exit) ≡ keptIn (now (lists .entry)) slot (postedUpTo (now (rows .entry)) key «row_count»)) ⌝ }
-{
-    let most = clipped(row_count);
-    let mut n: u32 = 0;
-    let mut row: u32 = 0;
-    while row < most {
-        n = keep_one(rows, lists, slot, n, row, key);
-        row += 1;
-    }
-    n
-}
-
-// One row: it is kept behind the n kept before it where it is posted with the key.
-fn keep_one(rows: &[u64], lists: &mut [u64], slot: u32, n: u32, row: u32, key: u64) -> u32
-    requires { ⌜ n < 4294967295 ⌝ }
-    ensures { λ r. ⌜ record { n = r; lists = now (lists .exit) } ≡ keepOne (now (rows .entry)) key slot row (record { n = n; lists = now (lists .entry) }) ⌝ }
-{
-    if !posted_with(rows, row, key) {
-        return n;
-    }
-    put_candidate(lists, slot, n, row as u64);
-    n + 1
 }

@@ -12,7 +12,7 @@ use lib.Seq.{sets}
 use mathlib.Core.List.{append-nil}
 use Rattle.model.specs.Lists.{pick}
 use Rattle.tables.specs.Lists.{candidates, placeOf, stored}
-use Rattle.record.specs.Methods.{Kept, postedWith, keptIn, keepOne}
+use Rattle.postings.specs.Postings.{Kept, postedWith, keptIn, keepOne}
 
 -- the last of the numbers joins where the test holds
 pick-last : (test : ℕ → Bool) (k n : ℕ) → pick test k (suc n) ≡ pick test k n ++ cond (test (k + n)) ((k + n) ∷ []) []

@@ -1,4 +1,4 @@
--- `record::keep_posted` meets its contract.
+-- `postings::keep_posted` meets its contract.
 -- Assumes nothing.
 use Prim.Native.Nat.{_≤_, _-_, _+_}
 use mathlib.Core.Path.{_≡_, refl, ap, _∙_}
@@ -6,11 +6,11 @@ use native.Mathlib.Omega.{arith}
 use borrow.Author.Needs.{needs}
 use lib.ListN.{length}
 use Rattle.model.specs.Lists.{pick}
-use Rattle.record.specs.Methods.{Kept, postedWith, keptIn}
+use Rattle.postings.specs.Postings.{Kept, postedWith, keptIn}
 use Rattle.model.proofs.ListLaws.{pick-few}
-use Rattle.record.proofs.Laws.{keep-turn}
-use Rattle.record.proofs.keep_posted.Statement.{statement}
-use Rattle.record.proofs.keep_posted.Tie as tie
+use Rattle.postings.proofs.Laws.{keep-turn}
+use Rattle.postings.proofs.keep_posted.Statement.{statement}
+use Rattle.postings.proofs.keep_posted.Tie as tie
 
 abbrev Inv-loop : tie.InvT-loop
 Inv-loop rows lists₀ slot row-count key most n₀ row₀ lists n row =

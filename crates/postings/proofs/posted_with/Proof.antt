@@ -1,9 +1,9 @@
--- `record::posted_with` meets its contract.
+-- `postings::posted_with` meets its contract.
 -- Assumes nothing.
 use borrow.Author.Tests.{eq-eqb, ne-eqb}
 use borrow.Author.Needs.{needs}
-use Rattle.record.proofs.posted_with.Statement.{statement}
-use Rattle.record.proofs.posted_with.Tie as tie
+use Rattle.postings.proofs.posted_with.Statement.{statement}
+use Rattle.postings.proofs.posted_with.Tie as tie
 
 posted-at-requires : tie.Need-posted-at-requires
 posted-at-requires c κs = search needs

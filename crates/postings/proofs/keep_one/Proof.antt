@@ -1,9 +1,9 @@
--- `record::keep_one` meets its contract.
+-- `postings::keep_one` meets its contract.
 -- Assumes nothing.
 use borrow.Author.Tests.{not-true, not-false}
 use borrow.Author.Needs.{needs}
-use Rattle.record.proofs.keep_one.Statement.{statement}
-use Rattle.record.proofs.keep_one.Tie as tie
+use Rattle.postings.proofs.keep_one.Statement.{statement}
+use Rattle.postings.proofs.keep_one.Tie as tie
 
 posted-with-requires : tie.Need-posted-with-requires
 posted-with-requires c κs = search needs
