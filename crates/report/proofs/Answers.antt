@@ -1,9 +1,9 @@
--- What the code holds of an answer are its number and its values, and the line is the model's.
+-- The line that is written for an answer is the model's.
 -- Assumes nothing.
 use borrow.Author.Tests.{leb-true, leb-false}
 use Prim.Native.Nat.{ℕ, min}
 use mathlib.Core.Bool.{Bool, true, false}
-use mathlib.Core.List.{_++_, List, _∷_}
+use mathlib.Core.List.{_++_, List}
 use mathlib.Core.Path.{_≡_, refl}
 use native.Mathlib.Omega.{arith}
 use lib.Dec.{leb}
@@ -12,31 +12,13 @@ use lib.Seq.{take-all, take-append-seam}
 use Rattle.model.specs.Report.{wordOf, line, answerLine}
 use Rattle.protocol.specs.View.{asked, told}
 use Rattle.protocol.specs.declared.Step.{Step}
-use Rattle.protocol.specs.declared.Verdict.{Verdict}
 use Rattle.protocol.specs.declared.Answer.{Answer}
-use Rattle.report.specs.declared.Numbers.{Numbers}
-use Rattle.report.specs.Lines.{numberOf, verdictValues, valuesOf, lineFor}
-use Rattle.report.specs.Held.{verdictHeld, heldOf, numbersWith}
+use Rattle.answers.specs.declared.Numbers.{Numbers}
+use Rattle.answers.specs.Answers.{heldOf}
+use Rattle.answers.proofs.Held.{says}
+use Rattle.report.specs.Lines.{lineFor}
 use Rattle.model.specs.Verdict as judged
 use Rattle.model.specs.Machine as machine
-use Rattle.protocol.specs.declared.Verdict.the-variants as verdict
-use Rattle.protocol.specs.declared.Answer.the-variants as tell
-
-verdict-says : (v : Verdict) (rows : List ℕ) → numbersWith (verdictHeld v) rows ≡ 0 ∷ verdictValues v
-verdict-says verdict.Clear rows = refl
-verdict-says (verdict.Bucket bucket captured present) rows = refl
-verdict-says (verdict.Row row ptr) rows = refl
-verdict-says verdict.Mark rows = refl
-
--- what is held of an answer are its number and its values
-pub says : (a : Answer) (rows : List ℕ) → numbersWith (heldOf a) rows ≡ numberOf a ∷ valuesOf a rows
-says tell.Done rows = refl
-says (tell.Number n) rows = refl
-says (tell.Stamp n) rows = refl
-says (tell.Count n) rows = refl
-says (tell.Rows n) rows = refl
-says (tell.Judged v) rows = verdict-says v rows
-says (tell.Refused number) rows = refl
 
 -- as many rows as there are
 take-least-by : (l : List ℕ) (n : ℕ) (b : Bool) → leb n (length l) ≡ b → take (min n (length l)) l ≡ take n l

@@ -1,11 +1,11 @@
 // The report: the line of an open, of a malformed log, and of every step's answer.
+use answers::numbers_of;
 use lines::Wrote;
 use lines::least;
 use lines::write_line;
 use protocol::Answer;
 use protocol::MALFORMED;
 use protocol::Step;
-use protocol::Verdict;
 ghost use mathlib.Core.Path.{_≡_};
 ghost use Prim.Native.Nat.{_≤_};
 ghost use lib.ListN.{take};
@@ -13,83 +13,6 @@ ghost use Rattle.model.specs.Report.{wordOf};
 ghost use Rattle.protocol.specs.View.{asked};
 ghost use Rattle.lines.specs.Lines.{Written, writtenAt};
 ghost use Rattle.report.specs.Lines.{openLine, badLine, lineFor};
-ghost use Rattle.report.specs.Held.{verdictHeld, numberHeld, valueHeld, heldOf};
-
-// The numbers of a line: the first `count` of the list, and then the first `rows` of the lent rows.
-struct Numbers {
-    list: [u64; 5],
-    count: usize,
-    rows: usize,
-}
-
-// 0, the verdict and its values.
-fn verdict_numbers(verdict: Verdict) -> Numbers
-    ensures { λ r. ⌜ (r ≡ verdictHeld verdict) × (r .count ≤ 5) ⌝ }
-{
-    match verdict {
-        Verdict::Clear => Numbers {
-            list: [0, 0, 0, 0, 0],
-            count: 2,
-            rows: 0,
-        },
-        Verdict::Bucket {
-            bucket: b,
-            captured: c,
-            present: p,
-        } => Numbers {
-            list: [0, 1, b, c, p],
-            count: 5,
-            rows: 0,
-        },
-        Verdict::Row { row: r, ptr: p } => Numbers {
-            list: [0, 2, r, p, 0],
-            count: 4,
-            rows: 0,
-        },
-        Verdict::Mark => Numbers {
-            list: [0, 3, 0, 0, 0],
-            count: 2,
-            rows: 0,
-        },
-    }
-}
-
-// A number with nothing after it.
-fn number_alone(number: u64) -> Numbers
-    ensures { λ r. ⌜ r ≡ numberHeld number ⌝ }
-{
-    Numbers {
-        list: [number, 0, 0, 0, 0],
-        count: 1,
-        rows: 0,
-    }
-}
-
-// 0 and a value, and then so many of the lent rows.
-fn value_numbers(value: u64, rows: usize) -> Numbers
-    ensures { λ r. ⌜ r ≡ valueHeld value rows ⌝ }
-{
-    Numbers {
-        list: [0, value, 0, 0, 0],
-        count: 2,
-        rows: rows,
-    }
-}
-
-// The answer's number and its values.
-fn numbers_of(answer: Answer) -> Numbers
-    ensures { λ r. ⌜ (r ≡ heldOf answer) × (r .count ≤ 5) ⌝ }
-{
-    match answer {
-        Answer::Done => number_alone(0),
-        Answer::Number(n) => value_numbers(n, 0),
-        Answer::Stamp(n) => value_numbers(n, 0),
-        Answer::Count(n) => value_numbers(n, 0),
-        Answer::Rows(n) => value_numbers(n, n as usize),
-        Answer::Judged(v) => verdict_numbers(v),
-        Answer::Refused(r) => number_alone(r),
-    }
-}
 
 // The kind's name, in the first `long` of eight bytes.
 struct Word {

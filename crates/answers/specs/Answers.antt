@@ -1,12 +1,39 @@
--- The numbers of a line as the code holds them.
+-- Document 01's number and values for each answer, and how the code holds them.
 use Prim.Native.Nat.{ℕ}
 use mathlib.Core.List.{List, [], _∷_, _++_}
 use lib.ListN.{take}
 use Rattle.protocol.specs.declared.Verdict.{Verdict}
-use Rattle.protocol.specs.declared.Answer.{Answer}
-use Rattle.report.specs.declared.Numbers.{Numbers}
 use Rattle.protocol.specs.declared.Verdict.the-variants as verdict
+use Rattle.protocol.specs.declared.Answer.{Answer}
 use Rattle.protocol.specs.declared.Answer.the-variants as tell
+use Rattle.answers.specs.declared.Numbers.{Numbers}
+
+-- document 01's number for each answer
+abbrev pub numberOf : Answer → ℕ
+numberOf tell.Done = 0
+numberOf (tell.Number n) = 0
+numberOf (tell.Stamp n) = 0
+numberOf (tell.Count n) = 0
+numberOf (tell.Rows n) = 0
+numberOf (tell.Judged v) = 0
+numberOf (tell.Refused number) = number
+
+-- a verdict and its values
+abbrev pub verdictValues : Verdict → List ℕ
+verdictValues verdict.Clear = 0 ∷ []
+verdictValues (verdict.Bucket bucket captured present) = 1 ∷ bucket ∷ captured ∷ present ∷ []
+verdictValues (verdict.Row row ptr) = 2 ∷ row ∷ ptr ∷ []
+verdictValues verdict.Mark = 3 ∷ []
+
+-- the values that come after 0; the found rows stand at the front of the lent list
+abbrev pub valuesOf : Answer → List ℕ → List ℕ
+valuesOf tell.Done rows = []
+valuesOf (tell.Number n) rows = n ∷ []
+valuesOf (tell.Stamp n) rows = n ∷ []
+valuesOf (tell.Count n) rows = n ∷ []
+valuesOf (tell.Rows n) rows = n ∷ take n rows
+valuesOf (tell.Judged v) rows = verdictValues v
+valuesOf (tell.Refused number) rows = []
 
 -- the first `count` of the list, and then the first `rows` of the lent rows
 abbrev pub numbersWith : Numbers → List ℕ → List ℕ

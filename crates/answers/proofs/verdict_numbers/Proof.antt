@@ -1,9 +1,9 @@
--- `report::verdict_numbers` meets its contract.
+-- `answers::verdict_numbers` meets its contract.
 -- Assumes nothing.
 use borrow.Author.Needs.{needs}
 use native.Mathlib.Omega.{arith}
-use Rattle.report.proofs.verdict_numbers.Statement.{statement}
-use Rattle.report.proofs.verdict_numbers.Tie as tie
+use Rattle.answers.proofs.verdict_numbers.Statement.{statement}
+use Rattle.answers.proofs.verdict_numbers.Tie as tie
 
 enum-told : tie.Need-enum-told
 enum-told c = search needs

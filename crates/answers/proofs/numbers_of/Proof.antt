@@ -1,9 +1,9 @@
--- `report::numbers_of` meets its contract.
+-- `answers::numbers_of` meets its contract.
 -- Assumes nothing.
 use borrow.Author.Needs.{needs}
 use native.Mathlib.Omega.{arith}
-use Rattle.report.proofs.numbers_of.Statement.{statement}
-use Rattle.report.proofs.numbers_of.Tie as tie
+use Rattle.answers.proofs.numbers_of.Statement.{statement}
+use Rattle.answers.proofs.numbers_of.Tie as tie
 
 enum-told : tie.Need-enum-told
 enum-told c = search needs
