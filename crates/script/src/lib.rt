@@ -1,39 +1,49 @@
 // A step written as a text: its name and its numbers, then `:` and document 01's number and values of the answer, as `capture 3 6: 0 2;`.
+ghost use mathlib.Core.Path.{_≡_};
+ghost use mathlib.Core.Bool.{_&&_};
+ghost use Prim.Native.Nat.{_+_, _*_, _%_, _^_};
+ghost use lib.Dec.{leb};
+ghost use lib.ListN.{getD};
+ghost use Rattle.script.specs.Script.{emptyLine, withLetter, withDigit, endedLine, withByte, stepEnd, lineOf};
 
-// The most numbers that a step, or an answer, has.
-pub const MOST: usize = 8;
+// The answer's numbers stand from this place on; a step has as many places, and so has its answer.
+pub const ANSWER: usize = 8;
 
-// One step as written: its name's first three letters as a number, its numbers, and those of the answer.
+const PLACES: usize = 16;
+
+// A step as it is read: its name's first three letters as a number, its numbers, the place of the next one, and the digits read of it.
 pub struct Line {
     pub name: u64,
+    pub numbers: [u64; PLACES],
+    pub at: usize,
     pub value: u64,
     pub digits: bool,
-    pub answered: bool,
-    pub numbers: [u64; MOST],
-    pub n: usize,
-    pub answer: [u64; MOST],
-    pub k: usize,
 }
 
 // The byte at a place, 0 past the end.
-fn byte(text: &[u8], at: usize) -> u8 {
+fn byte(text: &[u8], at: usize) -> u8
+    ensures { λ r. ⌜ r ≡ getD (now (text .entry)) at 0 ⌝ }
+{
     if at < text.len() {
         return text[at];
     }
     0
 }
 
-// Three letters as a number.
-fn joined(a: u8, b: u8, c: u8) -> u64 {
-    a as u64 * 65536 + b as u64 * 256 + c as u64
-}
-
-pub fn code(text: &[u8]) -> u64 {
-    joined(byte(text, 0), byte(text, 1), byte(text, 2))
+// Whether a byte is one of those from one to another.
+fn between(c: u8, first: u8, last: u8) -> bool
+    ensures { λ r. ⌜ r ≡ (leb first c && leb c last) ⌝ }
+{
+    if c < first {
+        return false;
+    }
+    c <= last
 }
 
 // Ten times a number and one digit more; it may wrap.
-fn longer(value: u64, digit: u64) -> u64 {
+fn longer(value: u64, digit: u64) -> u64
+    ensures { λ r. ⌜ r ≡ (10 * value + digit) % 2 ^ 64 ⌝ }
+{
     let two = std::num::wrapping_add_u64(value, value);
     let four = std::num::wrapping_add_u64(two, two);
     let eight = std::num::wrapping_add_u64(four, four);
@@ -41,68 +51,80 @@ fn longer(value: u64, digit: u64) -> u64 {
 }
 
 impl Line {
-    // A number ends: it goes behind those before it.
-    fn ended(self) -> Line {
+    // A letter more of the name; those behind the third are not kept.
+    fn lettered(self, c: u8) -> Line
+        ensures { λ r. ⌜ r ≡ withLetter self c ⌝ }
+    {
         let mut line = self;
-        let n = line.n;
-        let k = line.k;
-        if !line.digits {
-            return line;
-        }
-        line.digits = false;
-        line.value = 0;
-        if self.answered {
-            if k < MOST {
-                line.answer[k] = self.value;
-                line.k = k + 1;
-            }
-            return line;
-        }
-        if n < MOST {
-            line.numbers[n] = self.value;
-            line.n = n + 1;
+        if self.name < 65536 {
+            line.name = self.name * 256 + c as u64;
         }
         line
     }
 
-    // One byte more: a letter of the name, a digit, the colon before the answer, or a space.
-    fn with(self, c: u8) -> Line {
-        if c >= b'0' && c <= b'9' {
-            let mut line = self;
-            line.value = longer(self.value, (c - b'0') as u64);
-            line.digits = true;
-            return line;
+    // A digit more of a number.
+    fn counted(self, digit: u64) -> Line
+        ensures { λ r. ⌜ r ≡ withDigit self digit ⌝ }
+    {
+        let mut line = self;
+        line.value = longer(self.value, digit);
+        line.digits = true;
+        line
+    }
+
+    // A number ends: it goes to its place, if there is one.
+    fn ended(self) -> Line
+        ensures { λ r. ⌜ r ≡ endedLine self ⌝ }
+    {
+        let mut line = self;
+        let at = self.at;
+        if !self.digits {
+            return self;
         }
-        if c >= b'a' && c <= b'z' {
-            let mut line = self;
-            if line.name < 65536 {
-                line.name = line.name * 256 + c as u64;
-            }
-            return line;
+        if at >= PLACES {
+            return self;
+        }
+        line.numbers[at] = self.value;
+        line.at = at + 1;
+        line.value = 0;
+        line.digits = false;
+        line
+    }
+
+    // One byte more: a digit, a letter, the colon before the answer, or what parts them.
+    fn with(self, c: u8) -> Line
+        ensures { λ r. ⌜ r ≡ withByte self c ⌝ }
+    {
+        if between(c, b'0', b'9') {
+            return self.counted((c - b'0') as u64);
+        }
+        if between(c, b'a', b'z') {
+            return self.lettered(c);
         }
         let mut line = self.ended();
         if c == b':' {
-            line.answered = true;
+            line.at = ANSWER;
         }
         line
     }
 }
 
-fn empty() -> Line {
+fn empty() -> Line
+    ensures { λ r. ⌜ r ≡ emptyLine ⌝ }
+{
     Line {
         name: 0,
+        numbers: [0; PLACES],
+        at: 0,
         value: 0,
         digits: false,
-        answered: false,
-        numbers: [0; MOST],
-        n: 0,
-        answer: [0; MOST],
-        k: 0,
     }
 }
 
-// Where the step at a place ends: behind its `;`.
-pub fn step_end(text: &[u8], from: usize) -> usize {
+// Where the step at a place ends: behind its `;`, or where the text ends.
+pub fn step_end(text: &[u8], from: usize) -> usize
+    ensures { λ r. ⌜ r ≡ stepEnd (now (text .entry)) from ⌝ }
+{
     let mut at = from;
     while at < text.len() {
         if text[at] == b';' {
@@ -114,7 +136,9 @@ pub fn step_end(text: &[u8], from: usize) -> usize {
 }
 
 // The step that is written from a place up to another.
-pub fn line_of(text: &[u8], from: usize, to: usize) -> Line {
+pub fn line_of(text: &[u8], from: usize, to: usize) -> Line
+    ensures { λ r. ⌜ r ≡ lineOf (now (text .entry)) from to ⌝ }
+{
     let mut line = empty();
     let mut at = from;
     while at < to {
