@@ -2,7 +2,7 @@
 -- Assumes nothing.
 use mathlib.Core.Path.{_≡_, refl, ap, _∙_}
 use mathlib.Core.Bool.{Bool, true, false, cond, _&&_}
-use mathlib.Core.List.{List, []}
+use mathlib.Core.List.{List, [], _∷_}
 use native.Mathlib.Numerals.{add-one}
 use native.Mathlib.Nat.{mod-add-mod, add-mod-mod}
 use native.Mathlib.Omega.{arith}
@@ -11,7 +11,7 @@ use lib.Dec.{eqb}
 use lib.ListN.{length, getD, drop, drop-of-length-le}
 use lib.Seq.{drop-cons}
 use Rattle.script.specs.declared.Line.{Line}
-use Rattle.script.specs.Script.{withByte, withBytes, endFrom}
+use Rattle.script.specs.Script.{withByte, withBytes, endFrom, stepEnd}
 
 -- of two tests that hold, the first does
 pub first-holds : (x y : Bool) → (x && y) ≡ true → x ≡ true
@@ -40,6 +40,21 @@ end-next text at h = rw (add-one, drop-cons text at 0)
 pub end-past : (text : List ℕ) (at : ℕ) → length text ≤ at → endFrom at (drop at text) ≡ at
 unfolding endFrom
 end-past text at h = rw (drop-of-length-le text h)
+
+-- at most both is at most either
+below-either : (b : Bool) (x y z : ℕ) → x ≤ y → x ≤ z → x ≤ cond b y z
+below-either true x y z h l = h
+below-either false x y z h l = l
+
+-- a step that begins before the text ends is not empty
+end-low : (cs : List ℕ) (at : ℕ) → at ≤ endFrom at cs
+unfolding endFrom
+end-low [] at = omega arith
+end-low (c ∷ cs) at = let l = end-low cs (suc at) in below-either (eqb c 59) at (suc at) (endFrom (suc at) cs) (omega arith) (omega arith)
+
+pub end-behind : (text : List ℕ) (at : ℕ) → at < length text → at < stepEnd text at
+unfolding stepEnd
+end-behind text at h = rw (end-next text at h) (below-either (eqb (getD text at 0) 59) (suc at) (at + 1) (endFrom (at + 1) (drop (at + 1) text)) (omega arith) (let l = end-low (drop (at + 1) text) (at + 1) in omega arith))
 
 -- one byte of those that are left
 pub bytes-next : (text : List ℕ) (at to : ℕ) (l : Line) → at < to → withBytes text at (to - at) l ≡ withBytes text (at + 1) (to - (at + 1)) (withByte l (getD text at 0))

@@ -1,19 +1,18 @@
--- `player::told_rows` meets its contract.
+-- `sequences::told_rows` meets its contract.
 -- Assumes nothing.
 use borrow.Author.Needs.{needs}
 use Prim.Native.Nat.{_≤_, _-_}
-use Rattle.player.proofs.told_rows.Statement.{statement}
-use Rattle.player.proofs.told_rows.Tie as tie
+use Rattle.sequences.proofs.told_rows.Statement.{statement}
+use Rattle.sequences.proofs.told_rows.Tie as tie
 
 abbrev Inv-loop : tie.InvT-loop
-Inv-loop n found told₀ i₀ told i =
-    i ≤ 6
+Inv-loop n found told₀ i₀ told i = i ≤ 6
 
 abbrev μ-loop : tie.MeasureT-loop
 μ-loop n found told₀ i₀ told i = 6 - i
 
 valued-requires : tie.Need-valued-requires Inv-loop μ-loop
-valued-requires c κs = search needs
+valued-requires c κs = tt
 
 loop-holds : tie.Need-loop-holds Inv-loop μ-loop
 loop-holds c = search needs
@@ -21,14 +20,17 @@ loop-holds c = search needs
 returns : tie.Need-returns Inv-loop μ-loop
 returns c = search needs
 
-word-requires : tie.Need-word-requires Inv-loop μ-loop
-word-requires c κs = search needs
+mul-told : tie.Need-mul-told Inv-loop μ-loop
+mul-told c = search needs
+
+element-copy-out-told : tie.Need-element-copy-out-told Inv-loop μ-loop
+element-copy-out-told c = search needs
 
 add-told : tie.Need-add-told Inv-loop μ-loop
 add-told c = search needs
 
-mul-told : tie.Need-mul-told Inv-loop μ-loop
-mul-told c = search needs
+mul-told-2 : tie.Need-mul-told-2 Inv-loop μ-loop
+mul-told-2 c = search needs
 
 element-write-told : tie.Need-element-write-told Inv-loop μ-loop
 element-write-told c = search needs
@@ -57,9 +59,10 @@ told-rows-spec =
     valued-requires
     loop-holds
     returns
-    word-requires
-    add-told
     mul-told
+    element-copy-out-told
+    add-told
+    mul-told-2
     element-write-told
     add-told-2
     add-i

@@ -1,19 +1,18 @@
--- `player::play` meets its contract.
+-- `sequences::play` meets its contract.
 -- Assumes nothing.
 use borrow.Author.Needs.{needs}
 use Prim.Native.Nat.{_-_}
-use mathlib.Core.Path.{_≡_, sym, _∙_}
 use native.Mathlib.Omega.{arith}
 use lib.ListN.{length}
-use Rattle.player.proofs.play.Statement.{statement}
-use Rattle.player.proofs.play.Tie as tie
+use Rattle.script.proofs.Reading.{end-behind}
+use Rattle.sequences.proofs.play.Statement.{statement}
+use Rattle.sequences.proofs.play.Tie as tie
 
 abbrev Inv-loop : tie.InvT-loop
-Inv-loop name text rows-table₀ versions₀ buckets₀ lists₀ found₀ at₀ m₀ step₀ t21 rows-table versions buckets lists found at m step =
-    (length rows-table ≡ 1024) × (length versions ≡ 3072) × (length buckets ≡ 128) × (length lists ≡ 4352) × (length found ≡ 256)
+Inv-loop name text rows-table₀ versions₀ buckets₀ lists₀ found₀ at₀ m₀ step₀ t22 rows-table versions buckets lists found at m step = Unit
 
 abbrev μ-loop : tie.MeasureT-loop
-μ-loop name text rows-table₀ versions₀ buckets₀ lists₀ found₀ at₀ m₀ step₀ t21 rows-table versions buckets lists found at m step = length text - at
+μ-loop name text rows-table₀ versions₀ buckets₀ lists₀ found₀ at₀ m₀ step₀ t22 rows-table versions buckets lists found at m step = length text - at
 
 step-end-requires : tie.Need-step-end-requires Inv-loop μ-loop
 step-end-requires c κs = tt
@@ -51,9 +50,6 @@ open-requires c κs = tt
 write-all-requires : tie.Need-write-all-requires Inv-loop μ-loop
 write-all-requires c κs = tt
 
-slice-aggregate-in-numbers : tie.Need-slice-aggregate-in-numbers Inv-loop μ-loop
-slice-aggregate-in-numbers c = search needs
-
 in-numbers-requires : tie.Need-in-numbers-requires Inv-loop μ-loop
 in-numbers-requires c κs = tt
 
@@ -67,7 +63,7 @@ returns : tie.Need-returns Inv-loop μ-loop
 returns c = search needs
 
 loop-holds : tie.Need-loop-holds Inv-loop μ-loop
-loop-holds c = search needs
+loop-holds c = tt
 
 step-end-requires-2 : tie.Need-step-end-requires-2 Inv-loop μ-loop
 step-end-requires-2 c κs = tt
@@ -75,26 +71,20 @@ step-end-requires-2 c κs = tt
 line-of-requires-2 : tie.Need-line-of-requires-2 Inv-loop μ-loop
 line-of-requires-2 c κs = tt
 
-slice-aggregate-asked : tie.Need-slice-aggregate-asked Inv-loop μ-loop
-slice-aggregate-asked c = search needs
+array-read-any-step : tie.Need-array-read-any-step Inv-loop μ-loop
+array-read-any-step c = search needs
 
-slice-aggregate-asked-2 : tie.Need-slice-aggregate-asked-2 Inv-loop μ-loop
-slice-aggregate-asked-2 c = search needs
+array-read-any-step-2 : tie.Need-array-read-any-step-2 Inv-loop μ-loop
+array-read-any-step-2 c = search needs
 
-slice-aggregate-asked-3 : tie.Need-slice-aggregate-asked-3 Inv-loop μ-loop
-slice-aggregate-asked-3 c = search needs
+array-read-any-step-3 : tie.Need-array-read-any-step-3 Inv-loop μ-loop
+array-read-any-step-3 c = search needs
 
-slice-aggregate-asked-4 : tie.Need-slice-aggregate-asked-4 Inv-loop μ-loop
-slice-aggregate-asked-4 c = search needs
+array-read-any-step-4 : tie.Need-array-read-any-step-4 Inv-loop μ-loop
+array-read-any-step-4 c = search needs
 
-slice-aggregate-asked-5 : tie.Need-slice-aggregate-asked-5 Inv-loop μ-loop
-slice-aggregate-asked-5 c = search needs
-
-asked-requires : tie.Need-asked-requires Inv-loop μ-loop
-asked-requires c κs = tt
-
-slice-aggregate-in-numbers-2 : tie.Need-slice-aggregate-in-numbers-2 Inv-loop μ-loop
-slice-aggregate-in-numbers-2 c = sym (c .before .before .before .before .before .before .before .asked .kept .1 .1 .1 .1 .0 ∙ c .before .before .before .before .before .before .before .before .before .before .before .before .before .before .before .before .loop .inv .4)
+any-step-requires : tie.Need-any-step-requires Inv-loop μ-loop
+any-step-requires c κs = tt
 
 in-numbers-requires-2 : tie.Need-in-numbers-requires-2 Inv-loop μ-loop
 in-numbers-requires-2 c κs = tt
@@ -111,14 +101,11 @@ differed-requires-2 c κs = tt
 returns-2 : tie.Need-returns-2 Inv-loop μ-loop
 returns-2 c = search needs
 
-returns-3 : tie.Need-returns-3 Inv-loop μ-loop
-returns-3 c = search needs
-
 loop-less : tie.Need-loop-less Inv-loop μ-loop
-loop-less c = omega (arith, c .if3 .left, c .before .before .before .before .before .before .before .before .before .before .before .before .before .before .before .before .before .before .before .before .loop-test .taken)
+loop-less c = omega (arith, end-behind (c .before .before .before .before .before .before .before .before .before .before .before .before .before .before .before .before .before .before .before .before .before .before .before .before .before .before .before .before .before .before .before .before .before .before .before .before .args .text .now) (c .before .before .before .before .before .before .before .before .before .before .before .before .before .before .before .before .loop .at) (c .before .before .before .before .before .before .before .before .before .before .before .before .before .before .before .loop-test .taken), c .before .before .before .before .before .before .before .before .before .before .before .before .before .before .step-end2 .ensures)
 
 loop-again : tie.Need-loop-again Inv-loop μ-loop
-loop-again c = let l = c .before .before .before .before .before .before .before .before .before .before .before .before .before .before .before .before .before .before .before .before .before .loop in (c .before .before .before .before .before .before .before .before .before .before .before .before .asked .kept .0 ∙ l .inv .0, c .before .before .before .before .before .before .before .before .before .before .before .before .asked .kept .1 .0 ∙ l .inv .1, c .before .before .before .before .before .before .before .before .before .before .before .before .asked .kept .1 .1 .0 ∙ l .inv .2, c .before .before .before .before .before .before .before .before .before .before .before .before .asked .kept .1 .1 .1 .0 ∙ l .inv .3, c .before .before .before .before .before .before .before .before .before .before .before .before .asked .kept .1 .1 .1 .1 .0 ∙ l .inv .4)
+loop-again c = tt
 
 slice-aggregate-write-all : tie.Need-slice-aggregate-write-all Inv-loop μ-loop
 slice-aggregate-write-all c = search needs
@@ -126,8 +113,8 @@ slice-aggregate-write-all c = search needs
 write-all-requires-2 : tie.Need-write-all-requires-2 Inv-loop μ-loop
 write-all-requires-2 c κs = tt
 
-returns-4 : tie.Need-returns-4 Inv-loop μ-loop
-returns-4 c = search needs
+returns-3 : tie.Need-returns-3 Inv-loop μ-loop
+returns-3 c = search needs
 
 pub play-spec : {M : Type 1} → statement M
 play-spec =
@@ -147,7 +134,6 @@ play-spec =
     array-read-open-4
     open-requires
     write-all-requires
-    slice-aggregate-in-numbers
     in-numbers-requires
     expected-requires
     differed-requires
@@ -155,21 +141,18 @@ play-spec =
     loop-holds
     step-end-requires-2
     line-of-requires-2
-    slice-aggregate-asked
-    slice-aggregate-asked-2
-    slice-aggregate-asked-3
-    slice-aggregate-asked-4
-    slice-aggregate-asked-5
-    asked-requires
-    slice-aggregate-in-numbers-2
+    array-read-any-step
+    array-read-any-step-2
+    array-read-any-step-3
+    array-read-any-step-4
+    any-step-requires
     in-numbers-requires-2
     wrapping-add-u64-requires
     expected-requires-2
     differed-requires-2
     returns-2
-    returns-3
     loop-less
     loop-again
     slice-aggregate-write-all
     write-all-requires-2
-    returns-4)
+    returns-3)
