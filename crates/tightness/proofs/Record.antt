@@ -1,0 +1,95 @@
+-- `record`: wrong bodies of its public functions.
+-- Assumes nothing.
+use Prim.Native.Nat.{ℕ, _-_, _%_, _/_, min}
+use mathlib.Core.Path.{refl}
+use mathlib.Core.Bool.{Bool, cond, not}
+use mathlib.Core.List.{List, [], _∷_}
+use lib.Dec.{eqb}
+use lib.ListN.{getD, replicate}
+use Rattle.model.specs.Lists.{pick}
+use Rattle.model.specs.Store.{rank, bucketIn, keyIn}
+use Rattle.tables.specs.Words.{field, setField}
+use Rattle.tables.specs.Fields.{postedOf, postedKeyOf}
+use Rattle.tables.specs.Lists.{writes, candidates}
+use Rattle.tables.specs.Regions.{listOf}
+use Rattle.scans.specs.Scans.{firstFrom}
+use Rattle.record.specs.declared.Phase.{Phase}
+use Rattle.record.specs.declared.Phase.the-variants as phase
+use Rattle.record.specs.declared.Transaction.{Transaction}
+use Rattle.record.specs.declared.Answered.{Answered}
+use Rattle.record.specs.View.{phaseView}
+use Rattle.record.specs.Methods.{idleOf, withPhase, withMark, takenBy, refusedOf, Left, LeftLists, left, holdOf, captureAt, captureOf, writeOf, postedWith, collectOf}
+use Rattle.tightness.specs.Wrong.{Excludes}
+use Rattle.tightness.proofs.Small.{apart, bit, numberIn, five}
+
+-- `phase_rank`: counted from 0
+pub phase-rank-from-0 : Excludes (λ ph. rank (phaseView ph)) (λ ph. rank (phaseView ph) - 1)
+phase-rank-from-0 = apart phase.Open (λ n. n) refl
+
+-- `phase_rank`: Ended counts as Installed
+pub phase-rank-ended-installed : Excludes (λ ph. rank (phaseView ph)) (λ ph. min (rank (phaseView ph)) 5)
+phase-rank-ended-installed = apart phase.Ended (λ n. n) refl
+
+-- `bucket_in`: the key for the bucket
+pub bucket-in-key : Excludes (λ ph. bucketIn (phaseView ph)) (λ ph. keyIn (phaseView ph))
+bucket-in-key = apart (phase.Holding 1 5) (λ n. n) refl
+
+-- `bucket_in`: no phase carries one
+pub bucket-in-none : Excludes (λ ph. bucketIn (phaseView ph)) (λ ph. 0)
+bucket-in-none = apart (phase.Holding 1 5) (λ n. n) refl
+
+-- `key_in`: the bucket for the key
+pub key-in-bucket : Excludes (λ ph. keyIn (phaseView ph)) (λ ph. bucketIn (phaseView ph))
+key-in-bucket = apart (phase.Holding 1 5) (λ n. n) refl
+
+-- `key_in`: Collected carries none
+pub key-in-holding-only : Excludes (λ ph. keyIn (phaseView ph)) (λ ph. cond (eqb (rank (phaseView ph)) 2) (keyIn (phaseView ph)) 0)
+key-in-holding-only = apart (phase.Collected 5) (λ n. n) refl
+
+-- `idle`: always of slot 0
+pub idle-slot-0 : Excludes (λ slot. idleOf slot) (λ slot. idleOf 0)
+idle-slot-0 = apart 1 (λ (t : Transaction). t .slot) refl
+
+-- `idle`: a free place is marked
+pub idle-marked : Excludes (λ slot. idleOf slot) (λ slot. withMark (idleOf slot))
+idle-marked = apart 0 (λ (t : Transaction). bit (t .marked)) refl
+
+-- `bucket_of`: the key itself
+pub bucket-of-key : Excludes {A = ℕ × ℕ} (λ (count, key). key % count) (λ (count, key). key)
+bucket-of-key = apart (4, 5) (λ n. n) refl
+
+-- `bucket_of`: the quotient, not the rest
+pub bucket-of-quotient : Excludes {A = ℕ × ℕ} (λ (count, key). key % count) (λ (count, key). key / count)
+bucket-of-quotient = apart (4, 2) (λ n. n) refl
+
+-- `by_another`: what is free is another's
+pub by-another-free : Excludes {A = ℕ × ℕ} (λ (carried, n). takenBy carried n) (λ (carried, n). not (eqb carried n))
+by-another-free = apart (0, 5) bit refl
+
+-- `by_another`: what is one's own is another's
+pub by-another-own : Excludes {A = ℕ × ℕ} (λ (carried, n). takenBy carried n) (λ (carried, n). not (eqb carried 0))
+by-another-own = apart (5, 5) bit refl
+
+-- `refused`: the record comes back marked
+pub refused-marks : Excludes {A = Transaction × ℕ} (λ (t, why). refusedOf t why) (λ (t, why). refusedOf (withMark t) why)
+refused-marks = apart (idleOf 0, 5) (λ (a : Answered). bit (a .txn .marked)) refl
+
+-- `refused`: always with number 5
+pub refused-always-5 : Excludes {A = Transaction × ℕ} (λ (t, why). refusedOf t why) (λ (t, why). refusedOf t 5)
+refused-always-5 = apart (idleOf 0, 7) (λ (a : Answered). numberIn (a .answer)) refl
+
+-- `with_phase`: the phase stays
+pub with-phase-stays : Excludes {A = Transaction × Phase} (λ (t, ph). withPhase t ph) (λ (t, ph). t)
+with-phase-stays = apart (idleOf 0, phase.Ended) (λ (t : Transaction). rank (phaseView (t .phase))) refl
+
+-- `with_phase`: number and lists are lost
+pub with-phase-forgets : Excludes {A = Transaction × Phase} (λ (t, ph). withPhase t ph) (λ (t, ph). withPhase (idleOf (t .slot)) ph)
+with-phase-forgets = apart (five phase.Open, phase.Ended) (λ (t : Transaction). t .number) refl
+
+-- `with_mark`: no mark is set
+pub with-mark-none : Excludes (λ t. withMark t) (λ t. t)
+with-mark-none = apart (idleOf 0) (λ (t : Transaction). bit (t .marked)) refl
+
+-- `with_mark`: the transaction ends
+pub with-mark-ends : Excludes (λ t. withMark t) (λ t. withPhase (withMark t) phase.Ended)
+with-mark-ends = apart (idleOf 0) (λ (t : Transaction). rank (phaseView (t .phase))) refl

@@ -1,0 +1,46 @@
+-- How two outcomes are told apart, and the small records on which that is done.
+-- Assumes nothing.
+use Prim.Native.Nat.{ℕ}
+use mathlib.Core.Path.{_≡_, sym, ap, _∙_}
+use mathlib.Core.Bool.{Bool, false, cond, true≢false}
+use lib.Dec.{eqb}
+use lib.ListN.{replicate}
+use borrow.Author.Tests.{eq-eqb}
+use Rattle.limits.specs.Limits.{mostActive}
+use Rattle.protocol.specs.declared.Answer.{Answer}
+use Rattle.protocol.specs.declared.Answer.the-variants as tell
+use Rattle.record.specs.declared.Phase.{Phase}
+use Rattle.record.specs.declared.Transaction.{Transaction}
+use Rattle.tightness.specs.Wrong.{Excludes}
+
+-- a number that is read off both outcomes differs
+pub apart : {A B : Type 0} {right wrong : A → B} (input : A) (look : B → ℕ) → eqb (look (right input)) (look (wrong input)) ≡ false → Excludes right wrong
+apart input look d = record { input = input; differ = λ e. true≢false (sym (eq-eqb _ _ (ap look e)) ∙ d) }
+
+-- a test as a number
+abbrev pub bit : Bool → ℕ
+bit b = cond b 1 0
+
+-- the number in an answer
+abbrev pub numberIn : Answer → ℕ
+numberIn tell.Done = 0
+numberIn (tell.Number n) = n
+numberIn (tell.Stamp n) = n
+numberIn (tell.Count n) = n
+numberIn (tell.Rows n) = n
+numberIn (tell.Judged v) = 0
+numberIn (tell.Refused n) = n
+
+-- transaction 5 of slot 0, with snapshot xmax 6, none active and nothing in its lists
+abbrev pub five : Phase → Transaction
+five ph = record {
+  number = 5;
+  snapshot = record { xmin = 5; xmax = 6; active = replicate mostActive 0; «active_n» = 0 };
+  marked = false;
+  phase = ph;
+  slot = 0;
+  «reads_n» = 0;
+  «writes_n» = 0;
+  «records_n» = 0;
+  «candidates_n» = 0;
+}

@@ -1,0 +1,1 @@
+// Wrong bodies that the contracts of the public functions shut out, each as a fact (proofs/): no code.
