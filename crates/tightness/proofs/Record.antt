@@ -1,17 +1,17 @@
 -- `record`: wrong bodies of its public functions.
 -- Assumes nothing.
-use Prim.Native.Nat.{ℕ, _-_, _%_, _/_, min}
+use Prim.Native.Nat.{ℕ, _+_, _-_, _%_, _/_, min}
 use mathlib.Core.Path.{refl}
-use mathlib.Core.Bool.{Bool, cond, not}
+use mathlib.Core.Bool.{cond, not}
 use mathlib.Core.List.{List, [], _∷_}
 use lib.Dec.{eqb}
-use lib.ListN.{getD, replicate}
+use lib.ListN.{getD}
 use Rattle.model.specs.Lists.{pick}
 use Rattle.model.specs.Store.{rank, bucketIn, keyIn}
 use Rattle.tables.specs.Words.{field, setField}
 use Rattle.tables.specs.Fields.{postedOf, postedKeyOf}
-use Rattle.tables.specs.Lists.{writes, candidates}
-use Rattle.tables.specs.Regions.{listOf}
+use Rattle.tables.specs.Lists.{writes}
+use Rattle.tables.specs.Regions.{words, listOf}
 use Rattle.scans.specs.Scans.{firstFrom}
 use Rattle.record.specs.declared.Phase.{Phase}
 use Rattle.record.specs.declared.Phase.the-variants as phase
@@ -20,7 +20,7 @@ use Rattle.record.specs.declared.Answered.{Answered}
 use Rattle.record.specs.View.{phaseView}
 use Rattle.record.specs.Methods.{idleOf, withPhase, withMark, takenBy, refusedOf, Left, LeftLists, left, holdOf, captureAt, captureOf, writeOf, postedWith, collectOf}
 use Rattle.tightness.specs.Wrong.{Excludes}
-use Rattle.tightness.proofs.Small.{apart, bit, numberIn, five}
+use Rattle.tightness.proofs.Small.{apart, bit, numberIn, five, starting}
 
 -- `phase_rank`: counted from 0
 pub phase-rank-from-0 : Excludes (λ ph. rank (phaseView ph)) (λ ph. rank (phaseView ph) - 1)
@@ -93,3 +93,88 @@ with-mark-none = apart (idleOf 0) (λ (t : Transaction). bit (t .marked)) refl
 -- `with_mark`: the transaction ends
 pub with-mark-ends : Excludes (λ t. withMark t) (λ t. withPhase (withMark t) phase.Ended)
 with-mark-ends = apart (idleOf 0) (λ (t : Transaction). rank (phaseView (t .phase))) refl
+
+-- what the contracts of `capture`, `put`, `erase` and `collect` ask for
+abbrev capture : ℕ × Transaction × ℕ × List ℕ × List ℕ → Left
+capture (count, t, key, buckets, lists) = captureOf count t key buckets lists
+
+abbrev put : ℕ × Transaction × ℕ × ℕ × ℕ × List ℕ → LeftLists
+put (rows, t, row, key, payload, lists) = writeOf rows t (record { row = row; keyed = 1; key = key; payload = payload }) lists
+
+abbrev erase : ℕ × Transaction × ℕ × List ℕ → LeftLists
+erase (rows, t, row, lists) = writeOf rows t (record { row = row; keyed = 0; key = 0; payload = 0 }) lists
+
+abbrev collect : List ℕ × ℕ × Transaction × List ℕ × List ℕ → Left
+collect (rows, n, t, buckets, lists) = collectOf rows n t buckets lists
+
+-- one bucket, of stamp 1 and free, and room for one index read
+abbrev capturing : ℕ × Transaction × ℕ × List ℕ × List ℕ
+capturing = (1, five phase.Open, 7, 1 ∷ 0 ∷ [], 0 ∷ 0 ∷ [])
+
+-- `capture`: the bucket is not taken
+pub capture-bucket-free : Excludes capture (λ (count, t, key, buckets, lists). left (capture (count, t, key, buckets, lists) .reply) buckets (capture (count, t, key, buckets, lists) .lists))
+unfolding captureAt holdOf field setField words listOf firstFrom
+capture-bucket-free = apart capturing (λ (l : Left). getD (l .buckets) 1 0) refl
+
+-- `capture`: no index read is added
+pub capture-no-index-read : Excludes capture (λ (count, t, key, buckets, lists). left (capture (count, t, key, buckets, lists) .reply) (capture (count, t, key, buckets, lists) .buckets) lists)
+unfolding captureAt holdOf field setField words listOf firstFrom
+capture-no-index-read = apart capturing (λ (l : Left). getD (l .lists) 1 0) refl
+
+-- `capture`: the bucket is the key itself
+pub capture-key-itself : Excludes capture (λ (count, t, key, buckets, lists). captureAt t key key buckets lists)
+unfolding captureAt holdOf field setField words listOf firstFrom
+capture-key-itself = apart capturing (λ (l : Left). getD (l .buckets) 1 0) refl
+
+-- `capture`: always refused
+pub capture-refuses : Excludes capture (λ (count, t, key, buckets, lists). left (refusedOf t 8) buckets lists)
+unfolding captureAt holdOf field setField words listOf firstFrom
+capture-refuses = apart capturing (λ (l : Left). numberIn (l .reply .answer)) refl
+
+-- room for one pending write
+abbrev roomy : List ℕ
+roomy = starting writes (0 ∷ 0 ∷ 0 ∷ 0 ∷ [])
+
+-- `put`: the payload goes where the key goes
+pub put-payload-for-key : Excludes put (λ (rows, t, row, key, payload, lists). put (rows, t, row, payload, key, lists))
+unfolding writeOf
+put-payload-for-key = apart (1, five phase.Open, 0, 7, 9, roomy) (λ (l : LeftLists). getD (l .lists) (writes .off + 2) 0) refl
+
+-- `put`: written without a key, as an erase
+pub put-keyless : Excludes put (λ (rows, t, row, key, payload, lists). erase (rows, t, row, lists))
+unfolding writeOf
+put-keyless = apart (1, five phase.Open, 0, 7, 9, roomy) (λ (l : LeftLists). getD (l .lists) (writes .off + 1) 0) refl
+
+-- `erase`: written with the key 0
+pub erase-keyed : Excludes erase (λ (rows, t, row, lists). put (rows, t, row, 0, 0, lists))
+unfolding writeOf
+erase-keyed = apart (1, five phase.Open, 0, roomy) (λ (l : LeftLists). getD (l .lists) (writes .off + 1) 0) refl
+
+-- `erase`: always refused
+pub erase-refuses : Excludes erase (λ (rows, t, row, lists). record { reply = refusedOf t 12; lists = lists })
+unfolding writeOf
+erase-refuses = apart (1, five phase.Open, 0, roomy) (λ (l : LeftLists). numberIn (l .reply .answer)) refl
+
+-- row 0 posted with key 7, whose bucket is held
+abbrev collecting : List ℕ × ℕ × Transaction × List ℕ × List ℕ
+collecting = (0 ∷ 0 ∷ 1 ∷ 7 ∷ [], 1, five (phase.Holding 0 7), 0 ∷ 5 ∷ [], [])
+
+-- `collect`: the bucket stays held
+pub collect-bucket-held : Excludes collect (λ (rows, n, t, buckets, lists). left (collect (rows, n, t, buckets, lists) .reply) buckets (collect (rows, n, t, buckets, lists) .lists))
+unfolding collectOf pick field setField
+collect-bucket-held = apart collecting (λ (l : Left). getD (l .buckets) 1 0) refl
+
+-- `collect`: the last row is not looked at
+pub collect-last-row-missed : Excludes collect (λ (rows, n, t, buckets, lists). collect (rows, n - 1, t, buckets, lists))
+unfolding collectOf pick field setField
+collect-last-row-missed = apart collecting (λ (l : Left). numberIn (l .reply .answer)) refl
+
+-- `posted_with`: a row without a posting is posted with key 0
+pub posted-with-none : Excludes {A = List ℕ × ℕ × ℕ} (λ (rows, r, key). postedWith rows key r) (λ (rows, r, key). eqb (postedKeyOf rows r) key)
+unfolding field
+posted-with-none = apart ([], 0, 0) bit refl
+
+-- `posted_with`: with any key
+pub posted-with-any : Excludes {A = List ℕ × ℕ × ℕ} (λ (rows, r, key). postedWith rows key r) (λ (rows, r, key). not (eqb (postedOf rows r) 0))
+unfolding field
+posted-with-any = apart (0 ∷ 0 ∷ 1 ∷ 7 ∷ [], 0, 5) bit refl

@@ -3,12 +3,14 @@
 use Prim.Native.Nat.{ℕ}
 use mathlib.Core.Path.{_≡_, sym, ap, _∙_}
 use mathlib.Core.Bool.{Bool, false, cond, true≢false}
+use mathlib.Core.List.{List, _++_}
 use lib.Dec.{eqb}
 use lib.ListN.{replicate}
 use borrow.Author.Tests.{eq-eqb}
 use Rattle.limits.specs.Limits.{mostActive}
 use Rattle.protocol.specs.declared.Answer.{Answer}
 use Rattle.protocol.specs.declared.Answer.the-variants as tell
+use Rattle.tables.specs.Lists.{Kind}
 use Rattle.record.specs.declared.Phase.{Phase}
 use Rattle.record.specs.declared.Transaction.{Transaction}
 use Rattle.tightness.specs.Wrong.{Excludes}
@@ -30,6 +32,10 @@ numberIn (tell.Count n) = n
 numberIn (tell.Rows n) = n
 numberIn (tell.Judged v) = 0
 numberIn (tell.Refused n) = n
+
+-- slot 0's lists up to a list's start, and this entry there
+abbrev pub starting : Kind → List ℕ → List ℕ
+starting k vs = replicate (k .off) 0 ++ vs
 
 -- transaction 5 of slot 0, with snapshot xmax 6, none active and nothing in its lists
 abbrev pub five : Phase → Transaction

@@ -3,9 +3,9 @@
 use Prim.Native.Nat.{ℕ, zero, suc, _+_, _*_, _≤_, _<_}
 use mathlib.Core.Path.{_≡_, refl, ap}
 use mathlib.Core.Logic.{_≢_}
-use mathlib.Core.List.{List, [], _∷_, _++_}
+use mathlib.Core.List.{List, [], _∷_}
 use native.Mathlib.Omega.{arith}
-use lib.ListN.{length, getD, set, replicate}
+use lib.ListN.{length, getD, set}
 use lib.Seq.{getD-set-same, getD-set-other}
 use Rattle.tables.specs.Words.{field, setField}
 use Rattle.tables.specs.Regions.{words}
@@ -15,7 +15,7 @@ use Rattle.tables.specs.declared.lists.Write.{Write}
 use Rattle.tables.specs.declared.lists.ReadRecord.{ReadRecord}
 use Rattle.tables.proofs.Spans.{words-at}
 use Rattle.tightness.specs.Wrong.{Excludes}
-use Rattle.tightness.proofs.Small.{apart}
+use Rattle.tightness.proofs.Small.{apart, starting}
 
 -- words that are 0 up to the last, which is 1
 only : ℕ → List ℕ
@@ -119,6 +119,23 @@ module _ (k : Kind) (j : ℕ) (h : j < k .w) where
   pub entry-next-slot : Excludes wordOf (λ (xs, s, i). getD (words (k .w) (placeOf k (s + 1) i) xs) j 0)
   entry-next-slot = record { input = (only (placeOf k 0 0 + j), 0, 0); differ = words-differ (k .w) (placeOf k 1 0) j h (omega arith) }
 
+-- what the contracts of `put_read`, `put_write`, `put_record` and `put_candidate` ask for
+abbrev putRead : List ℕ × ℕ × ℕ × ℕ × ℕ → List ℕ
+putRead (xs, s, i, bucket, stamp) = stored reads xs s i (bucket ∷ stamp ∷ [])
+
+abbrev putWrite : List ℕ × ℕ × ℕ × ℕ × ℕ × ℕ × ℕ → List ℕ
+putWrite (xs, s, i, row, keyed, key, payload) = stored writes xs s i (row ∷ keyed ∷ key ∷ payload ∷ [])
+
+abbrev putRecord : List ℕ × ℕ × ℕ × ℕ × ℕ × ℕ → List ℕ
+putRecord (xs, s, i, row, ptr, xmin) = stored records xs s i (row ∷ ptr ∷ xmin ∷ [])
+
+abbrev putCandidate : List ℕ × ℕ × ℕ × ℕ → List ℕ
+putCandidate (xs, s, i, row) = stored candidates xs s i (row ∷ [])
+
+-- the word at which a list of slot 0 starts
+abbrev firstWord : Kind → List ℕ → ℕ
+firstWord k xs = getD xs (k .off) 0
+
 -- `read_at`: bucket and stamp change places
 pub read-at-swapped : Excludes {A = List ℕ × ℕ × ℕ} (λ (xs, s, i). readAt xs s i) (λ (xs, s, i). record { bucket = readAt xs s i .stamp; stamp = readAt xs s i .bucket })
 unfolding words
@@ -130,36 +147,31 @@ unfolding words
 read-at-mixed = apart (1 ∷ 2 ∷ [], 0, 0) (λ (r : IndexRead). r .stamp) refl
 
 -- `put_read`: bucket and stamp change places
-pub put-read-swapped : Excludes {A = List ℕ × ℕ × ℕ × ℕ × ℕ} (λ (xs, s, i, bucket, stamp). stored reads xs s i (bucket ∷ stamp ∷ [])) (λ (xs, s, i, bucket, stamp). stored reads xs s i (stamp ∷ bucket ∷ []))
-put-read-swapped = apart (0 ∷ 0 ∷ [], 0, 0, 1, 2) (λ xs. getD xs 0 0) refl
+pub put-read-swapped : Excludes putRead (λ (xs, s, i, bucket, stamp). putRead (xs, s, i, stamp, bucket))
+put-read-swapped = apart (0 ∷ 0 ∷ [], 0, 0, 1, 2) (firstWord reads) refl
 
 -- `put_read`: stored in the next slot
-pub put-read-next-slot : Excludes {A = List ℕ × ℕ × ℕ × ℕ × ℕ} (λ (xs, s, i, bucket, stamp). stored reads xs s i (bucket ∷ stamp ∷ [])) (λ (xs, s, i, bucket, stamp). stored reads xs (s + 1) i (bucket ∷ stamp ∷ []))
-put-read-next-slot = apart (0 ∷ 0 ∷ [], 0, 0, 1, 2) (λ xs. getD xs 0 0) refl
-
--- the lists up to a list's start, and an entry there
-abbrev starting : Kind → List ℕ → List ℕ
-starting k vs = replicate (k .off) 0 ++ vs
-
-abbrev firstWord : Kind → List ℕ → ℕ
-firstWord k xs = getD xs (k .off) 0
+pub put-read-next-slot : Excludes putRead (λ (xs, s, i, bucket, stamp). putRead (xs, s + 1, i, bucket, stamp))
+put-read-next-slot = apart (0 ∷ 0 ∷ [], 0, 0, 1, 2) (firstWord reads) refl
 
 -- `write_at`: key and payload change places
-pub write-at-swapped : Excludes {A = List ℕ × ℕ × ℕ} (λ (xs, s, i). writeAt xs s i) (λ (xs, s, i). record { row = writeAt xs s i .row; keyed = writeAt xs s i .keyed; key = writeAt xs s i .payload; payload = writeAt xs s i .key })
+pub write-at-swapped : Excludes {A = List ℕ × ℕ × ℕ} (λ (xs, s, i). writeAt xs s i)
+    (λ (xs, s, i). record { row = writeAt xs s i .row; keyed = writeAt xs s i .keyed; key = writeAt xs s i .payload; payload = writeAt xs s i .key })
 unfolding words
 write-at-swapped = apart (starting writes (1 ∷ 1 ∷ 2 ∷ 3 ∷ []), 0, 0) (λ (w : Write). w .key) refl
 
 -- `write_at`: every write has a key, an erase too
-pub write-at-keyed : Excludes {A = List ℕ × ℕ × ℕ} (λ (xs, s, i). writeAt xs s i) (λ (xs, s, i). record { row = writeAt xs s i .row; keyed = 1; key = writeAt xs s i .key; payload = writeAt xs s i .payload })
+pub write-at-keyed : Excludes {A = List ℕ × ℕ × ℕ} (λ (xs, s, i). writeAt xs s i)
+    (λ (xs, s, i). record { row = writeAt xs s i .row; keyed = 1; key = writeAt xs s i .key; payload = writeAt xs s i .payload })
 unfolding words
 write-at-keyed = apart (starting writes (1 ∷ 0 ∷ 0 ∷ 0 ∷ []), 0, 0) (λ (w : Write). w .keyed) refl
 
 -- `put_write`: row and key change places
-pub put-write-swapped : Excludes {A = List ℕ × ℕ × ℕ × ℕ × ℕ × ℕ × ℕ} (λ (xs, s, i, row, keyed, key, payload). stored writes xs s i (row ∷ keyed ∷ key ∷ payload ∷ [])) (λ (xs, s, i, row, keyed, key, payload). stored writes xs s i (key ∷ keyed ∷ row ∷ payload ∷ []))
+pub put-write-swapped : Excludes putWrite (λ (xs, s, i, row, keyed, key, payload). putWrite (xs, s, i, key, keyed, row, payload))
 put-write-swapped = apart (starting writes (0 ∷ 0 ∷ 0 ∷ 0 ∷ []), 0, 0, 1, 1, 2, 3) (firstWord writes) refl
 
 -- `put_write`: stored where the index reads stand
-pub put-write-other-list : Excludes {A = List ℕ × ℕ × ℕ × ℕ × ℕ × ℕ × ℕ} (λ (xs, s, i, row, keyed, key, payload). stored writes xs s i (row ∷ keyed ∷ key ∷ payload ∷ [])) (λ (xs, s, i, row, keyed, key, payload). stored reads xs s i (row ∷ keyed ∷ key ∷ payload ∷ []))
+pub put-write-other-list : Excludes putWrite (λ (xs, s, i, row, keyed, key, payload). stored reads xs s i (row ∷ keyed ∷ key ∷ payload ∷ []))
 put-write-other-list = apart (starting writes (0 ∷ 0 ∷ 0 ∷ 0 ∷ []), 0, 0, 1, 1, 2, 3) (firstWord writes) refl
 
 -- `record_at`: row and pointer change places
@@ -173,17 +185,17 @@ unfolding words
 record-at-other-xmin = apart (starting records (1 ∷ 2 ∷ 3 ∷ []), 0, 0) (λ (r : ReadRecord). r .xmin) refl
 
 -- `put_record`: row and pointer change places
-pub put-record-swapped : Excludes {A = List ℕ × ℕ × ℕ × ℕ × ℕ × ℕ} (λ (xs, s, i, row, ptr, xmin). stored records xs s i (row ∷ ptr ∷ xmin ∷ [])) (λ (xs, s, i, row, ptr, xmin). stored records xs s i (ptr ∷ row ∷ xmin ∷ []))
+pub put-record-swapped : Excludes putRecord (λ (xs, s, i, row, ptr, xmin). putRecord (xs, s, i, ptr, row, xmin))
 put-record-swapped = apart (starting records (0 ∷ 0 ∷ 0 ∷ []), 0, 0, 1, 2, 3) (firstWord records) refl
 
 -- `put_record`: the xmin is left out
-pub put-record-cut : Excludes {A = List ℕ × ℕ × ℕ × ℕ × ℕ × ℕ} (λ (xs, s, i, row, ptr, xmin). stored records xs s i (row ∷ ptr ∷ xmin ∷ [])) (λ (xs, s, i, row, ptr, xmin). stored records xs s i (row ∷ ptr ∷ []))
+pub put-record-cut : Excludes putRecord (λ (xs, s, i, row, ptr, xmin). stored records xs s i (row ∷ ptr ∷ []))
 put-record-cut = apart (starting records (0 ∷ 0 ∷ 0 ∷ []), 0, 0, 1, 2, 3) (λ xs. getD xs (records .off + 2) 0) refl
 
 -- `put_candidate`: nothing is stored
-pub put-candidate-nothing : Excludes {A = List ℕ × ℕ × ℕ × ℕ} (λ (xs, s, i, row). stored candidates xs s i (row ∷ [])) (λ (xs, s, i, row). xs)
+pub put-candidate-nothing : Excludes putCandidate (λ (xs, s, i, row). xs)
 put-candidate-nothing = apart (starting candidates (0 ∷ []), 0, 0, 1) (firstWord candidates) refl
 
 -- `put_candidate`: its place is stored, not the row
-pub put-candidate-place : Excludes {A = List ℕ × ℕ × ℕ × ℕ} (λ (xs, s, i, row). stored candidates xs s i (row ∷ [])) (λ (xs, s, i, row). stored candidates xs s i (i ∷ []))
+pub put-candidate-place : Excludes putCandidate (λ (xs, s, i, row). putCandidate (xs, s, i, i))
 put-candidate-place = apart (starting candidates (0 ∷ []), 0, 0, 1) (firstWord candidates) refl
