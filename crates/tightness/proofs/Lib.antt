@@ -1,3 +1,4 @@
 pub mod Small
 pub mod Tables
 pub mod Record
+pub mod Holders

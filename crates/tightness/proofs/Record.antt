@@ -6,21 +6,17 @@ use mathlib.Core.Bool.{cond, not}
 use mathlib.Core.List.{List, [], _∷_}
 use lib.Dec.{eqb}
 use lib.ListN.{getD}
-use Rattle.model.specs.Lists.{pick}
 use Rattle.model.specs.Store.{rank, bucketIn, keyIn}
-use Rattle.tables.specs.Words.{field, setField}
 use Rattle.tables.specs.Fields.{postedOf, postedKeyOf}
 use Rattle.tables.specs.Lists.{writes}
-use Rattle.tables.specs.Regions.{words, listOf}
-use Rattle.scans.specs.Scans.{firstFrom}
 use Rattle.record.specs.declared.Phase.{Phase}
 use Rattle.record.specs.declared.Phase.the-variants as phase
 use Rattle.record.specs.declared.Transaction.{Transaction}
 use Rattle.record.specs.declared.Answered.{Answered}
 use Rattle.record.specs.View.{phaseView}
-use Rattle.record.specs.Methods.{idleOf, withPhase, withMark, takenBy, refusedOf, Left, LeftLists, left, holdOf, captureAt, captureOf, writeOf, postedWith, collectOf}
+use Rattle.record.specs.Methods.{idleOf, withPhase, withMark, takenBy, refusedOf, Left, LeftLists, left, captureAt, captureOf, writeOf, postedWith, collectOf}
 use Rattle.tightness.specs.Wrong.{Excludes}
-use Rattle.tightness.proofs.Small.{apart, bit, numberIn, five, starting}
+use Rattle.tightness.proofs.Small.{apart, computes, bit, numberIn, five, starting}
 
 -- `phase_rank`: counted from 0
 pub phase-rank-from-0 : Excludes (λ ph. rank (phaseView ph)) (λ ph. rank (phaseView ph) - 1)
@@ -113,22 +109,22 @@ capturing = (1, five phase.Open, 7, 1 ∷ 0 ∷ [], 0 ∷ 0 ∷ [])
 
 -- `capture`: the bucket is not taken
 pub capture-bucket-free : Excludes capture (λ (count, t, key, buckets, lists). left (capture (count, t, key, buckets, lists) .reply) buckets (capture (count, t, key, buckets, lists) .lists))
-unfolding captureAt holdOf field setField words listOf firstFrom
+unfolding computes
 capture-bucket-free = apart capturing (λ (l : Left). getD (l .buckets) 1 0) refl
 
 -- `capture`: no index read is added
 pub capture-no-index-read : Excludes capture (λ (count, t, key, buckets, lists). left (capture (count, t, key, buckets, lists) .reply) (capture (count, t, key, buckets, lists) .buckets) lists)
-unfolding captureAt holdOf field setField words listOf firstFrom
+unfolding computes
 capture-no-index-read = apart capturing (λ (l : Left). getD (l .lists) 1 0) refl
 
 -- `capture`: the bucket is the key itself
 pub capture-key-itself : Excludes capture (λ (count, t, key, buckets, lists). captureAt t key key buckets lists)
-unfolding captureAt holdOf field setField words listOf firstFrom
+unfolding computes
 capture-key-itself = apart capturing (λ (l : Left). getD (l .buckets) 1 0) refl
 
 -- `capture`: always refused
 pub capture-refuses : Excludes capture (λ (count, t, key, buckets, lists). left (refusedOf t 8) buckets lists)
-unfolding captureAt holdOf field setField words listOf firstFrom
+unfolding computes
 capture-refuses = apart capturing (λ (l : Left). numberIn (l .reply .answer)) refl
 
 -- room for one pending write
@@ -137,22 +133,22 @@ roomy = starting writes (0 ∷ 0 ∷ 0 ∷ 0 ∷ [])
 
 -- `put`: the payload goes where the key goes
 pub put-payload-for-key : Excludes put (λ (rows, t, row, key, payload, lists). put (rows, t, row, payload, key, lists))
-unfolding writeOf
+unfolding computes
 put-payload-for-key = apart (1, five phase.Open, 0, 7, 9, roomy) (λ (l : LeftLists). getD (l .lists) (writes .off + 2) 0) refl
 
 -- `put`: written without a key, as an erase
 pub put-keyless : Excludes put (λ (rows, t, row, key, payload, lists). erase (rows, t, row, lists))
-unfolding writeOf
+unfolding computes
 put-keyless = apart (1, five phase.Open, 0, 7, 9, roomy) (λ (l : LeftLists). getD (l .lists) (writes .off + 1) 0) refl
 
 -- `erase`: written with the key 0
 pub erase-keyed : Excludes erase (λ (rows, t, row, lists). put (rows, t, row, 0, 0, lists))
-unfolding writeOf
+unfolding computes
 erase-keyed = apart (1, five phase.Open, 0, roomy) (λ (l : LeftLists). getD (l .lists) (writes .off + 1) 0) refl
 
 -- `erase`: always refused
 pub erase-refuses : Excludes erase (λ (rows, t, row, lists). record { reply = refusedOf t 12; lists = lists })
-unfolding writeOf
+unfolding computes
 erase-refuses = apart (1, five phase.Open, 0, roomy) (λ (l : LeftLists). numberIn (l .reply .answer)) refl
 
 -- row 0 posted with key 7, whose bucket is held
@@ -161,20 +157,20 @@ collecting = (0 ∷ 0 ∷ 1 ∷ 7 ∷ [], 1, five (phase.Holding 0 7), 0 ∷ 5 �
 
 -- `collect`: the bucket stays held
 pub collect-bucket-held : Excludes collect (λ (rows, n, t, buckets, lists). left (collect (rows, n, t, buckets, lists) .reply) buckets (collect (rows, n, t, buckets, lists) .lists))
-unfolding collectOf pick field setField
+unfolding computes
 collect-bucket-held = apart collecting (λ (l : Left). getD (l .buckets) 1 0) refl
 
 -- `collect`: the last row is not looked at
 pub collect-last-row-missed : Excludes collect (λ (rows, n, t, buckets, lists). collect (rows, n - 1, t, buckets, lists))
-unfolding collectOf pick field setField
+unfolding computes
 collect-last-row-missed = apart collecting (λ (l : Left). numberIn (l .reply .answer)) refl
 
 -- `posted_with`: a row without a posting is posted with key 0
 pub posted-with-none : Excludes {A = List ℕ × ℕ × ℕ} (λ (rows, r, key). postedWith rows key r) (λ (rows, r, key). eqb (postedKeyOf rows r) key)
-unfolding field
+unfolding computes
 posted-with-none = apart ([], 0, 0) bit refl
 
 -- `posted_with`: with any key
 pub posted-with-any : Excludes {A = List ℕ × ℕ × ℕ} (λ (rows, r, key). postedWith rows key r) (λ (rows, r, key). not (eqb (postedOf rows r) 0))
-unfolding field
+unfolding computes
 posted-with-any = apart (0 ∷ 0 ∷ 1 ∷ 7 ∷ [], 0, 5) bit refl

@@ -10,7 +10,15 @@ use borrow.Author.Tests.{eq-eqb}
 use Rattle.limits.specs.Limits.{mostActive}
 use Rattle.protocol.specs.declared.Answer.{Answer}
 use Rattle.protocol.specs.declared.Answer.the-variants as tell
+use Rattle.model.proofs.Computes as model
+use Rattle.tables.specs.Words.{field, setField}
+use Rattle.tables.specs.Regions.{words, listOf}
 use Rattle.tables.specs.Lists.{Kind}
+use Rattle.scans.specs.Scans.{firstFrom, lastBelow}
+use Rattle.record.specs.Methods.{holdOf, captureAt, writeOf, collectOf}
+use Rattle.holders.specs.Keys.{versionKey, oldKeyOf, newKeyOf}
+use Rattle.holders.specs.Needs.{pushOne, pushAll, bucketsFor, writeNeeds, writeChanges}
+use Rattle.holders.specs.Holders.{holdAll, stampAll, freeAll, claimAll, unclaimAll}
 use Rattle.record.specs.declared.Phase.{Phase}
 use Rattle.record.specs.declared.Transaction.{Transaction}
 use Rattle.tightness.specs.Wrong.{Excludes}
@@ -18,6 +26,11 @@ use Rattle.tightness.specs.Wrong.{Excludes}
 -- a number that is read off both outcomes differs
 pub apart : {A B : Type 0} {right wrong : A → B} (input : A) (look : B → ℕ) → eqb (look (right input)) (look (wrong input)) ≡ false → Excludes right wrong
 apart input look d = record { input = input; differ = λ e. true≢false (sym (eq-eqb _ _ (ap look e)) ∙ d) }
+
+-- one name that opens every definition of the functions, so that an outcome on numerals computes
+unfoldable pub computes : Unit {0}
+unfolding model.computes field setField words listOf firstFrom lastBelow holdOf captureAt writeOf collectOf versionKey oldKeyOf newKeyOf pushOne pushAll bucketsFor writeNeeds writeChanges holdAll stampAll freeAll claimAll unclaimAll
+computes = tt
 
 -- a test as a number
 abbrev pub bit : Bool → ℕ

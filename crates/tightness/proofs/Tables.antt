@@ -15,7 +15,7 @@ use Rattle.tables.specs.declared.lists.Write.{Write}
 use Rattle.tables.specs.declared.lists.ReadRecord.{ReadRecord}
 use Rattle.tables.proofs.Spans.{words-at}
 use Rattle.tightness.specs.Wrong.{Excludes}
-use Rattle.tightness.proofs.Small.{apart, starting}
+use Rattle.tightness.proofs.Small.{apart, computes, starting}
 
 -- words that are 0 up to the last, which is 1
 only : ℕ → List ℕ
@@ -138,12 +138,12 @@ firstWord k xs = getD xs (k .off) 0
 
 -- `read_at`: bucket and stamp change places
 pub read-at-swapped : Excludes {A = List ℕ × ℕ × ℕ} (λ (xs, s, i). readAt xs s i) (λ (xs, s, i). record { bucket = readAt xs s i .stamp; stamp = readAt xs s i .bucket })
-unfolding words
+unfolding computes
 read-at-swapped = apart (1 ∷ 2 ∷ [], 0, 0) (λ (r : IndexRead). r .bucket) refl
 
 -- `read_at`: the stamp of the next entry
 pub read-at-mixed : Excludes {A = List ℕ × ℕ × ℕ} (λ (xs, s, i). readAt xs s i) (λ (xs, s, i). record { bucket = readAt xs s i .bucket; stamp = readAt xs s (i + 1) .stamp })
-unfolding words
+unfolding computes
 read-at-mixed = apart (1 ∷ 2 ∷ [], 0, 0) (λ (r : IndexRead). r .stamp) refl
 
 -- `put_read`: bucket and stamp change places
@@ -157,13 +157,13 @@ put-read-next-slot = apart (0 ∷ 0 ∷ [], 0, 0, 1, 2) (firstWord reads) refl
 -- `write_at`: key and payload change places
 pub write-at-swapped : Excludes {A = List ℕ × ℕ × ℕ} (λ (xs, s, i). writeAt xs s i)
     (λ (xs, s, i). record { row = writeAt xs s i .row; keyed = writeAt xs s i .keyed; key = writeAt xs s i .payload; payload = writeAt xs s i .key })
-unfolding words
+unfolding computes
 write-at-swapped = apart (starting writes (1 ∷ 1 ∷ 2 ∷ 3 ∷ []), 0, 0) (λ (w : Write). w .key) refl
 
 -- `write_at`: every write has a key, an erase too
 pub write-at-keyed : Excludes {A = List ℕ × ℕ × ℕ} (λ (xs, s, i). writeAt xs s i)
     (λ (xs, s, i). record { row = writeAt xs s i .row; keyed = 1; key = writeAt xs s i .key; payload = writeAt xs s i .payload })
-unfolding words
+unfolding computes
 write-at-keyed = apart (starting writes (1 ∷ 0 ∷ 0 ∷ 0 ∷ []), 0, 0) (λ (w : Write). w .keyed) refl
 
 -- `put_write`: row and key change places
@@ -176,12 +176,12 @@ put-write-other-list = apart (starting writes (0 ∷ 0 ∷ 0 ∷ 0 ∷ []), 0, 0
 
 -- `record_at`: row and pointer change places
 pub record-at-swapped : Excludes {A = List ℕ × ℕ × ℕ} (λ (xs, s, i). recordAt xs s i) (λ (xs, s, i). record { row = recordAt xs s i .ptr; ptr = recordAt xs s i .row; xmin = recordAt xs s i .xmin })
-unfolding words
+unfolding computes
 record-at-swapped = apart (starting records (1 ∷ 2 ∷ 3 ∷ []), 0, 0) (λ (r : ReadRecord). r .row) refl
 
 -- `record_at`: the pointer for the xmin
 pub record-at-other-xmin : Excludes {A = List ℕ × ℕ × ℕ} (λ (xs, s, i). recordAt xs s i) (λ (xs, s, i). record { row = recordAt xs s i .row; ptr = recordAt xs s i .ptr; xmin = recordAt xs s i .ptr })
-unfolding words
+unfolding computes
 record-at-other-xmin = apart (starting records (1 ∷ 2 ∷ 3 ∷ []), 0, 0) (λ (r : ReadRecord). r .xmin) refl
 
 -- `put_record`: row and pointer change places

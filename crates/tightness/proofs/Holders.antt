@@ -1,0 +1,283 @@
+-- `holders`: wrong bodies of its public functions.
+-- Assumes nothing.
+use Prim.Native.Nat.{ℕ, _+_, _-_, _%_, min}
+use mathlib.Core.Path.{refl}
+use mathlib.Core.Bool.{Bool, true, false, cond, not}
+use mathlib.Core.List.{List, [], _∷_, map}
+use lib.Dec.{eqb}
+use lib.ListN.{getD, set, take}
+use Rattle.limits.specs.Limits.{mostWrites}
+use Rattle.model.specs.Lists.{some-of, all-of, join}
+use Rattle.model.specs.Store as model
+use Rattle.tables.specs.Fields as fields
+use Rattle.tables.specs.Lists.{readsOf, writes as pending}
+use Rattle.tables.specs.declared.lists.IndexRead.{IndexRead}
+use Rattle.scans.specs.Scans.{firstPlace}
+use Rattle.record.specs.Methods.{takenBy}
+use Rattle.holders.specs.declared.Key.{Key}
+use Rattle.holders.specs.Keys.{keyOf, noKey, versionKey, oldKeyOf, writtenAt, newKeyOf}
+use Rattle.holders.specs.Needs.{Listed, pushOne, pushAll, bucketsFor, readsNeed, rowsWritten, writesNeed, writesChange}
+use Rattle.holders.specs.Holders as spec
+use Rattle.tightness.specs.Wrong.{Excludes}
+use Rattle.tightness.proofs.Small.{apart, computes, bit, starting}
+
+-- row 0 of head 2 and claim 6, whose chain is version 2, of key 7, over version 1, of this key
+abbrev row : List ℕ
+row = 2 ∷ 6 ∷ 0 ∷ 0 ∷ []
+
+abbrev chain : ℕ → List ℕ
+chain key = 0 ∷ 0 ∷ 0 ∷ 0 ∷ 0 ∷ 0 ∷ 1 ∷ 2 ∷ 0 ∷ 1 ∷ key ∷ 0 ∷ 2 ∷ 0 ∷ 1 ∷ 1 ∷ 7 ∷ 9 ∷ []
+
+-- two pending writes of row 0, of key 6 and of key 7
+abbrev twice : List ℕ
+twice = starting pending (0 ∷ 1 ∷ 6 ∷ 9 ∷ 0 ∷ 1 ∷ 7 ∷ 9 ∷ [])
+
+abbrev keyed : Key → ℕ
+keyed k = k .keyed
+
+abbrev key : Key → ℕ
+key k = k .key
+
+-- what the contracts of the functions about keys ask for
+abbrev keyOfVersion : List ℕ × ℕ → Key
+keyOfVersion (versions, p) = versionKey versions p
+
+abbrev oldKey : List ℕ × List ℕ × Bool × ℕ → Key
+oldKey (rows, versions, installed, r) = oldKeyOf rows versions installed r
+
+abbrev newKey : List ℕ × ℕ × ℕ × ℕ → Key
+newKey (lists, slot, n, r) = newKeyOf lists slot n r
+
+abbrev sameKey : Key × Key → Bool
+sameKey (a, b) = model.sameKey (keyOf a) (keyOf b)
+
+-- `key_of_version`: pointer 0 is read like any other
+pub key-of-version-0-read : Excludes keyOfVersion (λ (versions, p). record { keyed = fields.keyedOf versions p; key = fields.keyOf versions p })
+unfolding computes
+key-of-version-0-read = apart (0 ∷ 0 ∷ 0 ∷ 1 ∷ 0 ∷ 0 ∷ [], 0) keyed refl
+
+-- `key_of_version`: the payload for the key
+pub key-of-version-payload : Excludes keyOfVersion (λ (versions, p). cond (eqb p 0) noKey (record { keyed = fields.keyedOf versions p; key = fields.payloadOf versions p }))
+unfolding computes
+key-of-version-payload = apart (chain 6, 2) key refl
+
+-- `old_key`: the head's, once installed too
+pub old-key-head : Excludes oldKey (λ (rows, versions, installed, r). oldKeyOf rows versions false r)
+unfolding computes
+old-key-head = apart (row, chain 6, true, 0) key refl
+
+-- `old_key`: that of the version after the head, before the install too
+pub old-key-after-head : Excludes oldKey (λ (rows, versions, installed, r). oldKeyOf rows versions true r)
+unfolding computes
+old-key-after-head = apart (row, chain 6, false, 0) key refl
+
+-- `new_key`: the row's first write, not its last
+pub new-key-first : Excludes newKey (λ (lists, slot, n, r). writtenAt lists slot (firstPlace (rowsWritten lists slot (min n mostWrites)) r))
+unfolding computes
+new-key-first = apart (twice, 0, 2, 0) key refl
+
+-- `new_key`: the last write of all is not looked at
+pub new-key-last-missed : Excludes newKey (λ (lists, slot, n, r). newKey (lists, slot, n - 1, r))
+unfolding computes
+new-key-last-missed = apart (twice, 0, 2, 0) key refl
+
+-- `same_key`: no key is key 0
+pub same-key-none-is-0 : Excludes sameKey (λ (a, b). eqb (a .key) (b .key))
+unfolding computes
+same-key-none-is-0 = apart (noKey, record { keyed = 1; key = 0 }) bit refl
+
+-- `same_key`: any two keys are the same
+pub same-key-any : Excludes sameKey (λ (a, b). eqb (a .keyed) (b .keyed))
+unfolding computes
+same-key-any = apart (record { keyed = 1; key = 6 }, record { keyed = 1; key = 7 }) bit refl
+
+-- numbers put behind the first n of a list
+abbrev pushed : List ℕ → ℕ → List ℕ → Listed
+pushed out n xs = pushAll (record { out = out; n = n }) xs
+
+-- what the contracts of `push` and its kin ask for
+abbrev push : List ℕ × ℕ × ℕ → Listed
+push (out, n, x) = pushOne (record { out = out; n = n }) x
+
+abbrev pushKey : List ℕ × ℕ × ℕ × Key → Listed
+pushKey (out, n, buckets, k) = pushed out n (bucketsFor buckets k)
+
+abbrev pushReads : List ℕ × ℕ × ℕ × List ℕ × ℕ → Listed
+pushReads (lists, slot, reads, out, n) = pushed out n (readsNeed lists slot reads)
+
+abbrev pushWrites : List ℕ × List ℕ × List ℕ × ℕ × Bool × ℕ × ℕ × List ℕ × ℕ → Listed
+pushWrites (rows, versions, lists, buckets, installed, slot, writes, out, n) = pushed out n (writesNeed rows versions lists buckets installed slot writes)
+
+abbrev pushChanges : List ℕ × List ℕ × List ℕ × ℕ × ℕ × ℕ × List ℕ × ℕ → Listed
+pushChanges (rows, versions, lists, buckets, slot, writes, out, n) = pushed out n (writesChange rows versions lists buckets slot writes)
+
+-- room for four
+abbrev room : List ℕ
+room = 0 ∷ 0 ∷ 0 ∷ 0 ∷ []
+
+-- how many numbers are listed, and the first
+abbrev count : Listed → ℕ
+count l = l .n
+
+abbrev listed₀ : Listed → ℕ
+listed₀ l = getD (l .out) 0 0
+
+-- `push`: the number is stored, but not counted
+pub push-uncounted : Excludes push (λ (out, n, x). record { out = set out n x; n = n })
+unfolding computes
+push-uncounted = apart (0 ∷ [], 0, 7) count refl
+
+-- `push`: counted though there is no room
+pub push-no-room : Excludes push (λ (out, n, x). record { out = set out n x; n = n + 1 })
+unfolding computes
+push-no-room = apart ([], 0, 7) count refl
+
+-- `push_key`: no key needs bucket 0
+pub push-key-none : Excludes pushKey (λ (out, n, buckets, k). pushed out n ((k .key % buckets) ∷ []))
+unfolding computes
+push-key-none = apart (0 ∷ [], 0, 4, noKey) count refl
+
+-- `push_key`: the key itself, not its bucket
+pub push-key-itself : Excludes pushKey (λ (out, n, buckets, k). pushed out n (cond (eqb (k .keyed) 0) [] (k .key ∷ [])))
+unfolding computes
+push-key-itself = apart (0 ∷ [], 0, 4, record { keyed = 1; key = 5 }) listed₀ refl
+
+-- `push_reads`: the stamps, not the buckets
+pub push-reads-stamps : Excludes pushReads (λ (lists, slot, reads, out, n). pushed out n (map (λ (r : IndexRead). r .stamp) (readsOf lists slot reads)))
+unfolding computes
+push-reads-stamps = apart (1 ∷ 4 ∷ [], 0, 1, 0 ∷ [], 0) listed₀ refl
+
+-- `push_reads`: the last index read is left out
+pub push-reads-last-missed : Excludes pushReads (λ (lists, slot, reads, out, n). pushReads (lists, slot, reads - 1, out, n))
+unfolding computes
+push-reads-last-missed = apart (1 ∷ 4 ∷ [], 0, 1, 0 ∷ [], 0) count refl
+
+-- `push_writes`: the old key's bucket is not needed
+pub push-writes-new-key-only : Excludes pushWrites (λ (rows, versions, lists, buckets, installed, slot, writes, out, n). pushed out n (join (λ r. bucketsFor buckets (newKeyOf lists slot writes r)) (rowsWritten lists slot writes)))
+unfolding computes
+push-writes-new-key-only = apart (row, chain 6, twice, 4, true, 0, 2, room, 0) count refl
+
+-- `push_writes`: a write that keeps its key needs no bucket
+pub push-writes-changed-only : Excludes pushWrites (λ (rows, versions, lists, buckets, installed, slot, writes, out, n). pushChanges (rows, versions, lists, buckets, slot, writes, out, n))
+unfolding computes
+push-writes-changed-only = apart (row, chain 7, twice, 4, true, 0, 2, room, 0) count refl
+
+-- `push_changes`: a write that keeps its key changes its bucket
+pub push-changes-kept-key-too : Excludes pushChanges (λ (rows, versions, lists, buckets, slot, writes, out, n). pushWrites (rows, versions, lists, buckets, true, slot, writes, out, n))
+unfolding computes
+push-changes-kept-key-too = apart (row, chain 7, twice, 4, 0, 2, room, 0) count refl
+
+-- `push_changes`: the new key's bucket alone
+pub push-changes-new-key-only : Excludes pushChanges
+    (λ (rows, versions, lists, buckets, slot, writes, out, n). pushed out n (join (λ r. cond (sameKey (oldKeyOf rows versions true r, newKeyOf lists slot writes r)) [] (bucketsFor buckets (newKeyOf lists slot writes r))) (rowsWritten lists slot writes)))
+unfolding computes
+push-changes-new-key-only = apart (row, chain 6, twice, 4, 0, 2, room, 0) count refl
+
+-- what the contracts of the functions over the first n buckets of a list ask for
+abbrev anyTaken : List ℕ × List ℕ × ℕ × ℕ → Bool
+anyTaken (buckets, list, n, number) = spec.anyTaken buckets number (take n list)
+
+abbrev holdAll : List ℕ × List ℕ × ℕ × ℕ → List ℕ
+holdAll (buckets, list, n, number) = spec.holdAll buckets number (take n list)
+
+abbrev releaseAll : List ℕ × List ℕ × ℕ × ℕ → List ℕ
+releaseAll (buckets, list, n, number) = spec.freeAll buckets number (take n list)
+
+abbrev stampAll : List ℕ × List ℕ × ℕ × ℕ → List ℕ
+stampAll (buckets, list, n, stamp) = spec.stampAll buckets stamp (take n list)
+
+-- two buckets, 0 free and 1 held by 5, and what stands in them
+abbrev two : List ℕ
+two = 0 ∷ 0 ∷ 0 ∷ 5 ∷ []
+
+abbrev stamp₀ : List ℕ → ℕ
+stamp₀ xs = getD xs 0 0
+
+abbrev holder₀ : List ℕ → ℕ
+holder₀ xs = getD xs 1 0
+
+abbrev holder₁ : List ℕ → ℕ
+holder₁ xs = getD xs 3 0
+
+-- `any_taken`: the number's own buckets count
+pub any-taken-own : Excludes anyTaken (λ (buckets, list, n, number). some-of (λ b. not (eqb (fields.holderOf buckets b) 0)) (take n list))
+unfolding computes
+any-taken-own = apart (two, 1 ∷ [], 1, 5) bit refl
+
+-- `any_taken`: buckets behind the first n count
+pub any-taken-behind : Excludes anyTaken (λ (buckets, list, n, number). spec.anyTaken buckets number list)
+unfolding computes
+any-taken-behind = apart (two, 0 ∷ 1 ∷ [], 1, 6) bit refl
+
+-- `hold_all`: the number becomes the stamp
+pub hold-all-stamps : Excludes holdAll stampAll
+unfolding computes
+hold-all-stamps = apart (two, 0 ∷ [], 1, 6) holder₀ refl
+
+-- `hold_all`: buckets behind the first n too
+pub hold-all-behind : Excludes holdAll (λ (buckets, list, n, number). spec.holdAll buckets number list)
+unfolding computes
+hold-all-behind = apart (two, 0 ∷ [], 0, 6) holder₀ refl
+
+-- `release_all`: freed whoever holds them
+pub release-all-of-others : Excludes releaseAll (λ (buckets, list, n, number). holdAll (buckets, list, n, 0))
+unfolding computes
+release-all-of-others = apart (two, 1 ∷ [], 1, 6) holder₁ refl
+
+-- `release_all`: nothing is freed
+pub release-all-nothing : Excludes releaseAll (λ (buckets, list, n, number). buckets)
+unfolding computes
+release-all-nothing = apart (two, 1 ∷ [], 1, 5) holder₁ refl
+
+-- `stamp_all`: the stamp becomes the holder
+pub stamp-all-holds : Excludes stampAll holdAll
+unfolding computes
+stamp-all-holds = apart (two, 0 ∷ [], 1, 6) stamp₀ refl
+
+-- `stamp_all`: only the first bucket
+pub stamp-all-first : Excludes stampAll (λ (buckets, list, n, stamp). stampAll (buckets, list, min n 1, stamp))
+unfolding computes
+stamp-all-first = apart (two, 1 ∷ 0 ∷ [], 2, 6) stamp₀ refl
+
+-- what the contracts of the functions over the pending rows ask for
+abbrev anyClaimed : List ℕ × List ℕ × ℕ × ℕ × ℕ → Bool
+anyClaimed (rows, lists, slot, writes, number) = spec.anyClaimed rows number (rowsWritten lists slot writes)
+
+abbrev claimAll : List ℕ × List ℕ × ℕ × ℕ × ℕ → List ℕ
+claimAll (rows, lists, slot, writes, number) = spec.claimAll rows number (rowsWritten lists slot writes)
+
+abbrev unclaimAll : List ℕ × List ℕ × ℕ × ℕ × ℕ → List ℕ
+unclaimAll (rows, lists, slot, writes, number) = spec.unclaimAll rows number (rowsWritten lists slot writes)
+
+abbrev claim₀ : List ℕ → ℕ
+claim₀ xs = getD xs 1 0
+
+-- `any_claimed`: the number's own rows count
+pub any-claimed-own : Excludes anyClaimed (λ (rows, lists, slot, writes, number). some-of (λ r. not (eqb (fields.claimOf rows r) 0)) (rowsWritten lists slot writes))
+unfolding computes
+any-claimed-own = apart (row, twice, 0, 1, 6) bit refl
+
+-- `any_claimed`: only if every row is
+pub any-claimed-all : Excludes anyClaimed (λ (rows, lists, slot, writes, number). all-of (λ r. takenBy (fields.claimOf rows r) number) (rowsWritten lists slot writes))
+unfolding computes
+any-claimed-all = apart (row, starting pending (0 ∷ 1 ∷ 6 ∷ 9 ∷ 1 ∷ 1 ∷ 7 ∷ 9 ∷ []), 0, 2, 5) bit refl
+
+-- `claim_all`: the last pending row is left out
+pub claim-all-last-missed : Excludes claimAll (λ (rows, lists, slot, writes, number). claimAll (rows, lists, slot, writes - 1, number))
+unfolding computes
+claim-all-last-missed = apart (row, twice, 0, 1, 5) claim₀ refl
+
+-- `claim_all`: the claims are freed
+pub claim-all-frees : Excludes claimAll (λ (rows, lists, slot, writes, number). claimAll (rows, lists, slot, writes, 0))
+unfolding computes
+claim-all-frees = apart (row, twice, 0, 1, 5) claim₀ refl
+
+-- `unclaim_all`: freed whoever claimed them
+pub unclaim-all-of-others : Excludes unclaimAll (λ (rows, lists, slot, writes, number). claimAll (rows, lists, slot, writes, 0))
+unfolding computes
+unclaim-all-of-others = apart (row, twice, 0, 1, 5) claim₀ refl
+
+-- `unclaim_all`: nothing is freed
+pub unclaim-all-nothing : Excludes unclaimAll (λ (rows, lists, slot, writes, number). rows)
+unfolding computes
+unclaim-all-nothing = apart (row, twice, 0, 1, 6) claim₀ refl
