@@ -19,7 +19,7 @@ use Rattle.holders.specs.Keys.{keyOf, noKey, versionKey, oldKeyOf, writtenAt, n
 use Rattle.holders.specs.Needs.{Listed, pushOne, pushAll, bucketsFor, readsNeed, rowsWritten, writesNeed, writesChange}
 use Rattle.holders.specs.Holders as spec
 use Rattle.tightness.specs.Wrong.{Excludes}
-use Rattle.tightness.proofs.Small.{apart, computes, bit, starting}
+use Rattle.tightness.proofs.Small.{apart, computes, bit, count, starting, twice}
 
 -- row 0 of head 2 and claim 6, whose chain is version 2, of key 7, over version 1, of this key
 abbrev row : List ℕ
@@ -27,10 +27,6 @@ row = 2 ∷ 6 ∷ 0 ∷ 0 ∷ []
 
 abbrev chain : ℕ → List ℕ
 chain key = 0 ∷ 0 ∷ 0 ∷ 0 ∷ 0 ∷ 0 ∷ 1 ∷ 2 ∷ 0 ∷ 1 ∷ key ∷ 0 ∷ 2 ∷ 0 ∷ 1 ∷ 1 ∷ 7 ∷ 9 ∷ []
-
--- two pending writes of row 0, of key 6 and of key 7
-abbrev twice : List ℕ
-twice = starting pending (0 ∷ 1 ∷ 6 ∷ 9 ∷ 0 ∷ 1 ∷ 7 ∷ 9 ∷ [])
 
 abbrev keyed : Key → ℕ
 keyed k = k .keyed
@@ -115,10 +111,7 @@ pushChanges (rows, versions, lists, buckets, slot, writes, out, n) = pushed out 
 abbrev room : List ℕ
 room = 0 ∷ 0 ∷ 0 ∷ 0 ∷ []
 
--- how many numbers are listed, and the first
-abbrev count : Listed → ℕ
-count l = l .n
-
+-- the first number that is listed
 abbrev listed₀ : Listed → ℕ
 listed₀ l = getD (l .out) 0 0
 

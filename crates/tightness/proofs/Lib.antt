@@ -2,3 +2,5 @@ pub mod Small
 pub mod Tables
 pub mod Record
 pub mod Holders
+pub mod Install
+pub mod Verdict

@@ -1,9 +1,9 @@
 -- How two outcomes are told apart, and the small records on which that is done.
 -- Assumes nothing.
-use Prim.Native.Nat.{ℕ}
+use Prim.Native.Nat.{ℕ, suc}
 use mathlib.Core.Path.{_≡_, sym, ap, _∙_}
 use mathlib.Core.Bool.{Bool, false, cond, true≢false}
-use mathlib.Core.List.{List, _++_}
+use mathlib.Core.List.{List, [], _∷_, _++_}
 use lib.Dec.{eqb}
 use lib.ListN.{replicate}
 use borrow.Author.Tests.{eq-eqb}
@@ -13,14 +13,20 @@ use Rattle.protocol.specs.declared.Answer.the-variants as tell
 use Rattle.model.proofs.Computes as model
 use Rattle.tables.specs.Words.{field, setField}
 use Rattle.tables.specs.Regions.{words, listOf}
-use Rattle.tables.specs.Lists.{Kind}
+use Rattle.tables.specs.Lists.{Kind, writes}
 use Rattle.scans.specs.Scans.{firstFrom, lastBelow}
+use Rattle.scans.specs.declared.Found.{Found}
+use Rattle.scans.specs.declared.Found.the-variants.{At, Nothing}
+use Rattle.chain.specs.Chain.{stepFrom, walkFor, walkFrom, firstVisible}
+use Rattle.buckets.specs.Buckets.{canonicalOf}
 use Rattle.record.specs.Methods.{holdOf, captureAt, writeOf, collectOf}
 use Rattle.holders.specs.Keys.{versionKey, oldKeyOf, newKeyOf}
-use Rattle.holders.specs.Needs.{pushOne, pushAll, bucketsFor, writeNeeds, writeChanges}
+use Rattle.holders.specs.Needs.{Listed, pushOne, pushAll, bucketsFor, writeNeeds, writeChanges}
 use Rattle.holders.specs.Holders.{holdAll, stampAll, freeAll, claimAll, unclaimAll}
 use Rattle.record.specs.declared.Phase.{Phase}
 use Rattle.record.specs.declared.Transaction.{Transaction}
+use Rattle.install.specs.Install.{oneMore, rowsListed, pendingInto, lastWriteOf, versionStored, pushedRow, pushedRows, toInstall, installOf}
+use Rattle.verdict.specs.Judged.{firstWhere}
 use Rattle.tightness.specs.Wrong.{Excludes}
 
 -- a number that is read off both outcomes differs
@@ -29,7 +35,7 @@ apart input look d = record { input = input; differ = λ e. true≢false (sym (e
 
 -- one name that opens every definition of the functions, so that an outcome on numerals computes
 unfoldable pub computes : Unit {0}
-unfolding model.computes field setField words listOf firstFrom lastBelow holdOf captureAt writeOf collectOf versionKey oldKeyOf newKeyOf pushOne pushAll bucketsFor writeNeeds writeChanges holdAll stampAll freeAll claimAll unclaimAll
+unfolding model.computes field setField words listOf firstFrom lastBelow holdOf captureAt writeOf collectOf versionKey oldKeyOf newKeyOf pushOne pushAll bucketsFor writeNeeds writeChanges holdAll stampAll freeAll claimAll unclaimAll oneMore rowsListed pendingInto lastWriteOf versionStored pushedRow pushedRows toInstall installOf firstWhere stepFrom walkFor walkFrom firstVisible canonicalOf
 computes = tt
 
 -- a test as a number
@@ -46,9 +52,22 @@ numberIn (tell.Rows n) = n
 numberIn (tell.Judged v) = 0
 numberIn (tell.Refused n) = n
 
+-- a place counted from 1, 0 for none
+abbrev pub placeIn : Found → ℕ
+placeIn (At i) = suc i
+placeIn Nothing = 0
+
+-- how many numbers are listed
+abbrev pub count : Listed → ℕ
+count l = l .n
+
 -- slot 0's lists up to a list's start, and this entry there
 abbrev pub starting : Kind → List ℕ → List ℕ
 starting k vs = replicate (k .off) 0 ++ vs
+
+-- two pending writes of row 0, of key 6 and of key 7
+abbrev pub twice : List ℕ
+twice = starting writes (0 ∷ 1 ∷ 6 ∷ 9 ∷ 0 ∷ 1 ∷ 7 ∷ 9 ∷ [])
 
 -- transaction 5 of slot 0, with snapshot xmax 6, none active and nothing in its lists
 abbrev pub five : Phase → Transaction

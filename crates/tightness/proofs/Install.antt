@@ -1,0 +1,63 @@
+-- `install`: wrong bodies of its public functions.
+-- Assumes nothing.
+use Prim.Native.Nat.{ℕ, _+_, _-_}
+use mathlib.Core.Path.{refl}
+use mathlib.Core.Bool.{cond}
+use mathlib.Core.List.{List, [], _∷_}
+use lib.Dec.{ltb}
+use lib.ListN.{take}
+use Rattle.limits.specs.Limits.{lastNumber}
+use Rattle.record.specs.declared.Phase.the-variants as phase
+use Rattle.record.specs.declared.Transaction.{Transaction}
+use Rattle.record.specs.Methods.{withWrites}
+use Rattle.holders.specs.Needs.{Listed, pushAll, rowsWritten}
+use Rattle.install.specs.Install.{Left, oneMore, pendingInto, pushedRows, toInstall, installed, installOf}
+use Rattle.tightness.specs.Wrong.{Excludes}
+use Rattle.tightness.proofs.Small.{apart, computes, numberIn, count, twice, five}
+
+-- `one_more`: the very last number is never reached
+pub one-more-stops-early : Excludes (λ x. oneMore x) (λ x. cond (ltb (x + 1) lastNumber) (x + 1) x)
+unfolding computes
+one-more-stops-early = apart (lastNumber - 1) (λ x. x) refl
+
+-- `one_more`: the same number
+pub one-more-stays : Excludes (λ x. oneMore x) (λ x. x)
+unfolding computes
+one-more-stays = apart 0 (λ x. x) refl
+
+-- what the contracts of `pending_rows` and `install` ask for
+abbrev pendingRows : List ℕ × ℕ × ℕ × List ℕ → Listed
+pendingRows (lists, slot, n, out) = pendingInto lists slot n out
+
+abbrev install : List ℕ × List ℕ × List ℕ × ℕ × Transaction → Left
+install (rows, versions, lists, used, t) = installOf lists t (record { rows = rows; versions = versions; used = used })
+
+-- `pending_rows`: a row for each write, as they stand
+pub pending-rows-repeated : Excludes pendingRows (λ (lists, slot, n, out). pushAll (record { out = out; n = 0 }) (rowsWritten lists slot n))
+unfolding computes
+pending-rows-repeated = apart (twice, 0, 2, 0 ∷ 0 ∷ []) count refl
+
+-- `pending_rows`: the last write is left out
+pub pending-rows-last-missed : Excludes pendingRows (λ (lists, slot, n, out). pendingInto lists slot (n - 1) out)
+unfolding computes
+pending-rows-last-missed = apart (twice, 0, 1, 0 ∷ 0 ∷ []) count refl
+
+abbrev usedThen : Left → ℕ
+usedThen l = l .reply .used
+
+-- `install`: only the phase changes
+pub install-nothing : Excludes install (λ (rows, versions, lists, used, t). installed t (record { rows = rows; versions = versions; used = used }))
+unfolding computes
+install-nothing = apart ([], [], twice, 0, withWrites (five phase.Prepared) 2) usedThen refl
+
+-- `install`: a version for each write, not for each row
+pub install-each-write : Excludes install
+    (λ (rows, versions, lists, used, t). installed t (pushedRows lists (t .slot) (t .«writes_n») (t .number) (record { rows = rows; versions = versions; used = used }) (rowsWritten lists (t .slot) (t .«writes_n»))))
+unfolding computes
+install-each-write = apart ([], [], twice, 0, withWrites (five phase.Prepared) 2) usedThen refl
+
+-- `install`: in any phase
+pub install-any-phase : Excludes install
+    (λ (rows, versions, lists, used, t). installed t (pushedRows lists (t .slot) (t .«writes_n») (t .number) (record { rows = rows; versions = versions; used = used }) (take (toInstall lists t .n) (toInstall lists t .out))))
+unfolding computes
+install-any-phase = apart ([], [], twice, 0, five phase.Open) (λ (l : Left). numberIn (l .reply .answer)) refl
