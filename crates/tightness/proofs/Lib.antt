@@ -4,3 +4,6 @@ pub mod Record
 pub mod Holders
 pub mod Install
 pub mod Verdict
+pub mod Scans
+pub mod Chain
+pub mod Buckets

@@ -1,6 +1,6 @@
 -- How two outcomes are told apart, and the small records on which that is done.
 -- Assumes nothing.
-use Prim.Native.Nat.{ℕ, suc}
+use Prim.Native.Nat.{ℕ, suc, _-_}
 use mathlib.Core.Path.{_≡_, sym, ap, _∙_}
 use mathlib.Core.Bool.{Bool, false, cond, true≢false}
 use mathlib.Core.List.{List, [], _∷_, _++_}
@@ -17,6 +17,7 @@ use Rattle.tables.specs.Lists.{Kind, writes}
 use Rattle.scans.specs.Scans.{firstFrom, lastBelow}
 use Rattle.scans.specs.declared.Found.{Found}
 use Rattle.scans.specs.declared.Found.the-variants.{At, Nothing}
+use Rattle.chain.specs.declared.Snapshot.{Snapshot}
 use Rattle.chain.specs.Chain.{stepFrom, walkFor, walkFrom, firstVisible}
 use Rattle.buckets.specs.Buckets.{canonicalOf}
 use Rattle.record.specs.Methods.{holdOf, captureAt, writeOf, collectOf}
@@ -68,6 +69,10 @@ starting k vs = replicate (k .off) 0 ++ vs
 -- two pending writes of row 0, of key 6 and of key 7
 abbrev pub twice : List ℕ
 twice = starting writes (0 ∷ 1 ∷ 6 ∷ 9 ∷ 0 ∷ 1 ∷ 7 ∷ 9 ∷ [])
+
+-- the snapshot of this xmax in which 3 is active
+abbrev pub threeActive : ℕ → Snapshot
+threeActive xmax = record { xmin = 3; xmax = xmax; active = 3 ∷ replicate (mostActive - 1) 0; «active_n» = 1 }
 
 -- transaction 5 of slot 0, with snapshot xmax 6, none active and nothing in its lists
 abbrev pub five : Phase → Transaction

@@ -16,7 +16,7 @@ use Rattle.record.specs.View.{snapshotView, recordsIn}
 use Rattle.record.specs.Methods.{withReads}
 use Rattle.verdict.specs.Judged.{versionsView, verdictOf, firstWhere, badIn, changedRecord}
 use Rattle.tightness.specs.Wrong.{Excludes}
-use Rattle.tightness.proofs.Small.{apart, computes, placeIn, starting, five}
+use Rattle.tightness.proofs.Small.{apart, computes, placeIn, starting, threeActive, five}
 
 -- what the contracts of `has_serialization_conflict` and `verdict` ask for
 abbrev conflict : List ℕ × List ℕ × Transaction → Found
@@ -29,7 +29,7 @@ judge (versions, buckets, lists, t) = verdictOf versions buckets lists t
 abbrev reader : ℕ → Transaction
 reader xmax = record {
   number = 5;
-  snapshot = record { xmin = 3; xmax = xmax; active = 3 ∷ 0 ∷ 0 ∷ 0 ∷ 0 ∷ 0 ∷ 0 ∷ []; «active_n» = 1 };
+  snapshot = threeActive xmax;
   marked = false;
   phase = phase.Open;
   slot = 0;
