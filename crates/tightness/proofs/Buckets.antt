@@ -1,4 +1,4 @@
--- `buckets`: wrong bodies of its public functions.
+-- Wrong bodies of the crate `buckets`.
 -- Assumes nothing.
 use Prim.Native.Nat.{ℕ, _+_}
 use mathlib.Core.Path.{refl}
@@ -10,7 +10,8 @@ use Rattle.buckets.specs.declared.Canonical.{Canonical}
 use Rattle.buckets.specs.declared.Canonical.the-variants.{Sorted, Bad, NoRoom}
 use Rattle.buckets.specs.Buckets.{precedes, counted, bucketsOf, checkOf, Made, answered, canonicalOf}
 use Rattle.tightness.specs.Wrong.{Excludes}
-use Rattle.tightness.proofs.Small.{apart, computes, bit}
+use Rattle.tightness.proofs.Apart.{apart, bit}
+use Rattle.tightness.proofs.Computes.{computes}
 
 -- `stamp_precedes_snapshot`: a stamp equal to the number too
 pub stamp-precedes-snapshot-equal : Excludes {A = ℕ × ℕ} (λ (stamp, number). precedes stamp number) (λ (stamp, number). leb stamp number)

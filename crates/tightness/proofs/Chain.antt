@@ -1,4 +1,4 @@
--- `chain`: wrong bodies of its public functions.
+-- Wrong bodies of the crate `chain`.
 -- Assumes nothing.
 use Prim.Native.Nat.{ℕ}
 use mathlib.Core.Path.{refl}
@@ -13,7 +13,9 @@ use Rattle.chain.specs.declared.Pointer.{Pointer}
 use Rattle.chain.specs.declared.Pointer.the-variants.{At, Nothing}
 use Rattle.record.specs.declared.Phase.the-variants as phase
 use Rattle.tightness.specs.Wrong.{Excludes}
-use Rattle.tightness.proofs.Small.{apart, computes, bit, threeActive, five}
+use Rattle.tightness.proofs.Apart.{apart, bit}
+use Rattle.tightness.proofs.Computes.{computes}
+use Rattle.tightness.proofs.Small.{live, threeActive}
 
 -- what the contracts of `seen`, `visible` and `first_visible` ask for
 abbrev seen : ℕ × List ℕ × ℕ × ℕ → Bool
@@ -56,12 +58,12 @@ versions₂ = 0 ∷ 0 ∷ 0 ∷ 0 ∷ 0 ∷ 0 ∷ 3 ∷ 7 ∷ 0 ∷ 1 ∷ 6 ∷ 
 -- `first_visible`: the version at the pointer, seen or not
 pub first-visible-no-walk : Excludes first (λ (versions, used, s, p). cond (known versions used p) (pointer p) Nothing)
 unfolding computes
-first-visible-no-walk = apart (versions₂, 2, five phase.Open .snapshot, 2) pointerIn refl
+first-visible-no-walk = apart (versions₂, 2, live 5 phase.Open .snapshot, 2) pointerIn refl
 
 -- `first_visible`: a pointer that is not used is followed
 pub first-visible-unused : Excludes first (λ (versions, used, s, p). pointer (walkFrom versions (activeOf s) (s .xmax) p))
 unfolding computes
-first-visible-unused = apart (versions₂, 0, five phase.Open .snapshot, 1) pointerIn refl
+first-visible-unused = apart (versions₂, 0, live 5 phase.Open .snapshot, 1) pointerIn refl
 
 -- `first_visible`: the active numbers are not looked at
 pub first-visible-active : Excludes first (λ (versions, used, s, p). cond (known versions used p) (pointer (walkFrom versions [] (s .xmax) p)) Nothing)

@@ -1,4 +1,4 @@
--- `holders`: wrong bodies of its public functions.
+-- Wrong bodies of the crate `holders`.
 -- Assumes nothing.
 use Prim.Native.Nat.{ℕ, _+_, _-_, _%_, min}
 use mathlib.Core.Path.{refl}
@@ -19,7 +19,9 @@ use Rattle.holders.specs.Keys.{keyOf, noKey, versionKey, oldKeyOf, writtenAt, n
 use Rattle.holders.specs.Needs.{Listed, pushOne, pushAll, bucketsFor, readsNeed, rowsWritten, writesNeed, writesChange}
 use Rattle.holders.specs.Holders as spec
 use Rattle.tightness.specs.Wrong.{Excludes}
-use Rattle.tightness.proofs.Small.{apart, computes, bit, count, starting, twice}
+use Rattle.tightness.proofs.Apart.{apart, either-way, bit, count}
+use Rattle.tightness.proofs.Computes.{computes}
+use Rattle.tightness.proofs.Small.{starting, twice}
 
 -- row 0 of head 2 and claim 6, whose chain is version 2, of key 7, over version 1, of this key
 abbrev row : List ℕ
@@ -224,8 +226,7 @@ release-all-nothing = apart (two, 1 ∷ [], 1, 5) holder₁ refl
 
 -- `stamp_all`: the stamp becomes the holder
 pub stamp-all-holds : Excludes stampAll holdAll
-unfolding computes
-stamp-all-holds = apart (two, 0 ∷ [], 1, 6) stamp₀ refl
+stamp-all-holds = either-way hold-all-stamps
 
 -- `stamp_all`: only the first bucket
 pub stamp-all-first : Excludes stampAll (λ (buckets, list, n, stamp). stampAll (buckets, list, min n 1, stamp))

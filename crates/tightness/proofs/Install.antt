@@ -1,4 +1,4 @@
--- `install`: wrong bodies of its public functions.
+-- Wrong bodies of the crate `install`.
 -- Assumes nothing.
 use Prim.Native.Nat.{ℕ, _+_, _-_}
 use mathlib.Core.Path.{refl}
@@ -13,17 +13,19 @@ use Rattle.record.specs.Methods.{withWrites}
 use Rattle.holders.specs.Needs.{Listed, pushAll, rowsWritten}
 use Rattle.install.specs.Install.{Left, oneMore, pendingInto, pushedRows, toInstall, installed, installOf}
 use Rattle.tightness.specs.Wrong.{Excludes}
-use Rattle.tightness.proofs.Small.{apart, computes, numberIn, count, twice, five}
+use Rattle.tightness.proofs.Apart.{apart, itself, numberIn, count}
+use Rattle.tightness.proofs.Computes.{computes}
+use Rattle.tightness.proofs.Small.{live, twice}
 
 -- `one_more`: the very last number is never reached
 pub one-more-stops-early : Excludes (λ x. oneMore x) (λ x. cond (ltb (x + 1) lastNumber) (x + 1) x)
 unfolding computes
-one-more-stops-early = apart (lastNumber - 1) (λ x. x) refl
+one-more-stops-early = apart (lastNumber - 1) itself refl
 
 -- `one_more`: the same number
 pub one-more-stays : Excludes (λ x. oneMore x) (λ x. x)
 unfolding computes
-one-more-stays = apart 0 (λ x. x) refl
+one-more-stays = apart 0 itself refl
 
 -- what the contracts of `pending_rows` and `install` ask for
 abbrev pendingRows : List ℕ × ℕ × ℕ × List ℕ → Listed
@@ -48,16 +50,16 @@ usedThen l = l .reply .used
 -- `install`: only the phase changes
 pub install-nothing : Excludes install (λ (rows, versions, lists, used, t). installed t (record { rows = rows; versions = versions; used = used }))
 unfolding computes
-install-nothing = apart ([], [], twice, 0, withWrites (five phase.Prepared) 2) usedThen refl
+install-nothing = apart ([], [], twice, 0, withWrites (live 5 phase.Prepared) 2) usedThen refl
 
 -- `install`: a version for each write, not for each row
 pub install-each-write : Excludes install
     (λ (rows, versions, lists, used, t). installed t (pushedRows lists (t .slot) (t .«writes_n») (t .number) (record { rows = rows; versions = versions; used = used }) (rowsWritten lists (t .slot) (t .«writes_n»))))
 unfolding computes
-install-each-write = apart ([], [], twice, 0, withWrites (five phase.Prepared) 2) usedThen refl
+install-each-write = apart ([], [], twice, 0, withWrites (live 5 phase.Prepared) 2) usedThen refl
 
 -- `install`: in any phase
 pub install-any-phase : Excludes install
     (λ (rows, versions, lists, used, t). installed t (pushedRows lists (t .slot) (t .«writes_n») (t .number) (record { rows = rows; versions = versions; used = used }) (take (toInstall lists t .n) (toInstall lists t .out))))
 unfolding computes
-install-any-phase = apart ([], [], twice, 0, five phase.Open) (λ (l : Left). numberIn (l .reply .answer)) refl
+install-any-phase = apart ([], [], twice, 0, live 5 phase.Open) (λ (l : Left). numberIn (l .reply .answer)) refl

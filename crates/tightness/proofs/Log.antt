@@ -4,11 +4,12 @@ use Prim.Native.Nat.{ℕ, _+_}
 use mathlib.Core.Path.{refl}
 use mathlib.Core.List.{List, [], _∷_}
 use lib.ListN.{length, drop}
-use Rattle.model.specs.Log.{number, total, widths, whole, lengthIn, readRecord}
+use Rattle.model.specs.Log.{lengthIn}
 use Rattle.log.specs.declared.Decoded.{Decoded}
 use Rattle.log.specs.Records.{decodedOf}
 use Rattle.tightness.specs.Wrong.{Excludes}
-use Rattle.tightness.proofs.Apart.{by-number}
+use Rattle.tightness.proofs.Apart.{apart}
+use Rattle.tightness.proofs.Computes.{computes}
 
 -- a log of one begin
 abbrev one-begin : List ℕ
@@ -19,13 +20,13 @@ record-at p = decodedOf (p .0) (p .1)
 
 -- `record_at`, `read_at`, and `next` of a reader's bytes and place: always the first record
 pub record-at-start : Excludes record-at (λ p. decodedOf (p .0) 0)
-unfolding decodedOf readRecord whole number widths total
-record-at-start = by-number (λ (d : Decoded). d .next) (one-begin, 1) refl
+unfolding computes
+record-at-start = apart (one-begin, 1) (λ (d : Decoded). d .next) refl
 
 -- the same three: the 2 bytes of the length are not passed over
 pub record-at-next-short : Excludes record-at (λ p. record { command = decodedOf (p .0) (p .1) .command; next = p .1 + lengthIn (drop (p .1) (p .0)) })
-unfolding decodedOf readRecord whole number widths total
-record-at-next-short = by-number (λ (d : Decoded). d .next) (one-begin, 0) refl
+unfolding computes
+record-at-next-short = apart (one-begin, 0) (λ (d : Decoded). d .next) refl
 
 -- a reader: its bytes and its place
 abbrev Reader : Type 0
@@ -39,16 +40,16 @@ moved p = (p .0 .0, p .1)
 
 -- `new`: the reader stands at the start
 pub new-at-start : Excludes new (λ p. (p .0, 0))
-new-at-start = by-number (λ (r : Reader). r .1) (one-begin, 1) refl
+new-at-start = apart (one-begin, 1) (λ (r : Reader). r .1) refl
 
 -- `new`: the reader has only the bytes from its place on
 pub new-log-cut : Excludes new (λ p. (drop (p .1) (p .0), p .1))
-new-log-cut = by-number (λ (r : Reader). length (r .0)) (one-begin, 1) refl
+new-log-cut = apart (one-begin, 1) (λ (r : Reader). length (r .0)) refl
 
 -- `moved`: the reader stays where it is
 pub moved-not : Excludes moved (λ p. p .0)
-moved-not = by-number (λ (r : Reader). r .1) ((one-begin, 0), 1) refl
+moved-not = apart ((one-begin, 0), 1) (λ (r : Reader). r .1) refl
 
 -- `moved`: the reader goes on by so many bytes
 pub moved-by : Excludes moved (λ p. (p .0 .0, p .0 .1 + p .1))
-moved-by = by-number (λ (r : Reader). r .1) ((one-begin, 1), 1) refl
+moved-by = apart ((one-begin, 1), 1) (λ (r : Reader). r .1) refl

@@ -2,7 +2,7 @@
 -- Assumes nothing.
 use Prim.Native.Nat.{ℕ, suc}
 use mathlib.Core.Path.{refl}
-use mathlib.Core.Bool.{not, _&&_}
+use mathlib.Core.Bool.{_&&_}
 use mathlib.Core.List.{List, map}
 use lib.Dec.{ltb, leb}
 use lib.ListN.{getD, replicate}
@@ -14,35 +14,36 @@ use Rattle.record.specs.declared.Transaction.{Transaction}
 use Rattle.places.specs.declared.Sizes.{Sizes}
 use Rattle.steps.specs.Words.{sizesView, freePlaces}
 use Rattle.tightness.specs.Wrong.{Excludes}
-use Rattle.tightness.proofs.Apart.{by-test, by-number}
+use Rattle.tightness.proofs.Apart.{apart, bit}
+use Rattle.tightness.proofs.Computes.{computes}
 
 -- `within`: 0 is let in
 pub within-zero : Excludes (λ (p : ℕ × ℕ). model.within (p .0) (p .1)) (λ p. leb (p .0) (p .1))
-within-zero = by-test not (0, 1) refl refl
+within-zero = apart (0, 1) bit refl
 
 -- `within`: the most itself is kept out
 pub within-below-most : Excludes (λ (p : ℕ × ℕ). model.within (p .0) (p .1)) (λ p. leb 1 (p .0) && ltb (p .0) (p .1))
-within-below-most = by-test (λ b. b) (1, 1) refl refl
+within-below-most = apart (1, 1) bit refl
 
 -- `good_sizes`: the rows are measured by the versions' limit
 pub good-sizes-other-limit : Excludes (λ (z : Sizes). model.goodSizes (sizesView z)) (λ z. model.within (z .rows) mostVersions && model.within (z .versions) mostVersions && model.within (z .buckets) mostBuckets)
-unfolding model.goodSizes
-good-sizes-other-limit = by-test not (record { rows = suc mostRows; versions = 1; buckets = 1 }) refl refl
+unfolding computes
+good-sizes-other-limit = apart (record { rows = suc mostRows; versions = 1; buckets = 1 }) bit refl
 
 -- `good_sizes`: the buckets are not tested
 pub good-sizes-buckets-untested : Excludes (λ (z : Sizes). model.goodSizes (sizesView z)) (λ z. model.within (z .rows) mostRows && model.within (z .versions) mostVersions)
-unfolding model.goodSizes
-good-sizes-buckets-untested = by-test not (record { rows = 1; versions = 1; buckets = 0 }) refl refl
+unfolding computes
+good-sizes-buckets-untested = apart (record { rows = 1; versions = 1; buckets = 0 }) bit refl
 
 -- `can_open`: the clock is not tested
 pub can-open-clock-untested : Excludes (λ (p : Sizes × ℕ). canOpen (sizesView (p .0)) (p .1)) (λ p. model.goodSizes (sizesView (p .0)))
-unfolding canOpen model.goodSizes
-can-open-clock-untested = by-test not (record { rows = 1; versions = 1; buckets = 1 }, 0) refl refl
+unfolding computes
+can-open-clock-untested = apart (record { rows = 1; versions = 1; buckets = 1 }, 0) bit refl
 
 -- `can_open`: the sizes are not tested
 pub can-open-sizes-untested : Excludes (λ (p : Sizes × ℕ). canOpen (sizesView (p .0)) (p .1)) (λ p. leb 1 (p .1))
-unfolding canOpen model.goodSizes
-can-open-sizes-untested = by-test not (record { rows = 0; versions = 1; buckets = 1 }, 1) refl refl
+unfolding computes
+can-open-sizes-untested = apart (record { rows = 0; versions = 1; buckets = 1 }, 1) bit refl
 
 -- the slot of the record at place 1
 abbrev slot-of-second : List Transaction → ℕ
@@ -50,8 +51,8 @@ slot-of-second ts = getD ts 1 (idleOf 0) .slot
 
 -- `free_places`: every place has slot 0
 pub free-places-one-slot : Excludes (λ (u : Unit {0}). freePlaces) (λ u. replicate mostLive (idleOf 0))
-free-places-one-slot = by-number slot-of-second tt refl
+free-places-one-slot = apart tt slot-of-second refl
 
 -- `free_places`: the slots are counted from 1
 pub free-places-from-one : Excludes (λ (u : Unit {0}). freePlaces) (λ u. map (λ (t : Transaction). idleOf (suc (t .slot))) freePlaces)
-free-places-from-one = by-number slot-of-second tt refl
+free-places-from-one = apart tt slot-of-second refl

@@ -6,36 +6,29 @@ use mathlib.Core.Bool.{true, cond, not}
 use mathlib.Core.List.{List, [], _∷_}
 use lib.Dec.{eqb}
 use lib.ListN.{getD}
-use Rattle.model.specs.Lists.{join}
-use Rattle.model.specs.Store.{rank, bucketIn, sameKey}
+use Rattle.model.specs.Store.{rank, bucketIn}
 use Rattle.protocol.specs.declared.Answer.the-variants as tell
-use Rattle.tables.specs.Words.{field, setField}
-use Rattle.tables.specs.Regions.{listOf, words}
-use Rattle.scans.specs.Scans.{lastBelow}
 use Rattle.record.specs.View.{phaseView}
 use Rattle.record.specs.Methods.{withPhase, refusedOf}
 use Rattle.record.specs.declared.Phase.{Phase}
 use Rattle.record.specs.declared.Phase.the-variants as phase
 use Rattle.record.specs.declared.Transaction.{Transaction}
 use Rattle.record.specs.declared.Answered.{Answered}
-use Rattle.holders.specs.Keys.{versionKey, oldKeyOf, newKeyOf}
-use Rattle.holders.specs.Needs.{pushOne, pushAll, bucketsFor, writeNeeds, writeChanges}
-use Rattle.holders.specs.Holders.{freeAll, stampAll, unclaimAll}
-use Rattle.publish.specs.Publish.{Left, stampedIn, neededIn, freedIn, endOf, postedOne, postedAll, publishOf, abortOf}
-use Rattle.report.specs.Lines.{numberOf}
+use Rattle.publish.specs.Publish.{Left, freedIn, endOf, publishOf, abortOf}
 use Rattle.tightness.specs.Wrong.{Excludes}
-use Rattle.tightness.proofs.Apart.{by-number}
-use Rattle.tightness.proofs.Opened.{txn, writer, puts}
+use Rattle.tightness.proofs.Apart.{apart, numberIn}
+use Rattle.tightness.proofs.Computes.{computes}
+use Rattle.tightness.proofs.Small.{live, writer, puts}
 
 -- `end`: the phase is not tested
 pub end-any-phase : Excludes endOf (λ t. record { answer = tell.Done; txn = withPhase t phase.Ended })
-unfolding endOf
-end-any-phase = by-number (λ (a : Answered). numberOf (a .answer)) (txn phase.Open) refl
+unfolding computes
+end-any-phase = apart (live 1 phase.Open) (λ (a : Answered). numberIn (a .answer)) refl
 
 -- `end`: the transaction stays Installed
 pub end-stays-installed : Excludes endOf (λ t. cond (not (eqb (rank (phaseView (t .phase))) 5)) (refusedOf t 5) (record { answer = tell.Done; txn = t }))
-unfolding endOf
-end-stays-installed = by-number (λ (a : Answered). rank (phaseView (a .txn .phase))) (txn phase.Installed) refl
+unfolding computes
+end-stays-installed = apart (live 1 phase.Installed) (λ (a : Answered). rank (phaseView (a .txn .phase))) refl
 
 -- row 0 claimed by transaction 1
 abbrev claimed : List ℕ
@@ -70,13 +63,13 @@ aborts p = abortOf (p .0) (p .1) (p .2) (p .4) (p .5) (p .6)
 
 -- `publish`: the place does not become free
 pub publish-record-kept : Excludes publishes (λ p. record { reply = record { answer = publishes p .reply .answer; txn = p .4 }; rows = publishes p .rows; buckets = publishes p .buckets })
-unfolding publishOf
-publish-record-kept = by-number (λ (l : Left). l .reply .txn .number) (given phase.Ended) refl
+unfolding computes
+publish-record-kept = apart (given phase.Ended) (λ (l : Left). l .reply .txn .number) refl
 
 -- `publish`: the claims stay
 pub publish-claims-kept : Excludes publishes (λ p. record { reply = publishes p .reply; rows = p .5; buckets = publishes p .buckets })
-unfolding publishOf unclaimAll listOf words postedAll postedOne field setField
-publish-claims-kept = by-number claim (given phase.Ended) refl
+unfolding computes
+publish-claims-kept = apart (given phase.Ended) claim refl
 
 -- `publish`: the buckets of changed keys are not stamped
 pub publish-unstamped : Excludes publishes (λ p. record {
@@ -84,20 +77,20 @@ pub publish-unstamped : Excludes publishes (λ p. record {
   rows = publishes p .rows;
   buckets = freedIn (p .5) (p .0) (p .1) (p .2) true (bucketIn (phaseView (p .4 .phase))) (p .4 .slot) (p .4 .«reads_n») (p .4 .«writes_n») (p .4 .number) (p .6);
 })
-unfolding publishOf freedIn neededIn stampedIn stampAll freeAll writeChanges writeNeeds bucketsFor oldKeyOf newKeyOf versionKey sameKey join pushAll pushOne listOf words field setField lastBelow
-publish-unstamped = by-number stamp (given phase.Ended) refl
+unfolding computes
+publish-unstamped = apart (given phase.Ended) stamp refl
 
 -- `abort`: the place does not become free
 pub abort-record-kept : Excludes aborts (λ p. record { reply = record { answer = aborts p .reply .answer; txn = p .4 }; rows = aborts p .rows; buckets = aborts p .buckets })
-unfolding abortOf
-abort-record-kept = by-number (λ (l : Left). l .reply .txn .number) (given phase.Open) refl
+unfolding computes
+abort-record-kept = apart (given phase.Open) (λ (l : Left). l .reply .txn .number) refl
 
 -- `abort`: the claims stay
 pub abort-claims-kept : Excludes aborts (λ p. record { reply = aborts p .reply; rows = p .5; buckets = aborts p .buckets })
-unfolding abortOf unclaimAll listOf words field setField
-abort-claims-kept = by-number claim (given phase.Prepared) refl
+unfolding computes
+abort-claims-kept = apart (given phase.Prepared) claim refl
 
 -- `abort`: the buckets stay held
 pub abort-buckets-held : Excludes aborts (λ p. record { reply = aborts p .reply; rows = aborts p .rows; buckets = p .6 })
-unfolding abortOf freedIn neededIn freeAll writeNeeds bucketsFor oldKeyOf newKeyOf versionKey join pushAll pushOne listOf words field setField lastBelow
-abort-buckets-held = by-number holder (given phase.Prepared) refl
+unfolding computes
+abort-buckets-held = apart (given phase.Prepared) holder refl

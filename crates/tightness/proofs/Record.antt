@@ -1,4 +1,4 @@
--- `record`: wrong bodies of its public functions.
+-- Wrong bodies of the crate `record`.
 -- Assumes nothing.
 use Prim.Native.Nat.{ℕ, _+_, _-_, _%_, _/_, min}
 use mathlib.Core.Path.{refl}
@@ -16,31 +16,33 @@ use Rattle.record.specs.declared.Answered.{Answered}
 use Rattle.record.specs.View.{phaseView}
 use Rattle.record.specs.Methods.{idleOf, withPhase, withMark, takenBy, refusedOf, Left, LeftLists, left, captureAt, captureOf, writeOf, postedWith, collectOf}
 use Rattle.tightness.specs.Wrong.{Excludes}
-use Rattle.tightness.proofs.Small.{apart, computes, bit, numberIn, five, starting}
+use Rattle.tightness.proofs.Apart.{apart, either-way, itself, bit, numberIn}
+use Rattle.tightness.proofs.Computes.{computes}
+use Rattle.tightness.proofs.Small.{live, roomFor}
 
 -- `phase_rank`: counted from 0
 pub phase-rank-from-0 : Excludes (λ ph. rank (phaseView ph)) (λ ph. rank (phaseView ph) - 1)
-phase-rank-from-0 = apart phase.Open (λ n. n) refl
+phase-rank-from-0 = apart phase.Open itself refl
 
 -- `phase_rank`: Ended counts as Installed
 pub phase-rank-ended-installed : Excludes (λ ph. rank (phaseView ph)) (λ ph. min (rank (phaseView ph)) 5)
-phase-rank-ended-installed = apart phase.Ended (λ n. n) refl
+phase-rank-ended-installed = apart phase.Ended itself refl
 
 -- `bucket_in`: the key for the bucket
 pub bucket-in-key : Excludes (λ ph. bucketIn (phaseView ph)) (λ ph. keyIn (phaseView ph))
-bucket-in-key = apart (phase.Holding 1 5) (λ n. n) refl
+bucket-in-key = apart (phase.Holding 1 5) itself refl
 
 -- `bucket_in`: no phase carries one
 pub bucket-in-none : Excludes (λ ph. bucketIn (phaseView ph)) (λ ph. 0)
-bucket-in-none = apart (phase.Holding 1 5) (λ n. n) refl
+bucket-in-none = apart (phase.Holding 1 5) itself refl
 
 -- `key_in`: the bucket for the key
 pub key-in-bucket : Excludes (λ ph. keyIn (phaseView ph)) (λ ph. bucketIn (phaseView ph))
-key-in-bucket = apart (phase.Holding 1 5) (λ n. n) refl
+key-in-bucket = either-way bucket-in-key
 
 -- `key_in`: Collected carries none
 pub key-in-holding-only : Excludes (λ ph. keyIn (phaseView ph)) (λ ph. cond (eqb (rank (phaseView ph)) 2) (keyIn (phaseView ph)) 0)
-key-in-holding-only = apart (phase.Collected 5) (λ n. n) refl
+key-in-holding-only = apart (phase.Collected 5) itself refl
 
 -- `idle`: always of slot 0
 pub idle-slot-0 : Excludes (λ slot. idleOf slot) (λ slot. idleOf 0)
@@ -52,11 +54,11 @@ idle-marked = apart 0 (λ (t : Transaction). bit (t .marked)) refl
 
 -- `bucket_of`: the key itself
 pub bucket-of-key : Excludes {A = ℕ × ℕ} (λ (count, key). key % count) (λ (count, key). key)
-bucket-of-key = apart (4, 5) (λ n. n) refl
+bucket-of-key = apart (4, 5) itself refl
 
 -- `bucket_of`: the quotient, not the rest
 pub bucket-of-quotient : Excludes {A = ℕ × ℕ} (λ (count, key). key % count) (λ (count, key). key / count)
-bucket-of-quotient = apart (4, 2) (λ n. n) refl
+bucket-of-quotient = apart (4, 2) itself refl
 
 -- `by_another`: what is free is another's
 pub by-another-free : Excludes {A = ℕ × ℕ} (λ (carried, n). takenBy carried n) (λ (carried, n). not (eqb carried n))
@@ -80,7 +82,7 @@ with-phase-stays = apart (idleOf 0, phase.Ended) (λ (t : Transaction). rank (ph
 
 -- `with_phase`: number and lists are lost
 pub with-phase-forgets : Excludes {A = Transaction × Phase} (λ (t, ph). withPhase t ph) (λ (t, ph). withPhase (idleOf (t .slot)) ph)
-with-phase-forgets = apart (five phase.Open, phase.Ended) (λ (t : Transaction). t .number) refl
+with-phase-forgets = apart (live 5 phase.Open, phase.Ended) (λ (t : Transaction). t .number) refl
 
 -- `with_mark`: no mark is set
 pub with-mark-none : Excludes (λ t. withMark t) (λ t. t)
@@ -105,7 +107,7 @@ collect (rows, n, t, buckets, lists) = collectOf rows n t buckets lists
 
 -- one bucket, of stamp 1 and free, and room for one index read
 abbrev capturing : ℕ × Transaction × ℕ × List ℕ × List ℕ
-capturing = (1, five phase.Open, 7, 1 ∷ 0 ∷ [], 0 ∷ 0 ∷ [])
+capturing = (1, live 5 phase.Open, 7, 1 ∷ 0 ∷ [], 0 ∷ 0 ∷ [])
 
 -- `capture`: the bucket is not taken
 pub capture-bucket-free : Excludes capture (λ (count, t, key, buckets, lists). left (capture (count, t, key, buckets, lists) .reply) buckets (capture (count, t, key, buckets, lists) .lists))
@@ -127,33 +129,29 @@ pub capture-refuses : Excludes capture (λ (count, t, key, buckets, lists). left
 unfolding computes
 capture-refuses = apart capturing (λ (l : Left). numberIn (l .reply .answer)) refl
 
--- room for one pending write
-abbrev roomy : List ℕ
-roomy = starting writes (0 ∷ 0 ∷ 0 ∷ 0 ∷ [])
-
 -- `put`: the payload goes where the key goes
 pub put-payload-for-key : Excludes put (λ (rows, t, row, key, payload, lists). put (rows, t, row, payload, key, lists))
 unfolding computes
-put-payload-for-key = apart (1, five phase.Open, 0, 7, 9, roomy) (λ (l : LeftLists). getD (l .lists) (writes .off + 2) 0) refl
+put-payload-for-key = apart (1, live 5 phase.Open, 0, 7, 9, roomFor writes) (λ (l : LeftLists). getD (l .lists) (writes .off + 2) 0) refl
 
 -- `put`: written without a key, as an erase
 pub put-keyless : Excludes put (λ (rows, t, row, key, payload, lists). erase (rows, t, row, lists))
 unfolding computes
-put-keyless = apart (1, five phase.Open, 0, 7, 9, roomy) (λ (l : LeftLists). getD (l .lists) (writes .off + 1) 0) refl
+put-keyless = apart (1, live 5 phase.Open, 0, 7, 9, roomFor writes) (λ (l : LeftLists). getD (l .lists) (writes .off + 1) 0) refl
 
 -- `erase`: written with the key 0
 pub erase-keyed : Excludes erase (λ (rows, t, row, lists). put (rows, t, row, 0, 0, lists))
 unfolding computes
-erase-keyed = apart (1, five phase.Open, 0, roomy) (λ (l : LeftLists). getD (l .lists) (writes .off + 1) 0) refl
+erase-keyed = apart (1, live 5 phase.Open, 0, roomFor writes) (λ (l : LeftLists). getD (l .lists) (writes .off + 1) 0) refl
 
 -- `erase`: always refused
 pub erase-refuses : Excludes erase (λ (rows, t, row, lists). record { reply = refusedOf t 12; lists = lists })
 unfolding computes
-erase-refuses = apart (1, five phase.Open, 0, roomy) (λ (l : LeftLists). numberIn (l .reply .answer)) refl
+erase-refuses = apart (1, live 5 phase.Open, 0, roomFor writes) (λ (l : LeftLists). numberIn (l .reply .answer)) refl
 
 -- row 0 posted with key 7, whose bucket is held
 abbrev collecting : List ℕ × ℕ × Transaction × List ℕ × List ℕ
-collecting = (0 ∷ 0 ∷ 1 ∷ 7 ∷ [], 1, five (phase.Holding 0 7), 0 ∷ 5 ∷ [], [])
+collecting = (0 ∷ 0 ∷ 1 ∷ 7 ∷ [], 1, live 5 (phase.Holding 0 7), 0 ∷ 5 ∷ [], [])
 
 -- `collect`: the bucket stays held
 pub collect-bucket-held : Excludes collect (λ (rows, n, t, buckets, lists). left (collect (rows, n, t, buckets, lists) .reply) buckets (collect (rows, n, t, buckets, lists) .lists))

@@ -5,7 +5,7 @@ use mathlib.Core.Path.{refl}
 use mathlib.Core.List.{List, [], _∷_}
 use lib.ListN.{getD, replicate}
 use Rattle.model.specs.Refusals.{Malformed, WrongShape, refusalNumber}
-use Rattle.model.specs.Report.{digitsStep, digitsFor, decimal, spaced, openWord, badWord, wordOf, line}
+use Rattle.model.specs.Report.{openWord, badWord, wordOf, line}
 use Rattle.protocol.specs.View.{asked}
 use Rattle.protocol.specs.declared.Step.{Step}
 use Rattle.protocol.specs.declared.Step.the-variants as ask
@@ -14,7 +14,8 @@ use Rattle.protocol.specs.declared.Answer.the-variants as tell
 use Rattle.lines.specs.Lines.{Written, writtenAt}
 use Rattle.report.specs.Lines.{valuesOf, lineFor, openLine, badLine}
 use Rattle.tightness.specs.Wrong.{Excludes}
-use Rattle.tightness.proofs.Apart.{by-number}
+use Rattle.tightness.proofs.Apart.{apart}
+use Rattle.tightness.proofs.Computes.{computes}
 
 -- room for each line here, and the byte at place i afterwards
 abbrev room : List ℕ
@@ -25,23 +26,23 @@ byte i w = getD (w .report) i 0
 
 -- `open_line`: always `open 0`
 pub open-line-zero : Excludes (λ (p : List ℕ × ℕ × ℕ). writtenAt (p .0) (p .1) (openLine (p .2))) (λ p. writtenAt (p .0) (p .1) (openLine 0))
-unfolding writtenAt line spaced decimal digitsFor digitsStep
-open-line-zero = by-number (byte 5) (room, 0, 1) refl
+unfolding computes
+open-line-zero = apart (room, 0, 1) (byte 5) refl
 
 -- `open_line`: another word
 pub open-line-bad : Excludes (λ (p : List ℕ × ℕ × ℕ). writtenAt (p .0) (p .1) (openLine (p .2))) (λ p. writtenAt (p .0) (p .1) (line badWord (p .2 ∷ [])))
-unfolding writtenAt line spaced decimal digitsFor digitsStep
-open-line-bad = by-number (byte 0) (room, 0, 1) refl
+unfolding computes
+open-line-bad = apart (room, 0, 1) (byte 0) refl
 
 -- `bad_line`: the number of a wrong shape
 pub bad-line-shape : Excludes (λ (p : List ℕ × ℕ). writtenAt (p .0) (p .1) badLine) (λ p. writtenAt (p .0) (p .1) (line badWord (refusalNumber WrongShape ∷ [])))
-unfolding writtenAt line spaced decimal digitsFor digitsStep
-bad-line-shape = by-number (byte 5) (room, 0) refl
+unfolding computes
+bad-line-shape = apart (room, 0) (byte 5) refl
 
 -- `bad_line`: another word
 pub bad-line-open : Excludes (λ (p : List ℕ × ℕ). writtenAt (p .0) (p .1) badLine) (λ p. writtenAt (p .0) (p .1) (line openWord (refusalNumber Malformed ∷ [])))
-unfolding writtenAt line spaced decimal digitsFor digitsStep
-bad-line-open = by-number (byte 0) (room, 0) refl
+unfolding computes
+bad-line-open = apart (room, 0) (byte 0) refl
 
 -- what an answer's line is written from: the report, the place, the step, the answer and the lent rows
 abbrev Given : Type 0
@@ -56,10 +57,10 @@ found = (room, 0, ask.Rows 1 1, tell.Rows 1, 9 ∷ [])
 
 -- `answer_line`: the found rows are not said
 pub answer-line-rows-unsaid : Excludes answer-line (λ p. writtenAt (p .0) (p .1) (lineFor (p .2) (p .3) []))
-unfolding writtenAt line spaced decimal digitsFor digitsStep
-answer-line-rows-unsaid = by-number (byte 8) found refl
+unfolding computes
+answer-line-rows-unsaid = apart found (byte 8) refl
 
 -- `answer_line`: the values stand where the number stands
 pub answer-line-no-number : Excludes answer-line (λ p. writtenAt (p .0) (p .1) (line (wordOf (asked (p .2))) (valuesOf (p .3) (p .4))))
-unfolding writtenAt line spaced decimal digitsFor digitsStep
-answer-line-no-number = by-number (byte 5) found refl
+unfolding computes
+answer-line-no-number = apart found (byte 5) refl

@@ -1,4 +1,4 @@
--- `scans`: wrong bodies of its public functions.
+-- Wrong bodies of the crate `scans`.
 -- Assumes nothing.
 use Prim.Native.Nat.{ℕ, _+_, _-_, min}
 use mathlib.Core.Path.{refl}
@@ -10,7 +10,9 @@ use Rattle.tables.specs.Lists.{records, readsOf, writesOf, recordsOf}
 use Rattle.scans.specs.declared.Found.{Found}
 use Rattle.scans.specs.Scans as spec
 use Rattle.tightness.specs.Wrong.{Excludes}
-use Rattle.tightness.proofs.Small.{apart, computes, bit, placeIn, starting, twice}
+use Rattle.tightness.proofs.Apart.{apart, bit, placeFound}
+use Rattle.tightness.proofs.Computes.{computes}
+use Rattle.tightness.proofs.Small.{starting, twice}
 
 -- what the contracts of the scans ask for
 abbrev activeContains : List ℕ × ℕ × ℕ → Bool
@@ -38,12 +40,12 @@ active-contains-first = apart (4 ∷ 5 ∷ [], 2, 5) bit refl
 -- `latest_pending`: the first write of the row
 pub latest-pending-first : Excludes latestPending (λ (lists, slot, n, row). spec.firstPlace (spec.rowsWritten (writesOf lists slot (min n mostWrites))) row)
 unfolding computes
-latest-pending-first = apart (twice, 0, 2, 0) placeIn refl
+latest-pending-first = apart (twice, 0, 2, 0) placeFound refl
 
 -- `latest_pending`: a count above 16 reads into the read records
 pub latest-pending-count-unclipped : Excludes latestPending (λ (lists, slot, n, row). spec.lastPlace (spec.rowsWritten (writesOf lists slot n)) row)
 unfolding computes
-latest-pending-count-unclipped = apart (starting records (7 ∷ []), 0, mostWrites + 1, 7) placeIn refl
+latest-pending-count-unclipped = apart (starting records (7 ∷ []), 0, mostWrites + 1, 7) placeFound refl
 
 -- one read record: row 1 at pointer 2
 abbrev recorded : List ℕ
@@ -66,9 +68,9 @@ captured = 1 ∷ 4 ∷ 1 ∷ 5 ∷ []
 -- `find_read_prefix`: the last index read of the bucket
 pub find-read-prefix-last : Excludes findReadPrefix (λ (lists, slot, n, bucket). spec.lastPlace (spec.bucketsRead (readsOf lists slot (min n mostIndexReads))) bucket)
 unfolding computes
-find-read-prefix-last = apart (captured, 0, 2, 1) placeIn refl
+find-read-prefix-last = apart (captured, 0, 2, 1) placeFound refl
 
 -- `find_read_prefix`: the stamp for the bucket
 pub find-read-prefix-stamp : Excludes findReadPrefix (λ (lists, slot, n, bucket). spec.firstPlace (map (λ r. r .stamp) (readsOf lists slot (min n mostIndexReads))) bucket)
 unfolding computes
-find-read-prefix-stamp = apart (captured, 0, 2, 1) placeIn refl
+find-read-prefix-stamp = apart (captured, 0, 2, 1) placeFound refl

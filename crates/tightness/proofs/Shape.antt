@@ -2,15 +2,12 @@
 -- Assumes nothing.
 use Prim.Native.Nat.{ℕ, suc, _*_}
 use mathlib.Core.Path.{refl}
-use mathlib.Core.Bool.{Bool, not, _&&_}
+use mathlib.Core.Bool.{Bool, _&&_}
 use mathlib.Core.List.{List, [], map}
 use lib.Dec.{leb}
 use lib.ListN.{length, getD, replicate, set}
-use Rattle.model.specs.Lists.{every, pick}
-use Rattle.model.specs.Shape.{goodSizes, goodChains, distinctNumbers, rightShape}
-use Rattle.model.specs.Refusals.{liveCount, reserved, reservedBy}
+use Rattle.model.specs.Shape.{rightShape}
 use Rattle.tables.specs.Fields.{rowWords, versionWords, bucketWords}
-use Rattle.tables.specs.Words.{field}
 use Rattle.tables.specs.Lists.{listsWords}
 use Rattle.record.specs.declared.Phase.the-variants as phase
 use Rattle.record.specs.declared.Transaction.{Transaction}
@@ -21,8 +18,9 @@ use Rattle.shape.specs.Shape.{tablesLent, tablesFit, shapeOf, wordsOf}
 use Rattle.shape.specs.declared.Machine.{Machine}
 use Rattle.turns.specs.Turns.{freshOf, closedOf}
 use Rattle.tightness.specs.Wrong.{Excludes}
-use Rattle.tightness.proofs.Apart.{by-test, by-number}
-use Rattle.tightness.proofs.Opened.{one, tables, txn, writer}
+use Rattle.tightness.proofs.Apart.{apart, bit}
+use Rattle.tightness.proofs.Computes.{computes}
+use Rattle.tightness.proofs.Small.{live, writer, sizes, tables}
 
 -- the lent tables: rows, versions, buckets and lists
 abbrev Lent : Type 0
@@ -34,30 +32,30 @@ lent p = tablesLent (p .0 .0) (p .0 .1) (p .0 .2) (p .0 .3) (p .1)
 -- `tables_lent`: no entry for pointer 0
 pub tables-lent-no-entry-more : Excludes lent (λ p.
     leb (rowWords * p .1 .rows) (length (p .0 .0)) && leb (versionWords * p .1 .versions) (length (p .0 .1)) && leb (bucketWords * p .1 .buckets) (length (p .0 .2)) && leb listsWords (length (p .0 .3)))
-tables-lent-no-entry-more = by-test not ((tables .rows, replicate versionWords 0, tables .buckets, tables .lists), one) refl refl
+tables-lent-no-entry-more = apart ((tables .rows, replicate versionWords 0, tables .buckets, tables .lists), sizes) bit refl
 
 -- `tables_lent`: the lists are not tested
 pub tables-lent-lists-untested : Excludes lent (λ p.
     leb (rowWords * p .1 .rows) (length (p .0 .0)) && leb (versionWords * suc (p .1 .versions)) (length (p .0 .1)) && leb (bucketWords * p .1 .buckets) (length (p .0 .2)))
-tables-lent-lists-untested = by-test not ((tables .rows, tables .versions, tables .buckets, []), one) refl refl
+tables-lent-lists-untested = apart ((tables .rows, tables .versions, tables .buckets, []), sizes) bit refl
 
 -- `others_of`: an Ended transaction is active
 pub others-of-ended-active : Excludes othersIn (λ ts. record { numbers = othersIn ts .numbers; active = othersIn ts .numbers; prepared = othersIn ts .prepared })
-others-of-ended-active = by-number (λ (o : Others). getD (o .active) 0 0) (set freePlaces 0 (txn phase.Ended)) refl
+others-of-ended-active = apart (set freePlaces 0 (live 1 phase.Ended)) (λ (o : Others). getD (o .active) 0 0) refl
 
 -- `others_of`: every pending write has a version reserved
 pub others-of-writes-reserved : Excludes othersIn (λ ts. record { numbers = othersIn ts .numbers; active = othersIn ts .active; prepared = map (λ (t : Transaction). t .«writes_n») ts })
-others-of-writes-reserved = by-number (λ (o : Others). getD (o .prepared) 0 0) (set freePlaces 0 (writer phase.Open)) refl
+others-of-writes-reserved = apart (set freePlaces 0 (writer phase.Open)) (λ (o : Others). getD (o .prepared) 0 0) refl
 
 abbrev words-of : Lent × Machine → Words
 words-of p = wordsOf (p .0 .0) (p .0 .1) (p .0 .2) (p .0 .3) [] (p .1)
 
 -- `right_shape`: only the words' own tests are made
 pub right-shape-words-only : Excludes (λ (p : Lent × Machine). shapeOf (words-of p)) (λ p. tablesFit (words-of p))
-unfolding shapeOf tablesFit every rightShape goodSizes
-right-shape-words-only = by-test not ((tables .rows, tables .versions, tables .buckets, tables .lists), closedOf) refl refl
+unfolding computes shapeOf
+right-shape-words-only = apart ((tables .rows, tables .versions, tables .buckets, tables .lists), closedOf) bit refl
 
 -- `right_shape`: the tables may be shorter than their sizes
 pub right-shape-tables-short : Excludes (λ (p : Lent × Machine). shapeOf (words-of p)) (λ p. rightShape (view (words-of p)))
-unfolding shapeOf tablesFit rightShape goodSizes goodChains every field distinctNumbers liveCount pick reserved reservedBy
-right-shape-tables-short = by-test not (([], [], [], []), freshOf one 1) refl refl
+unfolding computes shapeOf
+right-shape-tables-short = apart (([], [], [], []), freshOf sizes 1) bit refl

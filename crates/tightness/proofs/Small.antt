@@ -1,84 +1,31 @@
--- How two outcomes are told apart, and the small records on which that is done.
+-- The small records, lists and stores on which two outcomes are told apart.
 -- Assumes nothing.
-use Prim.Native.Nat.{ℕ, suc, _-_}
-use mathlib.Core.Path.{_≡_, sym, ap, _∙_}
-use mathlib.Core.Bool.{Bool, false, cond, true≢false}
+use Prim.Native.Nat.{ℕ, suc, _-_, _*_}
+use mathlib.Core.Path.{_≡_, refl}
+use mathlib.Core.Bool.{true, false}
 use mathlib.Core.List.{List, [], _∷_, _++_}
-use lib.Dec.{eqb}
-use lib.ListN.{replicate}
-use borrow.Author.Tests.{eq-eqb}
+use lib.ListN.{replicate, set}
 use Rattle.limits.specs.Limits.{mostActive}
-use Rattle.protocol.specs.declared.Answer.{Answer}
-use Rattle.protocol.specs.declared.Answer.the-variants as tell
-use Rattle.model.proofs.Computes as model
-use Rattle.tables.specs.Words.{field, setField}
-use Rattle.tables.specs.Regions.{words, listOf}
-use Rattle.tables.specs.Lists.{Kind, writes}
-use Rattle.scans.specs.Scans.{firstFrom, lastBelow}
-use Rattle.scans.specs.declared.Found.{Found}
-use Rattle.scans.specs.declared.Found.the-variants.{At, Nothing}
+use Rattle.model.specs.Store.{bucketIn}
+use Rattle.tables.specs.Fields.{rowWords, versionWords, bucketWords}
+use Rattle.tables.specs.Lists.{Kind, writes, listsWords}
 use Rattle.chain.specs.declared.Snapshot.{Snapshot}
-use Rattle.chain.specs.Chain.{stepFrom, walkFor, walkFrom, firstVisible}
-use Rattle.buckets.specs.Buckets.{canonicalOf}
-use Rattle.record.specs.Methods.{holdOf, captureAt, writeOf, collectOf}
-use Rattle.holders.specs.Keys.{versionKey, oldKeyOf, newKeyOf}
-use Rattle.holders.specs.Needs.{Listed, pushOne, pushAll, bucketsFor, writeNeeds, writeChanges}
-use Rattle.holders.specs.Holders.{holdAll, stampAll, freeAll, claimAll, unclaimAll}
+use Rattle.record.specs.View.{phaseView}
+use Rattle.record.specs.Methods.{withWrites}
 use Rattle.record.specs.declared.Phase.{Phase}
+use Rattle.record.specs.declared.Phase.the-variants as phase
 use Rattle.record.specs.declared.Transaction.{Transaction}
-use Rattle.install.specs.Install.{oneMore, rowsListed, pendingInto, lastWriteOf, versionStored, pushedRow, pushedRows, toInstall, installOf}
-use Rattle.verdict.specs.Judged.{firstWhere}
-use Rattle.tightness.specs.Wrong.{Excludes}
+use Rattle.places.specs.declared.Sizes.{Sizes}
+use Rattle.steps.specs.Steps.{Tables}
+use Rattle.steps.specs.Words.{Words, freePlaces}
+use Rattle.shape.specs.Shape.{shapeOf}
+use Rattle.tightness.proofs.Computes.{computes}
 
--- a number that is read off both outcomes differs
-pub apart : {A B : Type 0} {right wrong : A → B} (input : A) (look : B → ℕ) → eqb (look (right input)) (look (wrong input)) ≡ false → Excludes right wrong
-apart input look d = record { input = input; differ = λ e. true≢false (sym (eq-eqb _ _ (ap look e)) ∙ d) }
-
--- one name that opens every definition of the functions, so that an outcome on numerals computes
-unfoldable pub computes : Unit {0}
-unfolding model.computes field setField words listOf firstFrom lastBelow holdOf captureAt writeOf collectOf versionKey oldKeyOf newKeyOf pushOne pushAll bucketsFor writeNeeds writeChanges holdAll stampAll freeAll claimAll unclaimAll oneMore rowsListed pendingInto lastWriteOf versionStored pushedRow pushedRows toInstall installOf firstWhere stepFrom walkFor walkFrom firstVisible canonicalOf
-computes = tt
-
--- a test as a number
-abbrev pub bit : Bool → ℕ
-bit b = cond b 1 0
-
--- the number in an answer
-abbrev pub numberIn : Answer → ℕ
-numberIn tell.Done = 0
-numberIn (tell.Number n) = n
-numberIn (tell.Stamp n) = n
-numberIn (tell.Count n) = n
-numberIn (tell.Rows n) = n
-numberIn (tell.Judged v) = 0
-numberIn (tell.Refused n) = n
-
--- a place counted from 1, 0 for none
-abbrev pub placeIn : Found → ℕ
-placeIn (At i) = suc i
-placeIn Nothing = 0
-
--- how many numbers are listed
-abbrev pub count : Listed → ℕ
-count l = l .n
-
--- slot 0's lists up to a list's start, and this entry there
-abbrev pub starting : Kind → List ℕ → List ℕ
-starting k vs = replicate (k .off) 0 ++ vs
-
--- two pending writes of row 0, of key 6 and of key 7
-abbrev pub twice : List ℕ
-twice = starting writes (0 ∷ 1 ∷ 6 ∷ 9 ∷ 0 ∷ 1 ∷ 7 ∷ 9 ∷ [])
-
--- the snapshot of this xmax in which 3 is active
-abbrev pub threeActive : ℕ → Snapshot
-threeActive xmax = record { xmin = 3; xmax = xmax; active = 3 ∷ replicate (mostActive - 1) 0; «active_n» = 1 }
-
--- transaction 5 of slot 0, with snapshot xmax 6, none active and nothing in its lists
-abbrev pub five : Phase → Transaction
-five ph = record {
-  number = 5;
-  snapshot = record { xmin = 5; xmax = 6; active = replicate mostActive 0; «active_n» = 0 };
+-- transaction n of slot 0 in this phase, with snapshot xmax n + 1, none active and nothing in its lists
+abbrev pub live : ℕ → Phase → Transaction
+live n ph = record {
+  number = n;
+  snapshot = record { xmin = n; xmax = suc n; active = replicate mostActive 0; «active_n» = 0 };
   marked = false;
   phase = ph;
   slot = 0;
@@ -87,3 +34,50 @@ five ph = record {
   «records_n» = 0;
   «candidates_n» = 0;
 }
+
+-- transaction 1 with one pending write
+abbrev pub writer : Phase → Transaction
+writer ph = withWrites (live 1 ph) 1
+
+-- the snapshot of this xmax in which 3 is active
+abbrev pub threeActive : ℕ → Snapshot
+threeActive xmax = record { xmin = 3; xmax = xmax; active = 3 ∷ replicate (mostActive - 1) 0; «active_n» = 1 }
+
+-- slot 0's lists up to a list's start, and these words there
+abbrev pub starting : Kind → List ℕ → List ℕ
+starting k vs = replicate (k .off) 0 ++ vs
+
+-- room for one entry of a list
+abbrev pub roomFor : Kind → List ℕ
+roomFor k = starting k (replicate (k .w) 0)
+
+-- one pending write of row 0: an erase, and a put of key 5 and payload 9
+abbrev pub erases : List ℕ
+erases = roomFor writes
+
+abbrev pub puts : List ℕ
+puts = starting writes (0 ∷ 1 ∷ 5 ∷ 9 ∷ [])
+
+-- two pending writes of row 0, of key 6 and of key 7
+abbrev pub twice : List ℕ
+twice = starting writes (0 ∷ 1 ∷ 6 ∷ 9 ∷ 0 ∷ 1 ∷ 7 ∷ 9 ∷ [])
+
+-- a store of one row, one version and one bucket, all words 0, with transaction 1 at place 0
+abbrev pub sizes : Sizes
+sizes = record { rows = 1; versions = 1; buckets = 1 }
+
+abbrev pub tables : Tables
+tables = record { rows = replicate rowWords 0; versions = replicate (versionWords * 2) 0; buckets = replicate bucketWords 0; lists = replicate listsWords 0; found = [] }
+
+abbrev pub store : Phase → Words
+store ph = record { tables = tables; txns = set freePlaces 0 (live 1 ph); sizes = sizes; clock = 2; used = 0 }
+
+-- its shape is right
+pub shape : (ph : Phase) → bucketIn (phaseView ph) ≡ 0 → shapeOf (store ph) ≡ true
+unfolding computes shapeOf
+shape phase.Open e = refl
+shape (phase.Holding b k) e = rw e
+shape (phase.Collected k) e = refl
+shape phase.Prepared e = refl
+shape phase.Installed e = refl
+shape phase.Ended e = refl

@@ -15,7 +15,9 @@ use Rattle.tables.specs.declared.lists.Write.{Write}
 use Rattle.tables.specs.declared.lists.ReadRecord.{ReadRecord}
 use Rattle.tables.proofs.Spans.{words-at}
 use Rattle.tightness.specs.Wrong.{Excludes}
-use Rattle.tightness.proofs.Small.{apart, computes, starting}
+use Rattle.tightness.proofs.Apart.{apart, itself}
+use Rattle.tightness.proofs.Computes.{computes}
+use Rattle.tightness.proofs.Small.{starting, roomFor}
 
 -- words that are 0 up to the last, which is 1
 only : ℕ → List ℕ
@@ -59,7 +61,7 @@ word-next = record { input = (only 0, 0); differ = places-differ 0 1 (omega arit
 
 -- `word`: past the end the first word, not 0
 pub word-past-end : Excludes {A = List ℕ × ℕ} (λ (xs, at). getD xs at 0) (λ (xs, at). getD xs at (getD xs 0 0))
-word-past-end = apart (1 ∷ [], 1) (λ x. x) refl
+word-past-end = apart (1 ∷ [], 1) itself refl
 
 -- `set_word`: nothing is stored
 pub set-word-nothing : Excludes {A = List ℕ × ℕ × ℕ} (λ (xs, at, v). set xs at v) (λ (xs, at, v). xs)
@@ -148,11 +150,11 @@ read-at-mixed = apart (1 ∷ 2 ∷ [], 0, 0) (λ (r : IndexRead). r .stamp) refl
 
 -- `put_read`: bucket and stamp change places
 pub put-read-swapped : Excludes putRead (λ (xs, s, i, bucket, stamp). putRead (xs, s, i, stamp, bucket))
-put-read-swapped = apart (0 ∷ 0 ∷ [], 0, 0, 1, 2) (firstWord reads) refl
+put-read-swapped = apart (roomFor reads, 0, 0, 1, 2) (firstWord reads) refl
 
 -- `put_read`: stored in the next slot
 pub put-read-next-slot : Excludes putRead (λ (xs, s, i, bucket, stamp). putRead (xs, s + 1, i, bucket, stamp))
-put-read-next-slot = apart (0 ∷ 0 ∷ [], 0, 0, 1, 2) (firstWord reads) refl
+put-read-next-slot = apart (roomFor reads, 0, 0, 1, 2) (firstWord reads) refl
 
 -- `write_at`: key and payload change places
 pub write-at-swapped : Excludes {A = List ℕ × ℕ × ℕ} (λ (xs, s, i). writeAt xs s i)
@@ -168,11 +170,11 @@ write-at-keyed = apart (starting writes (1 ∷ 0 ∷ 0 ∷ 0 ∷ []), 0, 0) (λ 
 
 -- `put_write`: row and key change places
 pub put-write-swapped : Excludes putWrite (λ (xs, s, i, row, keyed, key, payload). putWrite (xs, s, i, key, keyed, row, payload))
-put-write-swapped = apart (starting writes (0 ∷ 0 ∷ 0 ∷ 0 ∷ []), 0, 0, 1, 1, 2, 3) (firstWord writes) refl
+put-write-swapped = apart (roomFor writes, 0, 0, 1, 1, 2, 3) (firstWord writes) refl
 
 -- `put_write`: stored where the index reads stand
 pub put-write-other-list : Excludes putWrite (λ (xs, s, i, row, keyed, key, payload). stored reads xs s i (row ∷ keyed ∷ key ∷ payload ∷ []))
-put-write-other-list = apart (starting writes (0 ∷ 0 ∷ 0 ∷ 0 ∷ []), 0, 0, 1, 1, 2, 3) (firstWord writes) refl
+put-write-other-list = apart (roomFor writes, 0, 0, 1, 1, 2, 3) (firstWord writes) refl
 
 -- `record_at`: row and pointer change places
 pub record-at-swapped : Excludes {A = List ℕ × ℕ × ℕ} (λ (xs, s, i). recordAt xs s i) (λ (xs, s, i). record { row = recordAt xs s i .ptr; ptr = recordAt xs s i .row; xmin = recordAt xs s i .xmin })
@@ -186,16 +188,16 @@ record-at-other-xmin = apart (starting records (1 ∷ 2 ∷ 3 ∷ []), 0, 0) (λ
 
 -- `put_record`: row and pointer change places
 pub put-record-swapped : Excludes putRecord (λ (xs, s, i, row, ptr, xmin). putRecord (xs, s, i, ptr, row, xmin))
-put-record-swapped = apart (starting records (0 ∷ 0 ∷ 0 ∷ []), 0, 0, 1, 2, 3) (firstWord records) refl
+put-record-swapped = apart (roomFor records, 0, 0, 1, 2, 3) (firstWord records) refl
 
 -- `put_record`: the xmin is left out
 pub put-record-cut : Excludes putRecord (λ (xs, s, i, row, ptr, xmin). stored records xs s i (row ∷ ptr ∷ []))
-put-record-cut = apart (starting records (0 ∷ 0 ∷ 0 ∷ []), 0, 0, 1, 2, 3) (λ xs. getD xs (records .off + 2) 0) refl
+put-record-cut = apart (roomFor records, 0, 0, 1, 2, 3) (λ xs. getD xs (records .off + 2) 0) refl
 
 -- `put_candidate`: nothing is stored
 pub put-candidate-nothing : Excludes putCandidate (λ (xs, s, i, row). xs)
-put-candidate-nothing = apart (starting candidates (0 ∷ []), 0, 0, 1) (firstWord candidates) refl
+put-candidate-nothing = apart (roomFor candidates, 0, 0, 1) (firstWord candidates) refl
 
 -- `put_candidate`: its place is stored, not the row
 pub put-candidate-place : Excludes putCandidate (λ (xs, s, i, row). putCandidate (xs, s, i, i))
-put-candidate-place = apart (starting candidates (0 ∷ []), 0, 0, 1) (firstWord candidates) refl
+put-candidate-place = apart (roomFor candidates, 0, 0, 1) (firstWord candidates) refl

@@ -1,4 +1,4 @@
--- `verdict`: wrong bodies of its public functions.
+-- Wrong bodies of the crate `verdict`.
 -- Assumes nothing.
 use Prim.Native.Nat.{ℕ}
 use mathlib.Core.Path.{refl}
@@ -16,7 +16,9 @@ use Rattle.record.specs.View.{snapshotView, recordsIn}
 use Rattle.record.specs.Methods.{withReads}
 use Rattle.verdict.specs.Judged.{versionsView, verdictOf, firstWhere, badIn, changedRecord}
 use Rattle.tightness.specs.Wrong.{Excludes}
-use Rattle.tightness.proofs.Small.{apart, computes, placeIn, starting, threeActive, five}
+use Rattle.tightness.proofs.Apart.{apart, placeFound}
+use Rattle.tightness.proofs.Computes.{computes}
+use Rattle.tightness.proofs.Small.{live, threeActive, starting}
 
 -- what the contracts of `has_serialization_conflict` and `verdict` ask for
 abbrev conflict : List ℕ × List ℕ × Transaction → Found
@@ -49,22 +51,22 @@ endedBy n = 0 ∷ 0 ∷ 0 ∷ 0 ∷ 0 ∷ 0 ∷ 2 ∷ n ∷ 0 ∷ 1 ∷ 7 ∷ 9 
 -- `has_serialization_conflict`: a version that the own number ended has changed
 pub has-serialization-conflict-own-number : Excludes conflict (λ (versions, lists, t). firstWhere (judged.badRecord (versionsView versions) 0 (snapshotView (t .snapshot))) 0 (recordsIn lists t))
 unfolding computes
-has-serialization-conflict-own-number = apart (endedBy 5, read, reader 5) placeIn refl
+has-serialization-conflict-own-number = apart (endedBy 5, read, reader 5) placeFound refl
 
 -- `has_serialization_conflict`: the active numbers are not looked at
 pub has-serialization-conflict-active-ignored : Excludes conflict (λ (versions, lists, t). firstWhere (judged.badRecord (versionsView versions) (t .number) (record { xmin = t .snapshot .xmin; xmax = t .snapshot .xmax; active = [] })) 0 (recordsIn lists t))
 unfolding computes
-has-serialization-conflict-active-ignored = apart (endedBy 3, read, reader 6) placeIn refl
+has-serialization-conflict-active-ignored = apart (endedBy 3, read, reader 6) placeFound refl
 
 -- `has_serialization_conflict`: the place is counted from 1
 pub has-serialization-conflict-from-1 : Excludes conflict (λ (versions, lists, t). firstWhere (badIn versions t) 1 (recordsIn lists t))
 unfolding computes
-has-serialization-conflict-from-1 = apart (endedBy 3, read, reader 6) placeIn refl
+has-serialization-conflict-from-1 = apart (endedBy 3, read, reader 6) placeFound refl
 
 -- `has_serialization_conflict`: never a conflict
 pub has-serialization-conflict-never : Excludes conflict (λ (versions, lists, t). Nothing)
 unfolding computes
-has-serialization-conflict-never = apart (endedBy 3, read, reader 6) placeIn refl
+has-serialization-conflict-never = apart (endedBy 3, read, reader 6) placeFound refl
 
 -- a verdict's number
 abbrev numberOf : Verdict → ℕ
@@ -89,12 +91,12 @@ capturedIn verdict.Mark = 0
 -- `verdict`: the index reads are not looked at
 pub verdict-reads-skipped : Excludes judge (λ (versions, buckets, lists, t). judge (versions, buckets, lists, withReads t 0))
 unfolding computes
-verdict-reads-skipped = apart ([], 4 ∷ 0 ∷ [], 0 ∷ 1 ∷ [], withReads (five phase.Open) 1) numberOf refl
+verdict-reads-skipped = apart ([], 4 ∷ 0 ∷ [], 0 ∷ 1 ∷ [], withReads (live 5 phase.Open) 1) numberOf refl
 
 -- `verdict`: captured and present stamp change places
 pub verdict-stamps-swapped : Excludes judge (λ (versions, buckets, lists, t). swapped (judge (versions, buckets, lists, t)))
 unfolding computes
-verdict-stamps-swapped = apart ([], 4 ∷ 0 ∷ [], 0 ∷ 1 ∷ [], withReads (five phase.Open) 1) capturedIn refl
+verdict-stamps-swapped = apart ([], 4 ∷ 0 ∷ [], 0 ∷ 1 ∷ [], withReads (live 5 phase.Open) 1) capturedIn refl
 
 -- `verdict`: always clear
 pub verdict-always-clear : Excludes judge (λ (versions, buckets, lists, t). verdict.Clear)
@@ -104,4 +106,4 @@ verdict-always-clear = apart (endedBy 3, [], read, reader 6) numberOf refl
 -- `verdict`: always a conflict
 pub verdict-always-conflict : Excludes judge (λ (versions, buckets, lists, t). verdict.Mark)
 unfolding computes
-verdict-always-conflict = apart ([], [], [], five phase.Open) numberOf refl
+verdict-always-conflict = apart ([], [], [], live 5 phase.Open) numberOf refl

@@ -6,24 +6,19 @@ use mathlib.Core.Bool.{cond, not}
 use mathlib.Core.List.{List, [], _∷_, _++_}
 use lib.Dec.{eqb}
 use lib.ListN.{getD, replicate}
-use Rattle.model.specs.Lists.{member, pick}
 use Rattle.model.specs.Store.{rank, keyIn}
-use Rattle.tables.specs.Words.{field}
 use Rattle.tables.specs.Fields.{versionWords}
-use Rattle.tables.specs.Regions.{listOf, words}
-use Rattle.scans.specs.Scans.{lastBelow}
-use Rattle.chain.specs.Chain.{stepFrom, walkFor, walkFrom, firstVisible}
 use Rattle.record.specs.View.{phaseView}
 use Rattle.record.specs.Methods.{withCandidates}
 use Rattle.record.specs.declared.Phase.the-variants as phase
 use Rattle.record.specs.declared.Transaction.{Transaction}
-use Rattle.matching.specs.Matching.{Look, look, matchOf}
-use Rattle.reads.specs.Rows.{candidateRows, wantedRows, matchedRows, newRecords, LeftRows, refusedRows, answerOf, readingOf, rowsOf}
-use Rattle.reads.specs.Inner.{only, Run, copied}
-use Rattle.report.specs.Lines.{numberOf}
+use Rattle.matching.specs.Matching.{Look, look}
+use Rattle.reads.specs.Rows.{candidateRows, wantedRows, matchedRows, LeftRows, refusedRows, answerOf, readingOf, rowsOf}
+use Rattle.reads.specs.Inner.{Run, copied}
 use Rattle.tightness.specs.Wrong.{Excludes}
-use Rattle.tightness.proofs.Apart.{by-number}
-use Rattle.tightness.proofs.Opened.{txn, writer, puts}
+use Rattle.tightness.proofs.Apart.{apart, numberIn}
+use Rattle.tightness.proofs.Computes.{computes}
+use Rattle.tightness.proofs.Small.{live, writer, puts}
 
 -- what rows is given: rows, versions, lists, the lent list, the row count, the last used pointer, the room and the record
 abbrev Given : Type 0
@@ -37,24 +32,24 @@ looks p = look (p .0) (p .1) (p .2) (p .5) (p .7) (keyIn (phaseView (p .7 .phase
 
 -- `rows`: the phase is not tested
 pub rows-any-phase : Excludes reads (λ p. readingOf (looks p) (p .4) (p .6) (p .3))
-unfolding rowsOf readingOf matchedRows pick member listOf newRecords
-rows-any-phase = by-number (λ (l : LeftRows). numberOf (l .reply .answer)) ([], [], [], [], 1, 0, 0, txn phase.Open) refl
+unfolding computes
+rows-any-phase = apart ([], [], [], [], 1, 0, 0, live 1 phase.Open) (λ (l : LeftRows). numberIn (l .reply .answer)) refl
 
 -- `rows`: the found rows do not go to the lent list
 pub rows-not-lent : Excludes reads (λ p. record { reply = reads p .reply; lists = reads p .lists; found = p .3 })
-unfolding rowsOf readingOf matchedRows pick member listOf words newRecords matchOf lastBelow
-rows-not-lent = by-number (λ (l : LeftRows). getD (l .found) 0 0) ([], [], puts, 9 ∷ [], 1, 0, 1, writer (phase.Collected 5)) refl
+unfolding computes
+rows-not-lent = apart ([], [], puts, 9 ∷ [], 1, 0, 1, writer (phase.Collected 5)) (λ (l : LeftRows). getD (l .found) 0 0) refl
 
 -- a version that is seen and has key 5, of row 0, which is a candidate
 abbrev seen : Given
-seen = (1 ∷ 0 ∷ 1 ∷ 5 ∷ [], replicate versionWords 0 ++ 1 ∷ 0 ∷ 0 ∷ 1 ∷ 5 ∷ 9 ∷ [], [], 9 ∷ [], 1, 1, 1, withCandidates (txn (phase.Collected 5)) 1)
+seen = (1 ∷ 0 ∷ 1 ∷ 5 ∷ [], replicate versionWords 0 ++ 1 ∷ 0 ∷ 0 ∷ 1 ∷ 5 ∷ 9 ∷ [], [], 9 ∷ [], 1, 1, 1, withCandidates (live 1 (phase.Collected 5)) 1)
 
 -- `rows`: the version read is not recorded
 pub rows-unrecorded : Excludes reads (λ p.
     cond (not (eqb (rank (phaseView (p .7 .phase))) 3)) (refusedRows (p .7) 5 (p .2) (p .3))
     (answerOf (p .2) (p .3) (p .7) (p .6) (matchedRows (looks p) (p .4)) []))
-unfolding rowsOf readingOf matchedRows pick member listOf words newRecords matchOf lastBelow firstVisible walkFrom walkFor stepFrom field
-rows-unrecorded = by-number (λ (l : LeftRows). l .reply .txn .«records_n») seen refl
+unfolding computes
+rows-unrecorded = apart seen (λ (l : LeftRows). l .reply .txn .«records_n») refl
 
 -- what gather is given: lists, the place for the rows, the record and the bound
 abbrev Gathered : Type 0
@@ -69,10 +64,10 @@ one-write bound = (puts, 9 ∷ [], writer phase.Open, bound)
 
 -- `gather`: the own pending rows are left out
 pub gather-candidates-only : Excludes gathers (λ p. copied (p .1) 0 (p .3) (candidateRows (p .0) (p .2 .slot) (p .2 .«candidates_n»)))
-unfolding listOf words only
-gather-candidates-only = by-number (λ (r : Run). r .n) (one-write 1) refl
+unfolding computes
+gather-candidates-only = apart (one-write 1) (λ (r : Run). r .n) refl
 
 -- `gather`: the bound itself is below the bound
 pub gather-bound-in : Excludes gathers (λ p. copied (p .1) 0 (suc (p .3)) (wantedRows (p .0) (p .2)))
-unfolding listOf words only
-gather-bound-in = by-number (λ (r : Run). r .n) (one-write 0) refl
+unfolding computes
+gather-bound-in = apart (one-write 0) (λ (r : Run). r .n) refl

@@ -1,39 +1,29 @@
--- Wrong bodies of the crate `machine`: each of its functions is `turnOf` of one step, so that a wrong one takes another step.
+-- Wrong bodies of the public steps (crates `reading`, `writing`, `finishing`): each contract is `turnOf` of one step, so that a wrong body takes another step.
 -- Assumes nothing.
 use Prim.Native.Nat.{ℕ, suc, _+_}
 use mathlib.Core.Path.{_≡_, refl, ap}
 use mathlib.Core.Bool.{true, false, true≢false}
 use lib.Dec.{eqb}
 use lib.ListN.{length, getD}
-use Rattle.model.specs.Lists.{member, pick, some-of}
 use Rattle.model.specs.Store.{bucketIn, rank}
 use Rattle.protocol.specs.declared.Step.{Step}
 use Rattle.protocol.specs.declared.Step.the-variants as ask
 use Rattle.protocol.specs.declared.Answer.the-variants as tell
-use Rattle.tables.specs.Words.{field}
-use Rattle.tables.specs.Regions.{listOf}
 use Rattle.tables.specs.Lists.{writes, placeOf}
-use Rattle.scans.specs.Scans.{firstFrom}
 use Rattle.record.specs.View.{phaseView}
-use Rattle.record.specs.Methods.{idleOf, captureAt, holdOf, writeOf, collectOf}
+use Rattle.record.specs.Methods.{idleOf}
 use Rattle.record.specs.declared.Phase.{Phase}
 use Rattle.record.specs.declared.Phase.the-variants as phase
-use Rattle.holders.specs.Needs.{pushAll}
-use Rattle.install.specs.Install.{oneMore, installOf}
-use Rattle.begin.specs.Begin.{beginOf, spent}
-use Rattle.prepare.specs.Prepare.{readsTakenIn, validateOf, prepareOf}
-use Rattle.publish.specs.Publish.{endOf, publishOf, abortOf}
-use Rattle.reads.specs.Rows.{matchedRows, newRecords, readingOf, rowsOf}
-use Rattle.places.specs.Places.{wantedOf, isBegin, missesOf, placeFrom, liveFrom}
-use Rattle.steps.specs.Steps.{publishStep, Moved, stays, stepOf}
+use Rattle.places.specs.Places.{wantedOf, isBegin, missesOf}
+use Rattle.steps.specs.Steps.{Moved, stays}
 use Rattle.steps.specs.Words.{Words, placeFor, movedBy, wordsAfter}
 use Rattle.turns.specs.Turns.{Left, turnOf}
-use Rattle.report.specs.Lines.{numberOf}
 use Rattle.tightness.specs.Wrong.{Excludes}
-use Rattle.tightness.proofs.Apart.{by-number}
-use Rattle.tightness.proofs.Opened as opened
+use Rattle.tightness.proofs.Apart.{apart, numberIn}
+use Rattle.tightness.proofs.Computes.{computes}
+use Rattle.tightness.proofs.Small.{live, tables, store, shape}
 
--- what each function of the machine asks for
+-- the step that each asks for
 abbrev begin : Words → Unit {0} → Step
 begin w u = ask.Begin
 
@@ -74,21 +64,21 @@ abort w n = ask.Abort n
 abbrev Mistaken : {I : Type 0} → (Words → I → Step) → (Words → I → Step) → Type 0
 Mistaken {I} right wrong = Excludes (λ (p : Words × I). turnOf (p .0) (right (p .0) (p .1))) (λ p. turnOf (p .0) (wrong (p .0) (p .1)))
 
--- in the small opened store the shape is right
+-- the step is done: the shape of the small store is right
 abbrev done : Phase → Step → Left
-done ph s = record { answer = movedBy (opened.words ph) s .stepped .answer; words = wordsAfter (opened.words ph) s }
+done ph s = record { answer = movedBy (store ph) s .stepped .answer; words = wordsAfter (store ph) s }
 
-turn-done : (ph : Phase) → bucketIn (phaseView ph) ≡ 0 → (s : Step) → turnOf (opened.words ph) s ≡ done ph s
+turn-done : (ph : Phase) → bucketIn (phaseView ph) ≡ 0 → (s : Step) → turnOf (store ph) s ≡ done ph s
 unfolding turnOf
-turn-done ph e s = rw (opened.shape ph e)
+turn-done ph e s = rw (shape ph e)
 
 in-phase : {I : Type 0} (right wrong : Words → I → Step) (ph : Phase) → bucketIn (phaseView ph) ≡ 0 → (number : Left → ℕ) (i : I)
-    → eqb (number (done ph (right (opened.words ph) i))) (number (done ph (wrong (opened.words ph) i))) ≡ false → Mistaken right wrong
+    → eqb (number (done ph (right (store ph) i))) (number (done ph (wrong (store ph) i))) ≡ false → Mistaken right wrong
 in-phase right wrong ph e number i d =
-    by-number number (opened.words ph, i) (rw (turn-done ph e (right (opened.words ph) i), turn-done ph e (wrong (opened.words ph) i)) d)
+    apart (store ph, i) number (rw (turn-done ph e (right (store ph) i), turn-done ph e (wrong (store ph) i)) d)
 
 abbrev code : Left → ℕ
-code l = numberOf (l .answer)
+code l = numberIn (l .answer)
 
 -- the number of the transaction at place 0, and its phase
 abbrev at-first : Left → ℕ
@@ -101,49 +91,49 @@ phase-at-first l = rank (phaseView (getD (l .words .txns) 0 (idleOf 0) .phase))
 abbrev written : ℕ → Left → ℕ
 written i l = getD (l .words .tables .lists) (placeOf writes 0 0 + i) 0
 
--- ---- each function that takes a number alone, taken for another: the two shut each other out (`either-way`)
+-- ---- the step of another function, where the transaction's number is all that is given
 
--- `collect` taken for `rows`
+-- `reading::collect` takes the step of `rows`
 pub collect-is-rows : Mistaken collect rows
-unfolding movedBy stepOf missesOf placeFor placeFrom collectOf rowsOf
+unfolding computes
 collect-is-rows = in-phase collect rows (phase.Holding 0 0) refl code 1 refl
 
--- `rows` taken for `prepare`
+-- `reading::rows` takes the step of `prepare`
 pub rows-is-prepare : Mistaken rows prepare
-unfolding movedBy stepOf missesOf placeFor placeFrom rowsOf readingOf matchedRows pick newRecords member listOf prepareOf
+unfolding computes
 rows-is-prepare = in-phase rows prepare (phase.Collected 0) refl code 1 refl
 
--- `prepare` taken for `install`
+-- `writing::prepare` takes the step of `install`
 pub prepare-is-install : Mistaken prepare install
-unfolding movedBy stepOf missesOf placeFor placeFrom prepareOf installOf
+unfolding computes
 prepare-is-install = in-phase prepare install phase.Prepared refl code 1 refl
 
--- `install` taken for `end`
+-- `finishing::install` takes the step of `end`
 pub install-is-end : Mistaken install end
-unfolding movedBy stepOf missesOf placeFor placeFrom installOf endOf
+unfolding computes
 install-is-end = in-phase install end phase.Prepared refl code 1 refl
 
--- `end` taken for `publish`
+-- `finishing::end` takes the step of `publish`
 pub end-is-publish : Mistaken end publish
-unfolding movedBy stepOf missesOf placeFor placeFrom endOf publishStep publishOf
+unfolding computes
 end-is-publish = in-phase end publish phase.Installed refl code 1 refl
 
--- `publish` taken for `validate`
+-- `finishing::publish` takes the step of `validate`
 pub publish-is-validate : Mistaken publish validate
-unfolding movedBy stepOf missesOf placeFor placeFrom publishStep publishOf validateOf
+unfolding computes
 publish-is-validate = in-phase publish validate phase.Ended refl code 1 refl
 
--- `validate` taken for `abort`
+-- `writing::validate` takes the step of `abort`
 pub validate-is-abort : Mistaken validate abort
-unfolding movedBy stepOf missesOf placeFor placeFrom validateOf readsTakenIn some-of pushAll listOf abortOf
+unfolding computes
 validate-is-abort = in-phase validate abort phase.Open refl at-first 1 refl
 
--- `abort` taken for `collect`
+-- `finishing::abort` takes the step of `collect`
 pub abort-is-collect : Mistaken abort collect
-unfolding movedBy stepOf missesOf placeFor placeFrom abortOf collectOf
+unfolding computes
 abort-is-collect = in-phase abort collect phase.Open refl code 1 refl
 
--- ---- capture, put and erase
+-- ---- where a key, a row or a payload is given too
 
 abbrev erase-of : Words → ℕ × ℕ × ℕ × ℕ → Step
 erase-of w p = ask.Erase (p .0) (p .1)
@@ -157,52 +147,52 @@ capture-turned w p = ask.Capture (p .1) (p .0)
 abbrev erase-turned : Words → ℕ × ℕ → Step
 erase-turned w p = ask.Erase (p .1) (p .0)
 
--- `capture` taken for `erase`
+-- `reading::capture` takes the step of `erase`
 pub capture-is-erase : Mistaken capture erase
-unfolding movedBy stepOf missesOf placeFor placeFrom captureAt holdOf firstFrom listOf field writeOf
+unfolding computes
 capture-is-erase = in-phase capture erase phase.Open refl phase-at-first (1, 0) refl
 
--- `put` taken for `erase`
+-- `writing::put` takes the step of `erase`
 pub put-is-erase : Mistaken put erase-of
-unfolding movedBy stepOf missesOf placeFor placeFrom writeOf
+unfolding computes
 put-is-erase = in-phase put erase-of phase.Open refl (written 1) (1, 0, 1, 2) refl
 
--- `put`: the payload goes where the key goes, and the key where the payload goes
+-- `writing::put`: the payload goes where the key goes, and the key where the payload goes
 pub put-key-for-payload : Mistaken put put-turned
-unfolding movedBy stepOf missesOf placeFor placeFrom writeOf
+unfolding computes
 put-key-for-payload = in-phase put put-turned phase.Open refl (written 2) (1, 0, 1, 2) refl
 
--- `capture`: the key goes where the number goes, and the number where the key goes
+-- `reading::capture`: the key goes where the number goes, and the number where the key goes
 pub capture-key-for-number : Mistaken capture capture-turned
-unfolding movedBy stepOf missesOf placeFor placeFrom captureAt firstFrom listOf field
+unfolding computes
 capture-key-for-number = in-phase capture capture-turned phase.Open refl code (1, 0) refl
 
--- `erase`: the row goes where the number goes, and the number where the row goes
+-- `writing::erase`: the row goes where the number goes, and the number where the row goes
 pub erase-row-for-number : Mistaken erase erase-turned
-unfolding movedBy stepOf missesOf placeFor placeFrom writeOf
+unfolding computes
 erase-row-for-number = in-phase erase erase-turned phase.Open refl code (1, 0) refl
 
 -- ---- begin
 
--- the small opened store is given, and nothing else
+-- the small store is given, and nothing else
 abbrev begun : Words × Unit {0}
-begun = (opened.words phase.Open, tt)
+begun = (store phase.Open, tt)
 
--- `begin`: the number is told, and nothing is kept
+-- `reading::begin`: the number is told, and nothing is kept
 pub begin-not-kept : Excludes (λ (p : Words × Unit {0}). turnOf (p .0) (begin (p .0) (p .1))) (λ p. record { answer = tell.Number (p .0 .clock); words = p .0 })
-unfolding movedBy stepOf missesOf placeFor placeFrom beginOf spent oneMore liveFrom
-begin-not-kept = by-number (λ (l : Left). l .words .clock) begun (rw (turn-done phase.Open refl ask.Begin))
+unfolding computes
+begin-not-kept = apart begun (λ (l : Left). l .words .clock) (rw (turn-done phase.Open refl ask.Begin))
 
--- `begin`: always no free place
+-- `reading::begin`: always no free place
 pub begin-full : Excludes (λ (p : Words × Unit {0}). turnOf (p .0) (begin (p .0) (p .1))) (λ p. record { answer = tell.Refused 3; words = p .0 })
-unfolding movedBy stepOf missesOf placeFor placeFrom beginOf spent liveFrom
-begin-full = by-number code begun (rw (turn-done phase.Open refl ask.Begin))
+unfolding computes
+begin-full = apart begun code (rw (turn-done phase.Open refl ask.Begin))
 
 -- ---- the step of another number
 
 -- an Ended transaction 1: its own step never gets 4, whatever else it says
 own-step : (s : Step) → isBegin s ≡ false → wantedOf s ≡ 1 → eqb (code (done phase.Ended s)) 4 ≡ false
-unfolding movedBy stepOf missesOf placeFor placeFrom captureAt collectOf rowsOf writeOf prepareOf installOf endOf publishStep publishOf validateOf abortOf
+unfolding computes
 own-step ask.Begin b e = absurd (true≢false b)
 own-step (ask.Capture t k) b e = rw e
 own-step (ask.Collect t) b e = rw e
@@ -218,20 +208,23 @@ own-step (ask.Abort t) b e = rw e
 
 -- the step of a number that nobody has gets 4
 missed : (s : Step) → isBegin s ≡ false → wantedOf s ≡ 2 → missesOf 1 s ≡ true
-unfolding missesOf
+unfolding computes
 missed s b e = rw (b, e)
 
-placed : (s : Step) → wantedOf s ≡ 2 → placeFor (opened.words phase.Ended .txns) s ≡ 0
-unfolding placeFor placeFrom
+placed : (s : Step) → wantedOf s ≡ 2 → placeFor (store phase.Ended .txns) s ≡ 0
+unfolding computes
 placed s e = rw e
 
-strange-step : (s : Step) → isBegin s ≡ false → wantedOf s ≡ 2 → movedBy (opened.words phase.Ended) s ≡ stays (record { answer = tell.Refused 4; txn = opened.txn phase.Ended; clock = 2; used = 0 }) opened.tables
-unfolding movedBy stepOf
+strange-step : (s : Step) → isBegin s ≡ false → wantedOf s ≡ 2 → movedBy (store phase.Ended) s ≡ stays (record { answer = tell.Refused 4; txn = live 1 phase.Ended; clock = 2; used = 0 }) tables
+unfolding computes
 strange-step s b e = rw (placed s e, missed s b e)
 
--- every function but `begin`: the step of the next number
-pub other-number : (s : Words → ℕ → Step) → ((w : Words) (n : ℕ) → isBegin (s w n) ≡ false) → ((w : Words) (n : ℕ) → wantedOf (s w n) ≡ n) → Mistaken s (λ w n. s w (suc n))
+-- a function taken for itself with the next number
+abbrev Renumbered : (Words → ℕ → Step) → Type 0
+Renumbered s = Mistaken s (λ w n. s w (suc n))
+
+pub other-number : (s : Words → ℕ → Step) → ((w : Words) (n : ℕ) → isBegin (s w n) ≡ false) → ((w : Words) (n : ℕ) → wantedOf (s w n) ≡ n) → Renumbered s
 other-number s b e =
-    let w = opened.words phase.Ended in
-    let told : Moved → ℕ = λ m. numberOf (m .stepped .answer) in
+    let w = store phase.Ended in
+    let told : Moved → ℕ = λ m. numberIn (m .stepped .answer) in
     in-phase s (λ w n. s w (suc n)) phase.Ended refl code 1 (rw (ap told (strange-step (s w 2) (b w 2) (e w 2))) (own-step (s w 1) (b w 1) (e w 1)))
