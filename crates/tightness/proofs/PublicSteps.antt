@@ -223,8 +223,52 @@ strange-step s b e = rw (placed s e, missed s b e)
 abbrev Renumbered : (Words → ℕ → Step) → Type 0
 Renumbered s = Mistaken s (λ w n. s w (suc n))
 
-pub other-number : (s : Words → ℕ → Step) → ((w : Words) (n : ℕ) → isBegin (s w n) ≡ false) → ((w : Words) (n : ℕ) → wantedOf (s w n) ≡ n) → Renumbered s
+other-number : (s : Words → ℕ → Step) → ((w : Words) (n : ℕ) → isBegin (s w n) ≡ false) → ((w : Words) (n : ℕ) → wantedOf (s w n) ≡ n) → Renumbered s
 other-number s b e =
     let w = store phase.Ended in
     let told : Moved → ℕ = λ m. numberIn (m .stepped .answer) in
     in-phase s (λ w n. s w (suc n)) phase.Ended refl code 1 (rw (ap told (strange-step (s w 2) (b w 2) (e w 2))) (own-step (s w 1) (b w 1) (e w 1)))
+
+-- `reading::capture`: the next number
+pub capture-other-number : (k : ℕ) → Renumbered (λ w n. capture w (n, k))
+capture-other-number k = other-number (λ w n. capture w (n, k)) (λ w n. refl) (λ w n. refl)
+
+-- `reading::collect`: the next number
+pub collect-other-number : Renumbered collect
+collect-other-number = other-number collect (λ w n. refl) (λ w n. refl)
+
+-- `reading::rows`: the next number
+pub rows-other-number : Renumbered rows
+rows-other-number = other-number rows (λ w n. refl) (λ w n. refl)
+
+-- `writing::put`: the next number
+pub put-other-number : (r k payload : ℕ) → Renumbered (λ w n. put w (n, r, k, payload))
+put-other-number r k payload = other-number (λ w n. put w (n, r, k, payload)) (λ w n. refl) (λ w n. refl)
+
+-- `writing::erase`: the next number
+pub erase-other-number : (r : ℕ) → Renumbered (λ w n. erase w (n, r))
+erase-other-number r = other-number (λ w n. erase w (n, r)) (λ w n. refl) (λ w n. refl)
+
+-- `writing::validate`: the next number
+pub validate-other-number : Renumbered validate
+validate-other-number = other-number validate (λ w n. refl) (λ w n. refl)
+
+-- `writing::prepare`: the next number
+pub prepare-other-number : Renumbered prepare
+prepare-other-number = other-number prepare (λ w n. refl) (λ w n. refl)
+
+-- `finishing::install`: the next number
+pub install-other-number : Renumbered install
+install-other-number = other-number install (λ w n. refl) (λ w n. refl)
+
+-- `finishing::end`: the next number
+pub end-other-number : Renumbered end
+end-other-number = other-number end (λ w n. refl) (λ w n. refl)
+
+-- `finishing::publish`: the next number
+pub publish-other-number : Renumbered publish
+publish-other-number = other-number publish (λ w n. refl) (λ w n. refl)
+
+-- `finishing::abort`: the next number
+pub abort-other-number : Renumbered abort
+abort-other-number = other-number abort (λ w n. refl) (λ w n. refl)
