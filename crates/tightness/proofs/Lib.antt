@@ -23,4 +23,6 @@ pub mod PublicSteps
 pub mod Log
 pub mod Lines
 pub mod Report
+pub mod Commands
+pub mod Stops
 pub mod Replay

@@ -2,7 +2,7 @@
 -- Assumes nothing.
 use Prim.Native.Nat.{ℕ}
 use mathlib.Core.Path.{refl}
-use mathlib.Core.Bool.{cond}
+use mathlib.Core.Bool.{Bool, cond, not, _&&_, _||_}
 use mathlib.Core.List.{List}
 use lib.Dec.{eqb}
 use lib.ListN.{length, getD, set, replicate}
@@ -14,9 +14,9 @@ use Rattle.protocol.specs.declared.Step.the-variants as ask
 use Rattle.record.specs.View.{phaseView}
 use Rattle.record.specs.declared.Phase.{Phase}
 use Rattle.record.specs.declared.Phase.the-variants as phase
-use Rattle.places.specs.Places.{wantedOf, isBegin, placeFrom, placeIn, activeNumber, preparedCount, liveIn}
+use Rattle.places.specs.Places.{wantedOf, isBegin, missesOf, placeFrom, placeIn, activeNumber, preparedCount, liveIn}
 use Rattle.tightness.specs.Wrong.{Excludes}
-use Rattle.tightness.proofs.Apart.{apart, itself}
+use Rattle.tightness.proofs.Apart.{apart, itself, bit}
 use Rattle.tightness.proofs.Computes.{computes}
 
 -- `wanted`: nobody, whatever the step
@@ -66,3 +66,17 @@ live-count-every = apart (replicate mostLive 0) itself refl
 pub live-count-first-number : Excludes liveIn (λ numbers. getD numbers 0 0)
 unfolding computes
 live-count-first-number = apart (set (replicate mostLive 0) 0 2) itself refl
+
+-- what the contract of `misses` asks for
+abbrev misses : ℕ × Step → Bool
+misses p = missesOf (p .0) (p .1)
+
+-- `misses`: begin, which names nobody, misses too
+pub misses-begin : Excludes misses (λ p. eqb (wantedOf (p .1)) 0 || not (eqb (p .0) (wantedOf (p .1))))
+unfolding computes
+misses-begin = apart (1, ask.Begin) bit refl
+
+-- `misses`: the step of number 0 finds a free place
+pub misses-zero : Excludes misses (λ p. not (isBegin (p .1)) && not (eqb (p .0) (wantedOf (p .1))))
+unfolding computes
+misses-zero = apart (0, ask.End 0) bit refl

@@ -21,7 +21,7 @@ use Rattle.turns.specs.Turns.{Left, turnOf}
 use Rattle.tightness.specs.Wrong.{Excludes}
 use Rattle.tightness.proofs.Apart.{apart, numberIn}
 use Rattle.tightness.proofs.Computes.{computes}
-use Rattle.tightness.proofs.Small.{live, tables, store, shape}
+use Rattle.tightness.proofs.Small.{live, store, shape}
 
 -- the step that each asks for
 abbrev begin : Words → Unit {0} → Step
@@ -215,7 +215,7 @@ placed : (s : Step) → wantedOf s ≡ 2 → placeFor (store phase.Ended .txns) 
 unfolding computes
 placed s e = rw e
 
-strange-step : (s : Step) → isBegin s ≡ false → wantedOf s ≡ 2 → movedBy (store phase.Ended) s ≡ stays (record { answer = tell.Refused 4; txn = live 1 phase.Ended; clock = 2; used = 0 }) tables
+strange-step : (s : Step) → isBegin s ≡ false → wantedOf s ≡ 2 → movedBy (store phase.Ended) s ≡ stays (record { answer = tell.Refused 4; txn = live 1 phase.Ended; clock = 2; used = 0 }) (store phase.Ended .tables)
 unfolding computes
 strange-step s b e = rw (placed s e, missed s b e)
 

@@ -8,6 +8,7 @@ use Rattle.model.specs.Replay.{replay, packed, reported}
 use Rattle.tightness.specs.Wrong.{Excludes}
 use Rattle.tightness.proofs.Apart.{apart}
 use Rattle.tightness.proofs.Computes.{computes}
+use Rattle.tightness.proofs.Small.{blank}
 
 -- what is told, and the lent report afterwards
 abbrev Told : Type 0
@@ -18,7 +19,7 @@ replays p = (packed (replay (p .0) (length (p .1))), reported (replay (p .0) (le
 
 -- a malformed log, and room for its line
 abbrev malformed : List ℕ × List ℕ
-malformed = (0 ∷ [], replicate 10 0)
+malformed = (0 ∷ [], blank)
 
 -- `toruxeng_replay`: the length stands above, the status below
 pub replay-halves-turned : Excludes replays (λ p. (length (replay (p .0) (length (p .1)) .text) * 4294967296 + replay (p .0) (length (p .1)) .status, reported (replay (p .0) (length (p .1))) (p .1)))

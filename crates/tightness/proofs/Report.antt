@@ -3,7 +3,7 @@
 use Prim.Native.Nat.{ℕ}
 use mathlib.Core.Path.{refl}
 use mathlib.Core.List.{List, [], _∷_}
-use lib.ListN.{getD, replicate}
+use lib.ListN.{getD}
 use Rattle.model.specs.Refusals.{Malformed, WrongShape, refusalNumber}
 use Rattle.model.specs.Report.{openWord, badWord, wordOf, line}
 use Rattle.protocol.specs.View.{asked}
@@ -16,33 +16,31 @@ use Rattle.report.specs.Lines.{valuesOf, lineFor, openLine, badLine}
 use Rattle.tightness.specs.Wrong.{Excludes}
 use Rattle.tightness.proofs.Apart.{apart}
 use Rattle.tightness.proofs.Computes.{computes}
+use Rattle.tightness.proofs.Small.{blank}
 
--- room for each line here, and the byte at place i afterwards
-abbrev room : List ℕ
-room = replicate 12 0
-
+-- the byte of the report at place i
 abbrev byte : ℕ → Written → ℕ
 byte i w = getD (w .report) i 0
 
 -- `open_line`: always `open 0`
 pub open-line-zero : Excludes (λ (p : List ℕ × ℕ × ℕ). writtenAt (p .0) (p .1) (openLine (p .2))) (λ p. writtenAt (p .0) (p .1) (openLine 0))
 unfolding computes
-open-line-zero = apart (room, 0, 1) (byte 5) refl
+open-line-zero = apart (blank, 0, 1) (byte 5) refl
 
 -- `open_line`: another word
 pub open-line-bad : Excludes (λ (p : List ℕ × ℕ × ℕ). writtenAt (p .0) (p .1) (openLine (p .2))) (λ p. writtenAt (p .0) (p .1) (line badWord (p .2 ∷ [])))
 unfolding computes
-open-line-bad = apart (room, 0, 1) (byte 0) refl
+open-line-bad = apart (blank, 0, 1) (byte 0) refl
 
 -- `bad_line`: the number of a wrong shape
 pub bad-line-shape : Excludes (λ (p : List ℕ × ℕ). writtenAt (p .0) (p .1) badLine) (λ p. writtenAt (p .0) (p .1) (line badWord (refusalNumber WrongShape ∷ [])))
 unfolding computes
-bad-line-shape = apart (room, 0) (byte 5) refl
+bad-line-shape = apart (blank, 0) (byte 5) refl
 
 -- `bad_line`: another word
 pub bad-line-open : Excludes (λ (p : List ℕ × ℕ). writtenAt (p .0) (p .1) badLine) (λ p. writtenAt (p .0) (p .1) (line openWord (refusalNumber Malformed ∷ [])))
 unfolding computes
-bad-line-open = apart (room, 0) (byte 0) refl
+bad-line-open = apart (blank, 0) (byte 0) refl
 
 -- what an answer's line is written from: the report, the place, the step, the answer and the lent rows
 abbrev Given : Type 0
@@ -53,7 +51,7 @@ answer-line p = writtenAt (p .0) (p .1) (lineFor (p .2) (p .3) (p .4))
 
 -- a row that was found
 abbrev found : Given
-found = (room, 0, ask.Rows 1 1, tell.Rows 1, 9 ∷ [])
+found = (blank, 0, ask.Rows 1 1, tell.Rows 1, 9 ∷ [])
 
 -- `answer_line`: the found rows are not said
 pub answer-line-rows-unsaid : Excludes answer-line (λ p. writtenAt (p .0) (p .1) (lineFor (p .2) (p .3) []))

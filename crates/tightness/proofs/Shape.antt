@@ -1,9 +1,9 @@
 -- Wrong bodies of the crate `shape`.
 -- Assumes nothing.
-use Prim.Native.Nat.{ℕ, suc, _*_}
+use Prim.Native.Nat.{suc, _*_}
 use mathlib.Core.Path.{refl}
 use mathlib.Core.Bool.{Bool, _&&_}
-use mathlib.Core.List.{List, [], map}
+use mathlib.Core.List.{[], map}
 use lib.Dec.{leb}
 use lib.ListN.{length, getD, replicate, set}
 use Rattle.model.specs.Shape.{rightShape}
@@ -13,31 +13,31 @@ use Rattle.record.specs.declared.Phase.the-variants as phase
 use Rattle.record.specs.declared.Transaction.{Transaction}
 use Rattle.places.specs.declared.Sizes.{Sizes}
 use Rattle.places.specs.declared.Others.{Others}
-use Rattle.steps.specs.Words.{Words, view, freePlaces, othersIn}
-use Rattle.shape.specs.Shape.{tablesLent, tablesFit, shapeOf, wordsOf}
+use Rattle.steps.specs.Words.{view, freePlaces, othersIn}
+use Rattle.shape.specs.Shape.{tablesLent, tablesFit, shapeOf}
 use Rattle.shape.specs.declared.Machine.{Machine}
 use Rattle.turns.specs.Turns.{freshOf, closedOf}
 use Rattle.tightness.specs.Wrong.{Excludes}
 use Rattle.tightness.proofs.Apart.{apart, bit}
 use Rattle.tightness.proofs.Computes.{computes}
-use Rattle.tightness.proofs.Small.{live, writer, sizes, tables}
+use Rattle.tightness.proofs.Small.{live, writer, Lent, over, sizes, lent}
 
--- the lent tables: rows, versions, buckets and lists
-abbrev Lent : Type 0
-Lent = List ℕ × List ℕ × List ℕ × List ℕ
+-- what the contracts of `tables_lent` and `right_shape` ask for
+abbrev fits : Lent × Sizes → Bool
+fits (l, z) = tablesLent (l .0) (l .1) (l .2) (l .3) z
 
-abbrev lent : Lent × Sizes → Bool
-lent p = tablesLent (p .0 .0) (p .0 .1) (p .0 .2) (p .0 .3) (p .1)
+abbrev right : Lent × Machine → Bool
+right (l, m) = shapeOf (over l m)
 
 -- `tables_lent`: no entry for pointer 0
-pub tables-lent-no-entry-more : Excludes lent (λ p.
+pub tables-lent-no-entry-more : Excludes fits (λ p.
     leb (rowWords * p .1 .rows) (length (p .0 .0)) && leb (versionWords * p .1 .versions) (length (p .0 .1)) && leb (bucketWords * p .1 .buckets) (length (p .0 .2)) && leb listsWords (length (p .0 .3)))
-tables-lent-no-entry-more = apart ((tables .rows, replicate versionWords 0, tables .buckets, tables .lists), sizes) bit refl
+tables-lent-no-entry-more = apart ((lent .0, replicate versionWords 0, lent .2, lent .3), sizes) bit refl
 
 -- `tables_lent`: the lists are not tested
-pub tables-lent-lists-untested : Excludes lent (λ p.
+pub tables-lent-lists-untested : Excludes fits (λ p.
     leb (rowWords * p .1 .rows) (length (p .0 .0)) && leb (versionWords * suc (p .1 .versions)) (length (p .0 .1)) && leb (bucketWords * p .1 .buckets) (length (p .0 .2)))
-tables-lent-lists-untested = apart ((tables .rows, tables .versions, tables .buckets, []), sizes) bit refl
+tables-lent-lists-untested = apart ((lent .0, lent .1, lent .2, []), sizes) bit refl
 
 -- `others_of`: an Ended transaction is active
 pub others-of-ended-active : Excludes othersIn (λ ts. record { numbers = othersIn ts .numbers; active = othersIn ts .numbers; prepared = othersIn ts .prepared })
@@ -47,15 +47,12 @@ others-of-ended-active = apart (set freePlaces 0 (live 1 phase.Ended)) (λ (o : 
 pub others-of-writes-reserved : Excludes othersIn (λ ts. record { numbers = othersIn ts .numbers; active = othersIn ts .active; prepared = map (λ (t : Transaction). t .«writes_n») ts })
 others-of-writes-reserved = apart (set freePlaces 0 (writer phase.Open)) (λ (o : Others). getD (o .prepared) 0 0) refl
 
-abbrev words-of : Lent × Machine → Words
-words-of p = wordsOf (p .0 .0) (p .0 .1) (p .0 .2) (p .0 .3) [] (p .1)
-
 -- `right_shape`: only the words' own tests are made
-pub right-shape-words-only : Excludes (λ (p : Lent × Machine). shapeOf (words-of p)) (λ p. tablesFit (words-of p))
+pub right-shape-words-only : Excludes right (λ (l, m). tablesFit (over l m))
 unfolding computes shapeOf
-right-shape-words-only = apart ((tables .rows, tables .versions, tables .buckets, tables .lists), closedOf) bit refl
+right-shape-words-only = apart (lent, closedOf) bit refl
 
 -- `right_shape`: the tables may be shorter than their sizes
-pub right-shape-tables-short : Excludes (λ (p : Lent × Machine). shapeOf (words-of p)) (λ p. rightShape (view (words-of p)))
+pub right-shape-tables-short : Excludes right (λ (l, m). rightShape (view (over l m)))
 unfolding computes shapeOf
 right-shape-tables-short = apart (([], [], [], []), freshOf sizes 1) bit refl

@@ -16,9 +16,9 @@ use Rattle.record.specs.declared.Phase.{Phase}
 use Rattle.record.specs.declared.Phase.the-variants as phase
 use Rattle.record.specs.declared.Transaction.{Transaction}
 use Rattle.places.specs.declared.Sizes.{Sizes}
-use Rattle.steps.specs.Steps.{Tables}
 use Rattle.steps.specs.Words.{Words, freePlaces}
-use Rattle.shape.specs.Shape.{shapeOf}
+use Rattle.shape.specs.Shape.{shapeOf, wordsOf}
+use Rattle.shape.specs.declared.Machine.{Machine}
 use Rattle.tightness.proofs.Computes.{computes}
 
 -- transaction n of slot 0 in this phase, with snapshot xmax n + 1, none active and nothing in its lists
@@ -62,15 +62,25 @@ puts = starting writes (0 ∷ 1 ∷ 5 ∷ 9 ∷ [])
 abbrev pub twice : List ℕ
 twice = starting writes (0 ∷ 1 ∷ 6 ∷ 9 ∷ 0 ∷ 1 ∷ 7 ∷ 9 ∷ [])
 
+-- the lent tables, rows, versions, buckets and lists, and the words of a store over them
+abbrev pub Lent : Type 0
+Lent = List ℕ × List ℕ × List ℕ × List ℕ
+
+abbrev pub over : Lent → Machine → Words
+over l m = wordsOf (l .0) (l .1) (l .2) (l .3) [] m
+
 -- a store of one row, one version and one bucket, all words 0, with transaction 1 at place 0
 abbrev pub sizes : Sizes
 sizes = record { rows = 1; versions = 1; buckets = 1 }
 
-abbrev pub tables : Tables
-tables = record { rows = replicate rowWords 0; versions = replicate (versionWords * 2) 0; buckets = replicate bucketWords 0; lists = replicate listsWords 0; found = [] }
+abbrev pub lent : Lent
+lent = (replicate rowWords 0, replicate (versionWords * 2) 0, replicate bucketWords 0, replicate listsWords 0)
+
+abbrev pub machine : Phase → Machine
+machine ph = record { sizes = sizes; clock = 2; used = 0; txns = set freePlaces 0 (live 1 ph) }
 
 abbrev pub store : Phase → Words
-store ph = record { tables = tables; txns = set freePlaces 0 (live 1 ph); sizes = sizes; clock = 2; used = 0 }
+store ph = over lent (machine ph)
 
 -- its shape is right
 pub shape : (ph : Phase) → bucketIn (phaseView ph) ≡ 0 → shapeOf (store ph) ≡ true
@@ -81,3 +91,7 @@ shape (phase.Collected k) e = refl
 shape phase.Prepared e = refl
 shape phase.Installed e = refl
 shape phase.Ended e = refl
+
+-- a lent report with room for a line
+abbrev pub blank : List ℕ
+blank = replicate 12 0

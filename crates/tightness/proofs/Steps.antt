@@ -5,6 +5,7 @@ use mathlib.Core.Path.{refl}
 use Rattle.protocol.specs.declared.Step.{Step}
 use Rattle.protocol.specs.declared.Step.the-variants as ask
 use Rattle.record.specs.Methods.{idleOf}
+use Rattle.record.specs.declared.Phase.the-variants as phase
 use Rattle.record.specs.declared.Transaction.{Transaction}
 use Rattle.places.specs.declared.Sizes.{Sizes}
 use Rattle.places.specs.declared.Others.{Others}
@@ -13,7 +14,7 @@ use Rattle.steps.specs.Words.{othersIn, freePlaces}
 use Rattle.tightness.specs.Wrong.{Excludes}
 use Rattle.tightness.proofs.Apart.{apart, numberIn}
 use Rattle.tightness.proofs.Computes.{computes}
-use Rattle.tightness.proofs.Small.{sizes, tables}
+use Rattle.tightness.proofs.Small.{sizes, store}
 
 -- what a step is given
 abbrev Given : Type 0
@@ -25,9 +26,9 @@ right p = stepOf (p .0) (p .1) (p .2) (p .3) (p .4) (p .5) (p .6)
 -- `step`: the record that comes in takes the step, whatever its number is
 pub step-any-number : Excludes right (λ p. doneBy (p .0) (p .1) (p .2) (p .3) (p .4) (p .5) (p .6))
 unfolding computes
-step-any-number = apart (sizes, othersIn freePlaces, idleOf 0, 1, 0, ask.End 1, tables) (λ (m : Moved). numberIn (m .stepped .answer)) refl
+step-any-number = apart (sizes, othersIn freePlaces, idleOf 0, 1, 0, ask.End 1, store phase.Open .tables) (λ (m : Moved). numberIn (m .stepped .answer)) refl
 
 -- `step`: the last used pointer is taken for the clock
 pub step-used-for-clock : Excludes right (λ p. stepOf (p .0) (p .1) (p .2) (p .4) (p .4) (p .5) (p .6))
 unfolding computes
-step-used-for-clock = apart (sizes, othersIn freePlaces, idleOf 0, 1, 0, ask.Begin, tables) (λ (m : Moved). m .stepped .clock) refl
+step-used-for-clock = apart (sizes, othersIn freePlaces, idleOf 0, 1, 0, ask.Begin, store phase.Open .tables) (λ (m : Moved). m .stepped .clock) refl

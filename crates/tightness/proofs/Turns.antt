@@ -13,13 +13,14 @@ use Rattle.tables.specs.Fields.{rowWords, versionWords, bucketWords}
 use Rattle.record.specs.Methods.{idleOf}
 use Rattle.record.specs.declared.Phase.the-variants as phase
 use Rattle.places.specs.declared.Sizes.{Sizes}
-use Rattle.steps.specs.Words.{Words, sizesView, movedBy, wordsAfter}
+use Rattle.steps.specs.Words.{sizesView, movedBy, wordsAfter}
 use Rattle.shape.specs.Shape.{tablesLent, shapeOf, wordsOf}
+use Rattle.shape.specs.declared.Machine.{Machine}
 use Rattle.turns.specs.Turns.{Left, turnOf, cleared, freshOf, closedOf, refusedOpen, openOf}
 use Rattle.tightness.specs.Wrong.{Excludes}
 use Rattle.tightness.proofs.Apart.{apart, numberIn}
 use Rattle.tightness.proofs.Computes.{computes}
-use Rattle.tightness.proofs.Small.{sizes, tables, store, shape}
+use Rattle.tightness.proofs.Small.{Lent, over, sizes, lent, machine, shape}
 
 -- what open is given: the lent tables, the sizes and the clock
 abbrev Given : Type 0
@@ -33,7 +34,7 @@ abbrev nothing : Given
 nothing = ([], [], [], [], sizes, 1)
 
 abbrev littered : Given
-littered = (tables .rows, set (tables .versions) 0 9, tables .buckets, tables .lists, sizes, 1)
+littered = (lent .0, set (lent .1) 0 9, lent .2, lent .3, sizes, 1)
 
 -- a fresh store over tables that are cleared in part
 abbrev opened-over : List ℕ → List ℕ → List ℕ → List ℕ → Sizes → ℕ → Left
@@ -55,14 +56,16 @@ pub open-versions-kept : Excludes opens (λ p.
 unfolding computes
 open-versions-kept = apart littered (λ (l : Left). getD (l .words .tables .versions) 0 0) refl
 
--- `turn`: the shape is not tested
-pub turn-shape-untested : Excludes (λ (p : Words × Step). turnOf (p .0) (p .1)) (λ p. record { answer = movedBy (p .0) (p .1) .stepped .answer; words = wordsAfter (p .0) (p .1) })
-unfolding computes turnOf shapeOf
-turn-shape-untested = apart (wordsOf [] [] [] [] [] closedOf, ask.End 1) (λ (l : Left). numberIn (l .answer)) refl
+-- what the contract of `turn_without_list` asks for, and that of `turn` where the lent list is empty: each theorem below is of both
+abbrev turns : Lent × Machine × Step → Left
+turns (l, m, s) = turnOf (over l m) s
 
--- `turn`: the step is taken, and its record does not go back to its place
-pub turn-record-lost : Excludes (λ (p : Words × Step). turnOf (p .0) (p .1)) (λ p.
-    cond (shapeOf (p .0)) (record { answer = movedBy (p .0) (p .1) .stepped .answer; words = record { tables = wordsAfter (p .0) (p .1) .tables; txns = p .0 .txns; sizes = p .0 .sizes; clock = wordsAfter (p .0) (p .1) .clock; used = wordsAfter (p .0) (p .1) .used } })
-    (record { answer = tell.Refused 16; words = p .0 }))
+-- the shape is not tested
+pub turn-shape-untested : Excludes turns (λ (l, m, s). record { answer = movedBy (over l m) s .stepped .answer; words = wordsAfter (over l m) s })
+unfolding computes turnOf shapeOf
+turn-shape-untested = apart (([], [], [], []), closedOf, ask.End 1) (λ (l : Left). numberIn (l .answer)) refl
+
+-- the step is taken, and its record does not go back to its place
+pub turn-record-lost : Excludes turns (λ (l, m, s). record { answer = turns (l, m, s) .answer; words = record { tables = turns (l, m, s) .words .tables; txns = m .txns; sizes = m .sizes; clock = turns (l, m, s) .words .clock; used = turns (l, m, s) .words .used } })
 unfolding computes turnOf
-turn-record-lost = apart (store phase.Open, ask.Begin) (λ (l : Left). getD (l .words .txns) 1 (idleOf 1) .number) (rw (shape phase.Open refl))
+turn-record-lost = apart (lent, machine phase.Open, ask.Begin) (λ (l : Left). getD (l .words .txns) 1 (idleOf 1) .number) (rw (shape phase.Open refl))
