@@ -21,18 +21,18 @@ abbrev Given : Type 0
 Given = List ℕ × ℕ × ℕ × Transaction
 
 abbrev begins : Given → Begun
-begins p = beginOf (p .0) (p .1) (p .2) (p .3)
+begins (active, n, clock, t) = beginOf active n clock t
 
 -- transaction 1 is active, and the clock is 2
-abbrev after-one : Transaction → Given
-after-one t = (set (replicate mostLive 0) 0 1, 1, 2, t)
+abbrev afterOne : Transaction → Given
+afterOne t = (set (replicate mostLive 0) 0 1, 1, 2, t)
 
 -- `begin`: a place that is not free is taken
-pub begin-takes-any-place : Excludes begins (λ p. cond (spent (p .2) (p .1)) (refusedBegin (p .3) (p .2) 2) (begunOf (p .3) (snapshotOf (p .0) (p .2)) (p .2)))
+pub begin-takes-any-place : Excludes begins (λ (active, n, clock, t). cond (spent clock n) (refusedBegin t clock 2) (begunOf t (snapshotOf active clock) clock))
 unfolding computes
-begin-takes-any-place = apart (after-one (live 1 phase.Open)) (λ (b : Begun). numberIn (b .answer)) refl
+begin-takes-any-place = apart (afterOne (live 1 phase.Open)) (λ (b : Begun). numberIn (b .answer)) refl
 
 -- `begin`: the snapshot has no active numbers
-pub begin-nobody-active : Excludes begins (λ p. beginOf (replicate mostLive 0) (p .1) (p .2) (p .3))
+pub begin-nobody-active : Excludes begins (λ (active, n, clock, t). beginOf (replicate mostLive 0) n clock t)
 unfolding computes
-begin-nobody-active = apart (after-one (idleOf 1)) (λ (b : Begun). b .txn .snapshot .«active_n») refl
+begin-nobody-active = apart (afterOne (idleOf 1)) (λ (b : Begun). b .txn .snapshot .«active_n») refl

@@ -13,26 +13,26 @@ use Rattle.tightness.proofs.Apart.{apart, itself}
 use Rattle.tightness.proofs.Computes.{computes}
 
 -- `least`: the greater of the two
-pub least-greater : Excludes (λ (p : ℕ × ℕ). min (p .0) (p .1)) (λ p. cond (ltb (p .0) (p .1)) (p .1) (p .0))
+pub least-greater : Excludes {A = ℕ × ℕ} (λ (a, b). min a b) (λ (a, b). cond (ltb a b) b a)
 least-greater = apart (0, 1) itself refl
 
 -- `least`: always the first
-pub least-first : Excludes (λ (p : ℕ × ℕ). min (p .0) (p .1)) (λ p. p .0)
+pub least-first : Excludes {A = ℕ × ℕ} (λ (a, b). min a b) (λ (a, b). a)
 least-first = apart (1, 0) itself refl
 
 -- what a line is written from: the report, the place, the word, the numbers and the rows
 abbrev Given : Type 0
 Given = List ℕ × ℕ × List ℕ × List ℕ × List ℕ
 
-abbrev write-line : Given → Written
-write-line p = writtenAt (p .0) (p .1) (line (p .2) (p .3 ++ p .4))
+abbrev writeLine : Given → Written
+writeLine (report, at, word, numbers, rows) = writtenAt report at (line word (numbers ++ rows))
 
 -- `write_line`: the rows stand before the numbers
-pub write-line-rows-first : Excludes write-line (λ p. writtenAt (p .0) (p .1) (line (p .2) (p .4 ++ p .3)))
+pub write-line-rows-first : Excludes writeLine (λ (report, at, word, numbers, rows). writtenAt report at (line word (rows ++ numbers)))
 unfolding computes
 write-line-rows-first = apart (replicate 5 0, 0, [], 1 ∷ [], 2 ∷ []) (λ (w : Written). getD (w .report) 1 0) refl
 
 -- `write_line`: always from the report's start
-pub write-line-from-start : Excludes write-line (λ p. writtenAt (p .0) 0 (line (p .2) (p .3 ++ p .4)))
+pub write-line-from-start : Excludes writeLine (λ (report, at, word, numbers, rows). writtenAt report 0 (line word (numbers ++ rows)))
 unfolding computes
 write-line-from-start = apart (replicate 2 0, 1, [], [], []) (λ (w : Written). getD (w .report) 0 0) refl

@@ -23,27 +23,24 @@ use Rattle.tightness.proofs.Small.{writer, erases, puts}
 abbrev Given : Type 0
 Given = List ℕ × List ℕ × List ℕ × ℕ × Transaction × ℕ × ℕ
 
-abbrev given : Given → Look
-given p = look (p .0) (p .1) (p .2) (p .3) (p .4) (p .5)
-
 abbrev matches : Given → Match
-matches p = matchOf (given p) (p .6)
+matches (rows, versions, lists, used, t, key, r) = matchOf (look rows versions lists used t key) r
 
 -- row 0 and this key, with these pending writes
 abbrev asks : List ℕ → ℕ → Given
 asks lists k = ([], [], lists, 0, writer (phase.Collected k), k, 0)
 
 -- `match_of`: own pending writes are not looked at
-pub match-of-writes-unseen : Excludes matches (λ p. matchBy (given p) (p .6) place.Nothing)
+pub match-of-writes-unseen : Excludes matches (λ (rows, versions, lists, used, t, key, r). matchBy (look rows versions lists used t key) r place.Nothing)
 unfolding computes
 match-of-writes-unseen = apart (asks puts 5) (λ m. bit (isMatch m)) refl
 
 -- a pending write matches by its key word alone
-abbrev by-key-word : Look → ℕ → Found → Match
-by-key-word l r (place.At i) = cond (eqb (writeAt (l .lists) (l .txn .slot) i .key) (l .key)) Write No
-by-key-word l r place.Nothing = matchBy l r place.Nothing
+abbrev byKeyWord : Look → ℕ → Found → Match
+byKeyWord l r (place.At i) = cond (eqb (writeAt (l .lists) (l .txn .slot) i .key) (l .key)) Write No
+byKeyWord l r place.Nothing = matchBy l r place.Nothing
 
 -- `match_of`: an erase matches key 0
-pub match-of-erase : Excludes matches (λ p. by-key-word (given p) (p .6) (latestPending (p .2) (p .4 .slot) (p .4 .«writes_n») (p .6)))
+pub match-of-erase : Excludes matches (λ (rows, versions, lists, used, t, key, r). byKeyWord (look rows versions lists used t key) r (latestPending lists (t .slot) (t .«writes_n») r))
 unfolding computes
 match-of-erase = apart (asks erases 0) (λ m. bit (isMatch m)) refl

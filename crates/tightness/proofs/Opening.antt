@@ -18,11 +18,11 @@ use Rattle.tightness.proofs.Apart.{apart, bit}
 use Rattle.tightness.proofs.Computes.{computes}
 
 -- `within`: 0 is let in
-pub within-zero : Excludes (λ (p : ℕ × ℕ). model.within (p .0) (p .1)) (λ p. leb (p .0) (p .1))
+pub within-zero : Excludes {A = ℕ × ℕ} (λ (n, most). model.within n most) (λ (n, most). leb n most)
 within-zero = apart (0, 1) bit refl
 
 -- `within`: the most itself is kept out
-pub within-below-most : Excludes (λ (p : ℕ × ℕ). model.within (p .0) (p .1)) (λ p. leb 1 (p .0) && ltb (p .0) (p .1))
+pub within-below-most : Excludes {A = ℕ × ℕ} (λ (n, most). model.within n most) (λ (n, most). leb 1 n && ltb n most)
 within-below-most = apart (1, 1) bit refl
 
 -- `good_sizes`: the rows are measured by the versions' limit
@@ -36,23 +36,23 @@ unfolding computes
 good-sizes-buckets-untested = apart (record { rows = 1; versions = 1; buckets = 0 }) bit refl
 
 -- `can_open`: the clock is not tested
-pub can-open-clock-untested : Excludes (λ (p : Sizes × ℕ). canOpen (sizesView (p .0)) (p .1)) (λ p. model.goodSizes (sizesView (p .0)))
+pub can-open-clock-untested : Excludes {A = Sizes × ℕ} (λ (z, clock). canOpen (sizesView z) clock) (λ (z, clock). model.goodSizes (sizesView z))
 unfolding computes
 can-open-clock-untested = apart (record { rows = 1; versions = 1; buckets = 1 }, 0) bit refl
 
 -- `can_open`: the sizes are not tested
-pub can-open-sizes-untested : Excludes (λ (p : Sizes × ℕ). canOpen (sizesView (p .0)) (p .1)) (λ p. leb 1 (p .1))
+pub can-open-sizes-untested : Excludes {A = Sizes × ℕ} (λ (z, clock). canOpen (sizesView z) clock) (λ (z, clock). leb 1 clock)
 unfolding computes
 can-open-sizes-untested = apart (record { rows = 0; versions = 1; buckets = 1 }, 1) bit refl
 
 -- the slot of the record at place 1
-abbrev slot-of-second : List Transaction → ℕ
-slot-of-second ts = getD ts 1 (idleOf 0) .slot
+abbrev slotOfSecond : List Transaction → ℕ
+slotOfSecond ts = getD ts 1 (idleOf 0) .slot
 
 -- `free_places`: every place has slot 0
 pub free-places-one-slot : Excludes (λ (u : Unit {0}). freePlaces) (λ u. replicate mostLive (idleOf 0))
-free-places-one-slot = apart tt slot-of-second refl
+free-places-one-slot = apart tt slotOfSecond refl
 
 -- `free_places`: the slots are counted from 1
 pub free-places-from-one : Excludes (λ (u : Unit {0}). freePlaces) (λ u. map (λ (t : Transaction). idleOf (suc (t .slot))) freePlaces)
-free-places-from-one = apart tt slot-of-second refl
+free-places-from-one = apart tt slotOfSecond refl

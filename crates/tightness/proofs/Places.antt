@@ -28,33 +28,33 @@ pub wanted-begin-one : Excludes (λ (s : Step). wantedOf s) (λ s. cond (isBegin
 wanted-begin-one = apart ask.Begin itself refl
 
 -- eight places, of which the first has number 1
-abbrev first-is-one : List ℕ
-first-is-one = set (replicate mostLive 0) 0 1
+abbrev firstIsOne : List ℕ
+firstIsOne = set (replicate mostLive 0) 0 1
 
 -- `place_of`: the places are counted from 1
-pub place-of-from-one : Excludes (λ (p : List ℕ × ℕ). placeIn (p .0) (p .1)) (λ p. placeFrom 1 (p .0) (p .1))
+pub place-of-from-one : Excludes {A = List ℕ × ℕ} (λ (numbers, n). placeIn numbers n) (λ (numbers, n). placeFrom 1 numbers n)
 unfolding computes
-place-of-from-one = apart (first-is-one, 1) itself refl
+place-of-from-one = apart (firstIsOne, 1) itself refl
 
 -- `place_of`: 8 where no place has the number
-pub place-of-past-the-end : Excludes (λ (p : List ℕ × ℕ). placeIn (p .0) (p .1)) (λ p. first (λ i. eqb (getD (p .0) i 0) (p .1)) 0 mostLive)
+pub place-of-past-the-end : Excludes {A = List ℕ × ℕ} (λ (numbers, n). placeIn numbers n) (λ (numbers, n). first (λ i. eqb (getD numbers i 0) n) 0 mostLive)
 unfolding computes
-place-of-past-the-end = apart (first-is-one, 2) itself refl
+place-of-past-the-end = apart (firstIsOne, 2) itself refl
 
 -- `active_number`: an Ended transaction is active
-pub active-number-ended : Excludes (λ (p : ℕ × Phase). activeNumber (p .0) (p .1)) (λ p. p .0)
+pub active-number-ended : Excludes {A = ℕ × Phase} (λ (n, ph). activeNumber n ph) (λ (n, ph). n)
 active-number-ended = apart (1, phase.Ended) itself refl
 
 -- `active_number`: an Installed transaction is not active
-pub active-number-installed : Excludes (λ (p : ℕ × Phase). activeNumber (p .0) (p .1)) (λ p. cond (eqb (rank (phaseView (p .1))) 5) 0 (p .0))
+pub active-number-installed : Excludes {A = ℕ × Phase} (λ (n, ph). activeNumber n ph) (λ (n, ph). cond (eqb (rank (phaseView ph)) 5) 0 n)
 active-number-installed = apart (1, phase.Installed) itself refl
 
 -- `prepared_count`: an Open transaction has reserved versions
-pub prepared-count-open : Excludes (λ (p : ℕ × Phase × ℕ). preparedCount (p .0) (p .1) (p .2)) (λ p. cond (eqb (p .0) 0) 0 (p .2))
+pub prepared-count-open : Excludes {A = ℕ × Phase × ℕ} (λ (n, ph, writes). preparedCount n ph writes) (λ (n, ph, writes). cond (eqb n 0) 0 writes)
 prepared-count-open = apart (1, phase.Open, 1) itself refl
 
 -- `prepared_count`: a free place has reserved versions
-pub prepared-count-free : Excludes (λ (p : ℕ × Phase × ℕ). preparedCount (p .0) (p .1) (p .2)) (λ p. cond (eqb (rank (phaseView (p .1))) 4) (p .2) 0)
+pub prepared-count-free : Excludes {A = ℕ × Phase × ℕ} (λ (n, ph, writes). preparedCount n ph writes) (λ (n, ph, writes). cond (eqb (rank (phaseView ph)) 4) writes 0)
 prepared-count-free = apart (0, phase.Prepared, 1) itself refl
 
 -- `live_count`: every place counts
@@ -69,14 +69,14 @@ live-count-first-number = apart (set (replicate mostLive 0) 0 2) itself refl
 
 -- what the contract of `misses` asks for
 abbrev misses : ℕ × Step → Bool
-misses p = missesOf (p .0) (p .1)
+misses (n, s) = missesOf n s
 
 -- `misses`: begin, which names nobody, misses too
-pub misses-begin : Excludes misses (λ p. eqb (wantedOf (p .1)) 0 || not (eqb (p .0) (wantedOf (p .1))))
+pub misses-begin : Excludes misses (λ (n, s). eqb (wantedOf s) 0 || not (eqb n (wantedOf s)))
 unfolding computes
 misses-begin = apart (1, ask.Begin) bit refl
 
 -- `misses`: the step of number 0 finds a free place
-pub misses-zero : Excludes misses (λ p. not (isBegin (p .1)) && not (eqb (p .0) (wantedOf (p .1))))
+pub misses-zero : Excludes misses (λ (n, s). not (isBegin s) && not (eqb n (wantedOf s)))
 unfolding computes
 misses-zero = apart (0, ask.End 0) bit refl

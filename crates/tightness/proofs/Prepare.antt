@@ -30,37 +30,37 @@ reader = withReads (live 1 phase.Open) 1
 abbrev captured : List ℕ
 captured = 0 ∷ 0 ∷ []
 
-abbrev held-by : ℕ → List ℕ
-held-by n = 0 ∷ n ∷ []
+abbrev heldBy : ℕ → List ℕ
+heldBy n = 0 ∷ n ∷ []
 
 -- what validate is given: versions, buckets, lists and the record
 abbrev Validated : Type 0
 Validated = List ℕ × List ℕ × List ℕ × Transaction
 
 abbrev validates : Validated → Answered
-validates p = validateOf (p .0) (p .1) (p .2) (p .3)
+validates (versions, buckets, lists, t) = validateOf versions buckets lists t
 
 -- `validate`: the phase is not tested
-pub validate-any-phase : Excludes validates (λ p.
-    cond (readsTakenIn (p .1) (p .2) (p .3 .slot) (p .3 .«reads_n») (p .3 .number)) (refusedOf (p .3) 7)
-    (record { answer = tell.Judged (verdictOf (p .0) (p .1) (p .2) (p .3)); txn = p .3 }))
+pub validate-any-phase : Excludes validates (λ (versions, buckets, lists, t).
+    cond (readsTakenIn buckets lists (t .slot) (t .«reads_n») (t .number)) (refusedOf t 7)
+    (record { answer = tell.Judged (verdictOf versions buckets lists t); txn = t }))
 unfolding computes
 validate-any-phase = apart ([], [], [], live 1 phase.Ended) (λ (a : Answered). numberIn (a .answer)) refl
 
 -- `validate`: a bucket that another holds is read
-pub validate-held-read : Excludes validates (λ p.
-    cond (not (eqb (rank (phaseView (p .3 .phase))) 1)) (refusedOf (p .3) 5)
-    (record { answer = tell.Judged (verdictOf (p .0) (p .1) (p .2) (p .3)); txn = p .3 }))
+pub validate-held-read : Excludes validates (λ (versions, buckets, lists, t).
+    cond (not (eqb (rank (phaseView (t .phase))) 1)) (refusedOf t 5)
+    (record { answer = tell.Judged (verdictOf versions buckets lists t); txn = t }))
 unfolding computes
-validate-held-read = apart ([], held-by 2, captured, reader) (λ (a : Answered). numberIn (a .answer)) refl
+validate-held-read = apart ([], heldBy 2, captured, reader) (λ (a : Answered). numberIn (a .answer)) refl
 
 -- `reserved`: two writes of one row are two versions
-pub reserved-each-write : Excludes (λ (p : List ℕ × List ℕ). reservedIn (p .0) (p .1)) (λ p. total (p .1))
+pub reserved-each-write : Excludes {A = List ℕ × List ℕ} (λ (lists, prepared). reservedIn lists prepared) (λ (lists, prepared). total prepared)
 unfolding computes
 reserved-each-write = apart ([], set (replicate mostLive 0) 0 2) itself refl
 
 -- `reserved`: only the first slot counts
-pub reserved-first-slot : Excludes (λ (p : List ℕ × List ℕ). reservedIn (p .0) (p .1)) (λ p. distinctIn (p .0) 0 (getD (p .1) 0 0))
+pub reserved-first-slot : Excludes {A = List ℕ × List ℕ} (λ (lists, prepared). reservedIn lists prepared) (λ (lists, prepared). distinctIn lists 0 (getD prepared 0 0))
 unfolding computes
 reserved-first-slot = apart ([], set (replicate mostLive 0) 1 1) itself refl
 
@@ -69,23 +69,23 @@ abbrev Given : Type 0
 Given = List ℕ × List ℕ × ℕ × ℕ × ℕ × List ℕ × Transaction × List ℕ × List ℕ
 
 abbrev prepares : Given → Left
-prepares p = prepareOf (p .0) (p .1) (p .2) (p .3) (p .4) (p .5) (p .6) (p .7) (p .8)
+prepares (versions, lists, bucketCount, versionCount, used, prepared, t, rows, buckets) = prepareOf versions lists bucketCount versionCount used prepared t rows buckets
 
 -- in one bucket, with one version to give
 abbrev given : List ℕ → Transaction → List ℕ → List ℕ → Given
 given lists t rows buckets = ([], lists, 1, 1, 0, replicate mostLive 0, t, rows, buckets)
 
 -- `prepare`: the phase is not tested
-pub prepare-any-phase : Excludes prepares (λ p. prepareWith (p .0) (p .1) (p .3) (p .4) (p .5) (p .6) (p .7) (p .8) (neededInto (p .7) (p .0) (p .1) (p .2) (p .6 .slot) (p .6 .«reads_n») (p .6 .«writes_n») (replicate mostNeeded 0)))
+pub prepare-any-phase : Excludes prepares (λ (versions, lists, bucketCount, versionCount, used, prepared, t, rows, buckets). prepareWith versions lists versionCount used prepared t rows buckets (neededInto rows versions lists bucketCount (t .slot) (t .«reads_n») (t .«writes_n») (replicate mostNeeded 0)))
 unfolding computes
 prepare-any-phase = apart (given [] (live 1 phase.Ended) [] []) (λ (l : Left). numberIn (l .reply .answer)) refl
 
 -- `prepare`: the needed buckets are not taken
-pub prepare-buckets-free : Excludes prepares (λ p. left (prepares p .reply) (prepares p .rows) (p .8))
+pub prepare-buckets-free : Excludes prepares (λ (versions, lists, bucketCount, versionCount, used, prepared, t, rows, buckets). let l = prepares (versions, lists, bucketCount, versionCount, used, prepared, t, rows, buckets) in left (l .reply) (l .rows) buckets)
 unfolding computes
-prepare-buckets-free = apart (given captured reader [] (held-by 0)) (λ (l : Left). getD (l .buckets) 1 0) refl
+prepare-buckets-free = apart (given captured reader [] (heldBy 0)) (λ (l : Left). getD (l .buckets) 1 0) refl
 
 -- `prepare`: the pending rows are not claimed
-pub prepare-rows-unclaimed : Excludes prepares (λ p. left (prepares p .reply) (p .7) (prepares p .buckets))
+pub prepare-rows-unclaimed : Excludes prepares (λ (versions, lists, bucketCount, versionCount, used, prepared, t, rows, buckets). let l = prepares (versions, lists, bucketCount, versionCount, used, prepared, t, rows, buckets) in left (l .reply) rows (l .buckets))
 unfolding computes
 prepare-rows-unclaimed = apart (given puts (writer phase.Open) (replicate rowWords 0) []) (λ (l : Left). getD (l .rows) 1 0) refl

@@ -28,16 +28,16 @@ abbrev begin : Words → Unit {0} → Step
 begin w u = ask.Begin
 
 abbrev capture : Words → ℕ × ℕ → Step
-capture w p = ask.Capture (p .0) (p .1)
+capture w (n, k) = ask.Capture n k
 
 abbrev rows : Words → ℕ → Step
 rows w n = ask.Rows n (length (w .tables .found))
 
 abbrev put : Words → ℕ × ℕ × ℕ × ℕ → Step
-put w p = ask.Put (p .0) (p .1) (p .2) (p .3)
+put w (n, r, k, payload) = ask.Put n r k payload
 
 abbrev erase : Words → ℕ × ℕ → Step
-erase w p = ask.Erase (p .0) (p .1)
+erase w (n, r) = ask.Erase n r
 
 abbrev collect : Words → ℕ → Step
 collect w n = ask.Collect n
@@ -62,7 +62,7 @@ abort w n = ask.Abort n
 
 -- the one step taken for the other, in some store, for some numbers
 abbrev Mistaken : {I : Type 0} → (Words → I → Step) → (Words → I → Step) → Type 0
-Mistaken {I} right wrong = Excludes (λ (p : Words × I). turnOf (p .0) (right (p .0) (p .1))) (λ p. turnOf (p .0) (wrong (p .0) (p .1)))
+Mistaken {I} right wrong = Excludes {A = Words × I} (λ (w, i). turnOf w (right w i)) (λ (w, i). turnOf w (wrong w i))
 
 -- the step is done: the shape of the small store is right
 abbrev done : Phase → Step → Left
@@ -81,11 +81,11 @@ abbrev code : Left → ℕ
 code l = numberIn (l .answer)
 
 -- the number of the transaction at place 0, and its phase
-abbrev at-first : Left → ℕ
-at-first l = getD (l .words .txns) 0 (idleOf 0) .number
+abbrev atFirst : Left → ℕ
+atFirst l = getD (l .words .txns) 0 (idleOf 0) .number
 
-abbrev phase-at-first : Left → ℕ
-phase-at-first l = rank (phaseView (getD (l .words .txns) 0 (idleOf 0) .phase))
+abbrev phaseAtFirst : Left → ℕ
+phaseAtFirst l = rank (phaseView (getD (l .words .txns) 0 (idleOf 0) .phase))
 
 -- word i of its first pending write
 abbrev written : ℕ → Left → ℕ
@@ -126,7 +126,7 @@ publish-is-validate = in-phase publish validate phase.Ended refl code 1 refl
 -- `writing::validate` takes the step of `abort`
 pub validate-is-abort : Mistaken validate abort
 unfolding computes
-validate-is-abort = in-phase validate abort phase.Open refl at-first 1 refl
+validate-is-abort = in-phase validate abort phase.Open refl atFirst 1 refl
 
 -- `finishing::abort` takes the step of `collect`
 pub abort-is-collect : Mistaken abort collect
@@ -135,42 +135,42 @@ abort-is-collect = in-phase abort collect phase.Open refl code 1 refl
 
 -- ---- where a key, a row or a payload is given too
 
-abbrev erase-of : Words → ℕ × ℕ × ℕ × ℕ → Step
-erase-of w p = ask.Erase (p .0) (p .1)
+abbrev eraseOf : Words → ℕ × ℕ × ℕ × ℕ → Step
+eraseOf w (n, r, k, payload) = ask.Erase n r
 
-abbrev put-turned : Words → ℕ × ℕ × ℕ × ℕ → Step
-put-turned w p = ask.Put (p .0) (p .1) (p .3) (p .2)
+abbrev putTurned : Words → ℕ × ℕ × ℕ × ℕ → Step
+putTurned w (n, r, k, payload) = ask.Put n r payload k
 
-abbrev capture-turned : Words → ℕ × ℕ → Step
-capture-turned w p = ask.Capture (p .1) (p .0)
+abbrev captureTurned : Words → ℕ × ℕ → Step
+captureTurned w (n, k) = ask.Capture k n
 
-abbrev erase-turned : Words → ℕ × ℕ → Step
-erase-turned w p = ask.Erase (p .1) (p .0)
+abbrev eraseTurned : Words → ℕ × ℕ → Step
+eraseTurned w (n, r) = ask.Erase r n
 
 -- `reading::capture` takes the step of `erase`
 pub capture-is-erase : Mistaken capture erase
 unfolding computes
-capture-is-erase = in-phase capture erase phase.Open refl phase-at-first (1, 0) refl
+capture-is-erase = in-phase capture erase phase.Open refl phaseAtFirst (1, 0) refl
 
 -- `writing::put` takes the step of `erase`
-pub put-is-erase : Mistaken put erase-of
+pub put-is-erase : Mistaken put eraseOf
 unfolding computes
-put-is-erase = in-phase put erase-of phase.Open refl (written 1) (1, 0, 1, 2) refl
+put-is-erase = in-phase put eraseOf phase.Open refl (written 1) (1, 0, 1, 2) refl
 
 -- `writing::put`: the payload goes where the key goes, and the key where the payload goes
-pub put-key-for-payload : Mistaken put put-turned
+pub put-key-for-payload : Mistaken put putTurned
 unfolding computes
-put-key-for-payload = in-phase put put-turned phase.Open refl (written 2) (1, 0, 1, 2) refl
+put-key-for-payload = in-phase put putTurned phase.Open refl (written 2) (1, 0, 1, 2) refl
 
 -- `reading::capture`: the key goes where the number goes, and the number where the key goes
-pub capture-key-for-number : Mistaken capture capture-turned
+pub capture-key-for-number : Mistaken capture captureTurned
 unfolding computes
-capture-key-for-number = in-phase capture capture-turned phase.Open refl code (1, 0) refl
+capture-key-for-number = in-phase capture captureTurned phase.Open refl code (1, 0) refl
 
 -- `writing::erase`: the row goes where the number goes, and the number where the row goes
-pub erase-row-for-number : Mistaken erase erase-turned
+pub erase-row-for-number : Mistaken erase eraseTurned
 unfolding computes
-erase-row-for-number = in-phase erase erase-turned phase.Open refl code (1, 0) refl
+erase-row-for-number = in-phase erase eraseTurned phase.Open refl code (1, 0) refl
 
 -- ---- begin
 
@@ -179,12 +179,12 @@ abbrev begun : Words × Unit {0}
 begun = (store phase.Open, tt)
 
 -- `reading::begin`: the number is told, and nothing is kept
-pub begin-not-kept : Excludes (λ (p : Words × Unit {0}). turnOf (p .0) (begin (p .0) (p .1))) (λ p. record { answer = tell.Number (p .0 .clock); words = p .0 })
+pub begin-not-kept : Excludes {A = Words × Unit {0}} (λ (w, u). turnOf w (begin w u)) (λ (w, u). record { answer = tell.Number (w .clock); words = w })
 unfolding computes
 begin-not-kept = apart begun (λ (l : Left). l .words .clock) (rw (turn-done phase.Open refl ask.Begin))
 
 -- `reading::begin`: always no free place
-pub begin-full : Excludes (λ (p : Words × Unit {0}). turnOf (p .0) (begin (p .0) (p .1))) (λ p. record { answer = tell.Refused 3; words = p .0 })
+pub begin-full : Excludes {A = Words × Unit {0}} (λ (w, u). turnOf w (begin w u)) (λ (w, u). record { answer = tell.Refused 3; words = w })
 unfolding computes
 begin-full = apart begun code (rw (turn-done phase.Open refl ask.Begin))
 

@@ -56,41 +56,41 @@ abbrev given : Phase → Given
 given ph = ([], puts, 1, 2, writer ph, claimed, held)
 
 abbrev publishes : Given → Left
-publishes p = publishOf (p .0) (p .1) (p .2) (p .3) (p .4) (p .5) (p .6)
+publishes (versions, lists, count, clock, t, rows, buckets) = publishOf versions lists count clock t rows buckets
 
 abbrev aborts : Given → Left
-aborts p = abortOf (p .0) (p .1) (p .2) (p .4) (p .5) (p .6)
+aborts (versions, lists, count, clock, t, rows, buckets) = abortOf versions lists count t rows buckets
 
 -- `publish`: the place does not become free
-pub publish-record-kept : Excludes publishes (λ p. record { reply = record { answer = publishes p .reply .answer; txn = p .4 }; rows = publishes p .rows; buckets = publishes p .buckets })
+pub publish-record-kept : Excludes publishes (λ (versions, lists, count, clock, t, rows, buckets). let l = publishes (versions, lists, count, clock, t, rows, buckets) in record { reply = record { answer = l .reply .answer; txn = t }; rows = l .rows; buckets = l .buckets })
 unfolding computes
 publish-record-kept = apart (given phase.Ended) (λ (l : Left). l .reply .txn .number) refl
 
 -- `publish`: the claims stay
-pub publish-claims-kept : Excludes publishes (λ p. record { reply = publishes p .reply; rows = p .5; buckets = publishes p .buckets })
+pub publish-claims-kept : Excludes publishes (λ (versions, lists, count, clock, t, rows, buckets). let l = publishes (versions, lists, count, clock, t, rows, buckets) in record { reply = l .reply; rows = rows; buckets = l .buckets })
 unfolding computes
 publish-claims-kept = apart (given phase.Ended) claim refl
 
 -- `publish`: the buckets of changed keys are not stamped
-pub publish-unstamped : Excludes publishes (λ p. record {
-  reply = publishes p .reply;
-  rows = publishes p .rows;
-  buckets = freedIn (p .5) (p .0) (p .1) (p .2) true (bucketIn (phaseView (p .4 .phase))) (p .4 .slot) (p .4 .«reads_n») (p .4 .«writes_n») (p .4 .number) (p .6);
+pub publish-unstamped : Excludes publishes (λ (versions, lists, count, clock, t, rows, buckets). let l = publishes (versions, lists, count, clock, t, rows, buckets) in record {
+  reply = l .reply;
+  rows = l .rows;
+  buckets = freedIn rows versions lists count true (bucketIn (phaseView (t .phase))) (t .slot) (t .«reads_n») (t .«writes_n») (t .number) buckets;
 })
 unfolding computes
 publish-unstamped = apart (given phase.Ended) stamp refl
 
 -- `abort`: the place does not become free
-pub abort-record-kept : Excludes aborts (λ p. record { reply = record { answer = aborts p .reply .answer; txn = p .4 }; rows = aborts p .rows; buckets = aborts p .buckets })
+pub abort-record-kept : Excludes aborts (λ (versions, lists, count, clock, t, rows, buckets). let l = aborts (versions, lists, count, clock, t, rows, buckets) in record { reply = record { answer = l .reply .answer; txn = t }; rows = l .rows; buckets = l .buckets })
 unfolding computes
 abort-record-kept = apart (given phase.Open) (λ (l : Left). l .reply .txn .number) refl
 
 -- `abort`: the claims stay
-pub abort-claims-kept : Excludes aborts (λ p. record { reply = aborts p .reply; rows = p .5; buckets = aborts p .buckets })
+pub abort-claims-kept : Excludes aborts (λ (versions, lists, count, clock, t, rows, buckets). let l = aborts (versions, lists, count, clock, t, rows, buckets) in record { reply = l .reply; rows = rows; buckets = l .buckets })
 unfolding computes
 abort-claims-kept = apart (given phase.Prepared) claim refl
 
 -- `abort`: the buckets stay held
-pub abort-buckets-held : Excludes aborts (λ p. record { reply = aborts p .reply; rows = aborts p .rows; buckets = p .6 })
+pub abort-buckets-held : Excludes aborts (λ (versions, lists, count, clock, t, rows, buckets). let l = aborts (versions, lists, count, clock, t, rows, buckets) in record { reply = l .reply; rows = l .rows; buckets = buckets })
 unfolding computes
 abort-buckets-held = apart (given phase.Prepared) holder refl

@@ -15,23 +15,23 @@ abbrev Told : Type 0
 Told = ℕ × List ℕ
 
 abbrev replays : List ℕ × List ℕ → Told
-replays p = (packed (replay (p .0) (length (p .1))), reported (replay (p .0) (length (p .1))) (p .1))
+replays (log, report) = (packed (replay log (length report)), reported (replay log (length report)) report)
 
 -- a malformed log, and room for its line
 abbrev malformed : List ℕ × List ℕ
 malformed = (0 ∷ [], blank)
 
 -- `toruxeng_replay`: the length stands above, the status below
-pub replay-halves-turned : Excludes replays (λ p. (length (replay (p .0) (length (p .1)) .text) * 4294967296 + replay (p .0) (length (p .1)) .status, reported (replay (p .0) (length (p .1))) (p .1)))
+pub replay-halves-turned : Excludes replays (λ (log, report). (length (replay log (length report) .text) * 4294967296 + replay log (length report) .status, reported (replay log (length report)) report))
 unfolding computes
 replay-halves-turned = apart malformed (λ (r : Told). r .0) refl
 
 -- `toruxeng_replay`: the report is not written
-pub replay-nothing-written : Excludes replays (λ p. (packed (replay (p .0) (length (p .1))), p .1))
+pub replay-nothing-written : Excludes replays (λ (log, report). (packed (replay log (length report)), report))
 unfolding computes
 replay-nothing-written = apart malformed (λ (r : Told). getD (r .1) 0 0) refl
 
 -- `toruxeng_replay`: room that is not there is used
-pub replay-past-the-room : Excludes replays (λ p. (packed (replay (p .0) (length (p .1) + 1)), reported (replay (p .0) (length (p .1) + 1)) (p .1)))
+pub replay-past-the-room : Excludes replays (λ (log, report). (packed (replay log (length report + 1)), reported (replay log (length report + 1)) report))
 unfolding computes
 replay-past-the-room = apart (0 ∷ [], replicate 6 0) (λ (r : Told). r .0) refl

@@ -23,22 +23,22 @@ abbrev byte : ℕ → Written → ℕ
 byte i w = getD (w .report) i 0
 
 -- `open_line`: always `open 0`
-pub open-line-zero : Excludes (λ (p : List ℕ × ℕ × ℕ). writtenAt (p .0) (p .1) (openLine (p .2))) (λ p. writtenAt (p .0) (p .1) (openLine 0))
+pub open-line-zero : Excludes {A = List ℕ × ℕ × ℕ} (λ (report, at, n). writtenAt report at (openLine n)) (λ (report, at, n). writtenAt report at (openLine 0))
 unfolding computes
 open-line-zero = apart (blank, 0, 1) (byte 5) refl
 
 -- `open_line`: another word
-pub open-line-bad : Excludes (λ (p : List ℕ × ℕ × ℕ). writtenAt (p .0) (p .1) (openLine (p .2))) (λ p. writtenAt (p .0) (p .1) (line badWord (p .2 ∷ [])))
+pub open-line-bad : Excludes {A = List ℕ × ℕ × ℕ} (λ (report, at, n). writtenAt report at (openLine n)) (λ (report, at, n). writtenAt report at (line badWord (n ∷ [])))
 unfolding computes
 open-line-bad = apart (blank, 0, 1) (byte 0) refl
 
 -- `bad_line`: the number of a wrong shape
-pub bad-line-shape : Excludes (λ (p : List ℕ × ℕ). writtenAt (p .0) (p .1) badLine) (λ p. writtenAt (p .0) (p .1) (line badWord (refusalNumber WrongShape ∷ [])))
+pub bad-line-shape : Excludes {A = List ℕ × ℕ} (λ (report, at). writtenAt report at badLine) (λ (report, at). writtenAt report at (line badWord (refusalNumber WrongShape ∷ [])))
 unfolding computes
 bad-line-shape = apart (blank, 0) (byte 5) refl
 
 -- `bad_line`: another word
-pub bad-line-open : Excludes (λ (p : List ℕ × ℕ). writtenAt (p .0) (p .1) badLine) (λ p. writtenAt (p .0) (p .1) (line openWord (refusalNumber Malformed ∷ [])))
+pub bad-line-open : Excludes {A = List ℕ × ℕ} (λ (report, at). writtenAt report at badLine) (λ (report, at). writtenAt report at (line openWord (refusalNumber Malformed ∷ [])))
 unfolding computes
 bad-line-open = apart (blank, 0) (byte 0) refl
 
@@ -46,19 +46,19 @@ bad-line-open = apart (blank, 0) (byte 0) refl
 abbrev Given : Type 0
 Given = List ℕ × ℕ × Step × Answer × List ℕ
 
-abbrev answer-line : Given → Written
-answer-line p = writtenAt (p .0) (p .1) (lineFor (p .2) (p .3) (p .4))
+abbrev answerLine : Given → Written
+answerLine (report, at, s, answer, rows) = writtenAt report at (lineFor s answer rows)
 
 -- a row that was found
 abbrev found : Given
 found = (blank, 0, ask.Rows 1 1, tell.Rows 1, 9 ∷ [])
 
 -- `answer_line`: the found rows are not said
-pub answer-line-rows-unsaid : Excludes answer-line (λ p. writtenAt (p .0) (p .1) (lineFor (p .2) (p .3) []))
+pub answer-line-rows-unsaid : Excludes answerLine (λ (report, at, s, answer, rows). writtenAt report at (lineFor s answer []))
 unfolding computes
 answer-line-rows-unsaid = apart found (byte 8) refl
 
 -- `answer_line`: the values stand where the number stands
-pub answer-line-no-number : Excludes answer-line (λ p. writtenAt (p .0) (p .1) (line (wordOf (asked (p .2))) (valuesOf (p .3) (p .4))))
+pub answer-line-no-number : Excludes answerLine (λ (report, at, s, answer, rows). writtenAt report at (line (wordOf (asked s)) (valuesOf answer rows)))
 unfolding computes
 answer-line-no-number = apart found (byte 5) refl

@@ -12,7 +12,7 @@ use Rattle.record.specs.View.{phaseView}
 use Rattle.record.specs.Methods.{withCandidates}
 use Rattle.record.specs.declared.Phase.the-variants as phase
 use Rattle.record.specs.declared.Transaction.{Transaction}
-use Rattle.matching.specs.Matching.{Look, look}
+use Rattle.matching.specs.Matching.{look}
 use Rattle.reads.specs.Rows.{candidateRows, wantedRows, matchedRows, LeftRows, refusedRows, answerOf, readingOf, rowsOf}
 use Rattle.reads.specs.Inner.{Run, copied}
 use Rattle.tightness.specs.Wrong.{Excludes}
@@ -25,18 +25,15 @@ abbrev Given : Type 0
 Given = List ℕ × List ℕ × List ℕ × List ℕ × ℕ × ℕ × ℕ × Transaction
 
 abbrev reads : Given → LeftRows
-reads p = rowsOf (p .0) (p .1) (p .2) (p .3) (p .4) (p .5) (p .6) (p .7)
-
-abbrev looks : Given → Look
-looks p = look (p .0) (p .1) (p .2) (p .5) (p .7) (keyIn (phaseView (p .7 .phase)))
+reads (rows, versions, lists, found, rowCount, used, room, t) = rowsOf rows versions lists found rowCount used room t
 
 -- `rows`: the phase is not tested
-pub rows-any-phase : Excludes reads (λ p. readingOf (looks p) (p .4) (p .6) (p .3))
+pub rows-any-phase : Excludes reads (λ (rows, versions, lists, found, rowCount, used, room, t). readingOf (look rows versions lists used t (keyIn (phaseView (t .phase)))) rowCount room found)
 unfolding computes
 rows-any-phase = apart ([], [], [], [], 1, 0, 0, live 1 phase.Open) (λ (l : LeftRows). numberIn (l .reply .answer)) refl
 
 -- `rows`: the found rows do not go to the lent list
-pub rows-not-lent : Excludes reads (λ p. record { reply = reads p .reply; lists = reads p .lists; found = p .3 })
+pub rows-not-lent : Excludes reads (λ (rows, versions, lists, found, rowCount, used, room, t). let l = reads (rows, versions, lists, found, rowCount, used, room, t) in record { reply = l .reply; lists = l .lists; found = found })
 unfolding computes
 rows-not-lent = apart ([], [], puts, 9 ∷ [], 1, 0, 1, writer (phase.Collected 5)) (λ (l : LeftRows). getD (l .found) 0 0) refl
 
@@ -45,9 +42,9 @@ abbrev seen : Given
 seen = (1 ∷ 0 ∷ 1 ∷ 5 ∷ [], replicate versionWords 0 ++ 1 ∷ 0 ∷ 0 ∷ 1 ∷ 5 ∷ 9 ∷ [], [], 9 ∷ [], 1, 1, 1, withCandidates (live 1 (phase.Collected 5)) 1)
 
 -- `rows`: the version read is not recorded
-pub rows-unrecorded : Excludes reads (λ p.
-    cond (not (eqb (rank (phaseView (p .7 .phase))) 3)) (refusedRows (p .7) 5 (p .2) (p .3))
-    (answerOf (p .2) (p .3) (p .7) (p .6) (matchedRows (looks p) (p .4)) []))
+pub rows-unrecorded : Excludes reads (λ (rows, versions, lists, found, rowCount, used, room, t).
+    cond (not (eqb (rank (phaseView (t .phase))) 3)) (refusedRows t 5 lists found)
+    (answerOf lists found t room (matchedRows (look rows versions lists used t (keyIn (phaseView (t .phase)))) rowCount) []))
 unfolding computes
 rows-unrecorded = apart seen (λ (l : LeftRows). l .reply .txn .«records_n») refl
 
@@ -56,18 +53,18 @@ abbrev Gathered : Type 0
 Gathered = List ℕ × List ℕ × Transaction × ℕ
 
 abbrev gathers : Gathered → Run
-gathers p = copied (p .1) 0 (p .3) (wantedRows (p .0) (p .2))
+gathers (lists, out, t, bound) = copied out 0 bound (wantedRows lists t)
 
 -- one pending write of row 0, and a bound
-abbrev one-write : ℕ → Gathered
-one-write bound = (puts, 9 ∷ [], writer phase.Open, bound)
+abbrev oneWrite : ℕ → Gathered
+oneWrite bound = (puts, 9 ∷ [], writer phase.Open, bound)
 
 -- `gather`: the own pending rows are left out
-pub gather-candidates-only : Excludes gathers (λ p. copied (p .1) 0 (p .3) (candidateRows (p .0) (p .2 .slot) (p .2 .«candidates_n»)))
+pub gather-candidates-only : Excludes gathers (λ (lists, out, t, bound). copied out 0 bound (candidateRows lists (t .slot) (t .«candidates_n»)))
 unfolding computes
-gather-candidates-only = apart (one-write 1) (λ (r : Run). r .n) refl
+gather-candidates-only = apart (oneWrite 1) (λ (r : Run). r .n) refl
 
 -- `gather`: the bound itself is below the bound
-pub gather-bound-in : Excludes gathers (λ p. copied (p .1) 0 (suc (p .3)) (wantedRows (p .0) (p .2)))
+pub gather-bound-in : Excludes gathers (λ (lists, out, t, bound). copied out 0 (suc bound) (wantedRows lists t))
 unfolding computes
-gather-bound-in = apart (one-write 0) (λ (r : Run). r .n) refl
+gather-bound-in = apart (oneWrite 0) (λ (r : Run). r .n) refl

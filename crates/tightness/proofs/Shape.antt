@@ -30,13 +30,13 @@ abbrev right : Lent × Machine → Bool
 right (l, m) = shapeOf (over l m)
 
 -- `tables_lent`: no entry for pointer 0
-pub tables-lent-no-entry-more : Excludes fits (λ p.
-    leb (rowWords * p .1 .rows) (length (p .0 .0)) && leb (versionWords * p .1 .versions) (length (p .0 .1)) && leb (bucketWords * p .1 .buckets) (length (p .0 .2)) && leb listsWords (length (p .0 .3)))
+pub tables-lent-no-entry-more : Excludes fits (λ (l, z).
+    leb (rowWords * z .rows) (length (l .0)) && leb (versionWords * z .versions) (length (l .1)) && leb (bucketWords * z .buckets) (length (l .2)) && leb listsWords (length (l .3)))
 tables-lent-no-entry-more = apart ((lent .0, replicate versionWords 0, lent .2, lent .3), sizes) bit refl
 
 -- `tables_lent`: the lists are not tested
-pub tables-lent-lists-untested : Excludes fits (λ p.
-    leb (rowWords * p .1 .rows) (length (p .0 .0)) && leb (versionWords * suc (p .1 .versions)) (length (p .0 .1)) && leb (bucketWords * p .1 .buckets) (length (p .0 .2)))
+pub tables-lent-lists-untested : Excludes fits (λ (l, z).
+    leb (rowWords * z .rows) (length (l .0)) && leb (versionWords * suc (z .versions)) (length (l .1)) && leb (bucketWords * z .buckets) (length (l .2)))
 tables-lent-lists-untested = apart ((lent .0, lent .1, lent .2, []), sizes) bit refl
 
 -- `others_of`: an Ended transaction is active

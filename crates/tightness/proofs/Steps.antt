@@ -21,14 +21,14 @@ abbrev Given : Type 0
 Given = Sizes × Others × Transaction × ℕ × ℕ × Step × Tables
 
 abbrev right : Given → Moved
-right p = stepOf (p .0) (p .1) (p .2) (p .3) (p .4) (p .5) (p .6)
+right (z, others, t, clock, used, s, tables) = stepOf z others t clock used s tables
 
 -- `step`: the record that comes in takes the step, whatever its number is
-pub step-any-number : Excludes right (λ p. doneBy (p .0) (p .1) (p .2) (p .3) (p .4) (p .5) (p .6))
+pub step-any-number : Excludes right (λ (z, others, t, clock, used, s, tables). doneBy z others t clock used s tables)
 unfolding computes
 step-any-number = apart (sizes, othersIn freePlaces, idleOf 0, 1, 0, ask.End 1, store phase.Open .tables) (λ (m : Moved). numberIn (m .stepped .answer)) refl
 
 -- `step`: the last used pointer is taken for the clock
-pub step-used-for-clock : Excludes right (λ p. stepOf (p .0) (p .1) (p .2) (p .4) (p .4) (p .5) (p .6))
+pub step-used-for-clock : Excludes right (λ (z, others, t, clock, used, s, tables). stepOf z others t used used s tables)
 unfolding computes
 step-used-for-clock = apart (sizes, othersIn freePlaces, idleOf 0, 1, 0, ask.Begin, store phase.Open .tables) (λ (m : Moved). m .stepped .clock) refl

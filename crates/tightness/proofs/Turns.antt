@@ -27,7 +27,7 @@ abbrev Given : Type 0
 Given = List ℕ × List ℕ × List ℕ × List ℕ × Sizes × ℕ
 
 abbrev opens : Given → Left
-opens p = openOf (p .0) (p .1) (p .2) (p .3) (p .4) (p .5)
+opens (rows, versions, buckets, lists, z, clock) = openOf rows versions buckets lists z clock
 
 -- no words at all, and the words of the small store with one in the way
 abbrev nothing : Given
@@ -37,22 +37,22 @@ abbrev littered : Given
 littered = (lent .0, set (lent .1) 0 9, lent .2, lent .3, sizes, 1)
 
 -- a fresh store over tables that are cleared in part
-abbrev opened-over : List ℕ → List ℕ → List ℕ → List ℕ → Sizes → ℕ → Left
-opened-over rows versions buckets lists z clock = record { answer = tell.Done; words = wordsOf rows versions buckets lists [] (freshOf z clock) }
+abbrev openedOver : List ℕ → List ℕ → List ℕ → List ℕ → Sizes → ℕ → Left
+openedOver rows versions buckets lists z clock = record { answer = tell.Done; words = wordsOf rows versions buckets lists [] (freshOf z clock) }
 
 -- `open`: a table shorter than its size gets 1
-pub open-short-is-one : Excludes opens (λ p.
-    cond (not (canOpen (sizesView (p .4)) (p .5))) (refusedOpen 1 (p .0) (p .1) (p .2) (p .3))
-    (cond (not (tablesLent (p .0) (p .1) (p .2) (p .3) (p .4))) (refusedOpen 1 (p .0) (p .1) (p .2) (p .3))
-    (opened-over (cleared (rowWords * p .4 .rows) (p .0)) (cleared (versionWords * suc (p .4 .versions)) (p .1)) (cleared (bucketWords * p .4 .buckets) (p .2)) (p .3) (p .4) (p .5))))
+pub open-short-is-one : Excludes opens (λ (rows, versions, buckets, lists, z, clock).
+    cond (not (canOpen (sizesView z) clock)) (refusedOpen 1 rows versions buckets lists)
+    (cond (not (tablesLent rows versions buckets lists z)) (refusedOpen 1 rows versions buckets lists)
+    (openedOver (cleared (rowWords * z .rows) rows) (cleared (versionWords * suc (z .versions)) versions) (cleared (bucketWords * z .buckets) buckets) lists z clock)))
 unfolding computes
 open-short-is-one = apart nothing (λ (l : Left). numberIn (l .answer)) refl
 
 -- `open`: the versions keep what stood there
-pub open-versions-kept : Excludes opens (λ p.
-    cond (not (canOpen (sizesView (p .4)) (p .5))) (refusedOpen 1 (p .0) (p .1) (p .2) (p .3))
-    (cond (not (tablesLent (p .0) (p .1) (p .2) (p .3) (p .4))) (refusedOpen 16 (p .0) (p .1) (p .2) (p .3))
-    (opened-over (cleared (rowWords * p .4 .rows) (p .0)) (p .1) (cleared (bucketWords * p .4 .buckets) (p .2)) (p .3) (p .4) (p .5))))
+pub open-versions-kept : Excludes opens (λ (rows, versions, buckets, lists, z, clock).
+    cond (not (canOpen (sizesView z) clock)) (refusedOpen 1 rows versions buckets lists)
+    (cond (not (tablesLent rows versions buckets lists z)) (refusedOpen 16 rows versions buckets lists)
+    (openedOver (cleared (rowWords * z .rows) rows) versions (cleared (bucketWords * z .buckets) buckets) lists z clock)))
 unfolding computes
 open-versions-kept = apart littered (λ (l : Left). getD (l .words .tables .versions) 0 0) refl
 
