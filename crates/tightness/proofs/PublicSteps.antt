@@ -4,7 +4,7 @@ use Prim.Native.Nat.{ℕ, suc, _+_}
 use mathlib.Core.Path.{_≡_, refl, ap}
 use mathlib.Core.Bool.{true, false, true≢false}
 use lib.Dec.{eqb}
-use lib.ListN.{length, getD}
+use lib.ListN.{getD}
 use Rattle.model.specs.Store.{bucketIn, rank}
 use Rattle.protocol.specs.declared.Step.{Step}
 use Rattle.protocol.specs.declared.Step.the-variants as ask
@@ -16,53 +16,51 @@ use Rattle.record.specs.declared.Phase.{Phase}
 use Rattle.record.specs.declared.Phase.the-variants as phase
 use Rattle.places.specs.Places.{wantedOf, isBegin, missesOf}
 use Rattle.steps.specs.Steps.{Moved, stays}
-use Rattle.steps.specs.Words.{Words, placeFor, movedBy, wordsAfter}
+use Rattle.steps.specs.Words.{placeFor, movedBy, wordsAfter}
+use Rattle.shape.specs.declared.Machine.{Machine}
 use Rattle.turns.specs.Turns.{Left, turnOf}
 use Rattle.tightness.specs.Wrong.{Excludes}
 use Rattle.tightness.proofs.Apart.{apart, numberIn}
 use Rattle.tightness.proofs.Computes.{computes}
-use Rattle.tightness.proofs.Small.{live, store, shape}
+use Rattle.tightness.proofs.Small.{live, Lent, over, lent, machine, store, shape}
 
--- the step that each asks for
-abbrev begin : Words → Unit {0} → Step
-begin w u = ask.Begin
+-- the step that each asks for, where the lent list of `rows` is empty
+abbrev capture : ℕ × ℕ → Step
+capture (n, k) = ask.Capture n k
 
-abbrev capture : Words → ℕ × ℕ → Step
-capture w (n, k) = ask.Capture n k
+abbrev rows : ℕ → Step
+rows n = ask.Rows n 0
 
-abbrev rows : Words → ℕ → Step
-rows w n = ask.Rows n (length (w .tables .found))
+abbrev put : ℕ × ℕ × ℕ × ℕ → Step
+put (n, r, k, payload) = ask.Put n r k payload
 
-abbrev put : Words → ℕ × ℕ × ℕ × ℕ → Step
-put w (n, r, k, payload) = ask.Put n r k payload
+abbrev erase : ℕ × ℕ → Step
+erase (n, r) = ask.Erase n r
 
-abbrev erase : Words → ℕ × ℕ → Step
-erase w (n, r) = ask.Erase n r
+abbrev collect : ℕ → Step
+collect n = ask.Collect n
 
-abbrev collect : Words → ℕ → Step
-collect w n = ask.Collect n
+abbrev prepare : ℕ → Step
+prepare n = ask.Prepare n
 
-abbrev prepare : Words → ℕ → Step
-prepare w n = ask.Prepare n
+abbrev install : ℕ → Step
+install n = ask.Install n
 
-abbrev install : Words → ℕ → Step
-install w n = ask.Install n
+abbrev end : ℕ → Step
+end n = ask.End n
 
-abbrev end : Words → ℕ → Step
-end w n = ask.End n
+abbrev publish : ℕ → Step
+publish n = ask.Publish n
 
-abbrev publish : Words → ℕ → Step
-publish w n = ask.Publish n
+abbrev validate : ℕ → Step
+validate n = ask.Validate n
 
-abbrev validate : Words → ℕ → Step
-validate w n = ask.Validate n
-
-abbrev abort : Words → ℕ → Step
-abort w n = ask.Abort n
+abbrev abort : ℕ → Step
+abort n = ask.Abort n
 
 -- the one step taken for the other, in some store, for some numbers
-abbrev Mistaken : {I : Type 0} → (Words → I → Step) → (Words → I → Step) → Type 0
-Mistaken {I} right wrong = Excludes {A = Words × I} (λ (w, i). turnOf w (right w i)) (λ (w, i). turnOf w (wrong w i))
+abbrev Mistaken : {I : Type 0} → (I → Step) → (I → Step) → Type 0
+Mistaken {I} right wrong = Excludes {A = Lent × Machine × I} (λ (l, m, i). turnOf (over l m) (right i)) (λ (l, m, i). turnOf (over l m) (wrong i))
 
 -- the step is done: the shape of the small store is right
 abbrev done : Phase → Step → Left
@@ -72,10 +70,10 @@ turn-done : (ph : Phase) → bucketIn (phaseView ph) ≡ 0 → (s : Step) → tu
 unfolding turnOf
 turn-done ph e s = rw (shape ph e)
 
-in-phase : {I : Type 0} (right wrong : Words → I → Step) (ph : Phase) → bucketIn (phaseView ph) ≡ 0 → (number : Left → ℕ) (i : I)
-    → eqb (number (done ph (right (store ph) i))) (number (done ph (wrong (store ph) i))) ≡ false → Mistaken right wrong
+in-phase : {I : Type 0} (right wrong : I → Step) (ph : Phase) → bucketIn (phaseView ph) ≡ 0 → (number : Left → ℕ) (i : I)
+    → eqb (number (done ph (right i))) (number (done ph (wrong i))) ≡ false → Mistaken right wrong
 in-phase right wrong ph e number i d =
-    apart (store ph, i) number (rw (turn-done ph e (right (store ph) i), turn-done ph e (wrong (store ph) i)) d)
+    apart (lent, machine ph, i) number (rw (turn-done ph e (right i), turn-done ph e (wrong i)) d)
 
 abbrev code : Left → ℕ
 code l = numberIn (l .answer)
@@ -135,17 +133,17 @@ abort-is-collect = in-phase abort collect phase.Open refl code 1 refl
 
 -- ---- where a key, a row or a payload is given too
 
-abbrev eraseOf : Words → ℕ × ℕ × ℕ × ℕ → Step
-eraseOf w (n, r, k, payload) = ask.Erase n r
+abbrev eraseOf : ℕ × ℕ × ℕ × ℕ → Step
+eraseOf (n, r, k, payload) = ask.Erase n r
 
-abbrev putTurned : Words → ℕ × ℕ × ℕ × ℕ → Step
-putTurned w (n, r, k, payload) = ask.Put n r payload k
+abbrev putTurned : ℕ × ℕ × ℕ × ℕ → Step
+putTurned (n, r, k, payload) = ask.Put n r payload k
 
-abbrev captureTurned : Words → ℕ × ℕ → Step
-captureTurned w (n, k) = ask.Capture k n
+abbrev captureTurned : ℕ × ℕ → Step
+captureTurned (n, k) = ask.Capture k n
 
-abbrev eraseTurned : Words → ℕ × ℕ → Step
-eraseTurned w (n, r) = ask.Erase r n
+abbrev eraseTurned : ℕ × ℕ → Step
+eraseTurned (n, r) = ask.Erase r n
 
 -- `reading::capture` takes the step of `erase`
 pub capture-is-erase : Mistaken capture erase
@@ -174,19 +172,19 @@ erase-row-for-number = in-phase erase eraseTurned phase.Open refl code (1, 0) re
 
 -- ---- begin
 
--- the small store is given, and nothing else
-abbrev begun : Words × Unit {0}
-begun = (store phase.Open, tt)
+-- what its contract asks for
+abbrev begin : Lent × Machine → Left
+begin (l, m) = turnOf (over l m) ask.Begin
 
 -- `reading::begin`: the number is told, and nothing is kept
-pub begin-not-kept : Excludes {A = Words × Unit {0}} (λ (w, u). turnOf w (begin w u)) (λ (w, u). record { answer = tell.Number (w .clock); words = w })
+pub begin-not-kept : Excludes begin (λ (l, m). record { answer = tell.Number (m .clock); words = over l m })
 unfolding computes
-begin-not-kept = apart begun (λ (l : Left). l .words .clock) (rw (turn-done phase.Open refl ask.Begin))
+begin-not-kept = apart (lent, machine phase.Open) (λ (l : Left). l .words .clock) (rw (turn-done phase.Open refl ask.Begin))
 
 -- `reading::begin`: always no free place
-pub begin-full : Excludes {A = Words × Unit {0}} (λ (w, u). turnOf w (begin w u)) (λ (w, u). record { answer = tell.Refused 3; words = w })
+pub begin-full : Excludes begin (λ (l, m). record { answer = tell.Refused 3; words = over l m })
 unfolding computes
-begin-full = apart begun code (rw (turn-done phase.Open refl ask.Begin))
+begin-full = apart (lent, machine phase.Open) code (rw (turn-done phase.Open refl ask.Begin))
 
 -- ---- the step of another number
 
@@ -220,55 +218,54 @@ unfolding computes
 strange-step s b e = rw (placed s e, missed s b e)
 
 -- a function taken for itself with the next number
-abbrev Renumbered : (Words → ℕ → Step) → Type 0
-Renumbered s = Mistaken s (λ w n. s w (suc n))
+abbrev Renumbered : (ℕ → Step) → Type 0
+Renumbered s = Mistaken s (λ n. s (suc n))
 
-other-number : (s : Words → ℕ → Step) → ((w : Words) (n : ℕ) → isBegin (s w n) ≡ false) → ((w : Words) (n : ℕ) → wantedOf (s w n) ≡ n) → Renumbered s
+other-number : (s : ℕ → Step) → ((n : ℕ) → isBegin (s n) ≡ false) → ((n : ℕ) → wantedOf (s n) ≡ n) → Renumbered s
 other-number s b e =
-    let w = store phase.Ended in
     let told : Moved → ℕ = λ m. numberIn (m .stepped .answer) in
-    in-phase s (λ w n. s w (suc n)) phase.Ended refl code 1 (rw (ap told (strange-step (s w 2) (b w 2) (e w 2))) (own-step (s w 1) (b w 1) (e w 1)))
+    in-phase s (λ n. s (suc n)) phase.Ended refl code 1 (rw (ap told (strange-step (s 2) (b 2) (e 2))) (own-step (s 1) (b 1) (e 1)))
 
 -- `reading::capture`: the next number
-pub capture-other-number : (k : ℕ) → Renumbered (λ w n. capture w (n, k))
-capture-other-number k = other-number (λ w n. capture w (n, k)) (λ w n. refl) (λ w n. refl)
+pub capture-other-number : (k : ℕ) → Renumbered (λ n. capture (n, k))
+capture-other-number k = other-number (λ n. capture (n, k)) (λ n. refl) (λ n. refl)
 
 -- `reading::collect`: the next number
 pub collect-other-number : Renumbered collect
-collect-other-number = other-number collect (λ w n. refl) (λ w n. refl)
+collect-other-number = other-number collect (λ n. refl) (λ n. refl)
 
 -- `reading::rows`: the next number
 pub rows-other-number : Renumbered rows
-rows-other-number = other-number rows (λ w n. refl) (λ w n. refl)
+rows-other-number = other-number rows (λ n. refl) (λ n. refl)
 
 -- `writing::put`: the next number
-pub put-other-number : (r k payload : ℕ) → Renumbered (λ w n. put w (n, r, k, payload))
-put-other-number r k payload = other-number (λ w n. put w (n, r, k, payload)) (λ w n. refl) (λ w n. refl)
+pub put-other-number : (r k payload : ℕ) → Renumbered (λ n. put (n, r, k, payload))
+put-other-number r k payload = other-number (λ n. put (n, r, k, payload)) (λ n. refl) (λ n. refl)
 
 -- `writing::erase`: the next number
-pub erase-other-number : (r : ℕ) → Renumbered (λ w n. erase w (n, r))
-erase-other-number r = other-number (λ w n. erase w (n, r)) (λ w n. refl) (λ w n. refl)
+pub erase-other-number : (r : ℕ) → Renumbered (λ n. erase (n, r))
+erase-other-number r = other-number (λ n. erase (n, r)) (λ n. refl) (λ n. refl)
 
 -- `writing::validate`: the next number
 pub validate-other-number : Renumbered validate
-validate-other-number = other-number validate (λ w n. refl) (λ w n. refl)
+validate-other-number = other-number validate (λ n. refl) (λ n. refl)
 
 -- `writing::prepare`: the next number
 pub prepare-other-number : Renumbered prepare
-prepare-other-number = other-number prepare (λ w n. refl) (λ w n. refl)
+prepare-other-number = other-number prepare (λ n. refl) (λ n. refl)
 
 -- `finishing::install`: the next number
 pub install-other-number : Renumbered install
-install-other-number = other-number install (λ w n. refl) (λ w n. refl)
+install-other-number = other-number install (λ n. refl) (λ n. refl)
 
 -- `finishing::end`: the next number
 pub end-other-number : Renumbered end
-end-other-number = other-number end (λ w n. refl) (λ w n. refl)
+end-other-number = other-number end (λ n. refl) (λ n. refl)
 
 -- `finishing::publish`: the next number
 pub publish-other-number : Renumbered publish
-publish-other-number = other-number publish (λ w n. refl) (λ w n. refl)
+publish-other-number = other-number publish (λ n. refl) (λ n. refl)
 
 -- `finishing::abort`: the next number
 pub abort-other-number : Renumbered abort
-abort-other-number = other-number abort (λ w n. refl) (λ w n. refl)
+abort-other-number = other-number abort (λ n. refl) (λ n. refl)
