@@ -12,7 +12,8 @@ use Rattle.protocol.specs.declared.Step.the-variants as ask
 use Rattle.protocol.specs.declared.Answer.{Answer}
 use Rattle.protocol.specs.declared.Answer.the-variants as tell
 use Rattle.lines.specs.Lines.{Written, writtenAt}
-use Rattle.report.specs.Lines.{valuesOf, lineFor, openLine, badLine}
+use Rattle.answers.specs.Answers.{valuesOf}
+use Rattle.report.specs.Lines.{lineFor, openLine, badLine}
 use Rattle.tightness.specs.Wrong.{Excludes}
 use Rattle.tightness.proofs.Apart.{apart}
 use Rattle.tightness.proofs.Computes.{computes}
