@@ -33,8 +33,11 @@ use Rattle.record.specs.declared.Transaction.{Transaction}
 use Rattle.record.specs.View.{phaseView, writeView, recordView, writesIn, candidatesIn, txnView}
 use Rattle.matching.specs.Matching.{Look, look, matchOf, isMatch}
 use Rattle.matching.proofs.Model.{Shows, matches-same, through-same}
-use Rattle.reads.specs.Rows.{wantedRows, matchedRows, knownPointers, through, recordFor, newRecords, putRecords, doneTxn, roomFor, LeftRows, refusedRows, doneRows, readingOf, rowsOf}
-use Rattle.reads.proofs.Appended.{Stands, put-length, put-view, put-others, put-stands}
+use Rattle.gathering.specs.Gathering.{wantedRows}
+use Rattle.recording.specs.Recording.{knownPointers, recordFor, putRecords}
+use Rattle.reads.specs.Rows.{matchedRows, through, newRecords, doneTxn, roomFor, LeftRows, refusedRows, doneRows, readingOf, rowsOf}
+use Rattle.recording.proofs.Appended.{put-length}
+use Rattle.reads.proofs.Appended.{Stands, put-view, put-others, put-stands}
 
 -- ---- tests of membership
 member-append : (x : ℕ) (xs ys : List ℕ) → member x (xs ++ ys) ≡ (member x xs || member x ys)

@@ -1,17 +1,14 @@
 -- The step rows: what it answers, and the record, the lists and the lent list that it leaves.
 use Prim.Native.Nat.{ℕ, _+_, min}
 use mathlib.Core.Bool.{cond, not, _&&_, _||_}
-use mathlib.Core.List.{List, [], _∷_, _++_}
+use mathlib.Core.List.{List, [], _∷_}
 use lib.Dec.{eqb, ltb}
 use lib.ListN.{length}
-use Rattle.limits.specs.Limits.{mostRows, mostWrites, mostRecords}
+use Rattle.limits.specs.Limits.{mostRows, mostRecords}
 use Rattle.model.specs.Lists.{member, pick}
 use Rattle.model.specs.Store.{rank, keyIn}
 use Rattle.protocol.specs.declared.Answer.the-variants as tell
-use Rattle.tables.specs.Fields.{xminOf}
-use Rattle.tables.specs.Lists.{records, candidatesOf, writesOf, recordsOf, stored}
 use Rattle.tables.specs.declared.lists.ReadRecord.{ReadRecord}
-use Rattle.scans.specs.Scans.{rowsWritten, pointers}
 use Rattle.buckets.specs.Buckets.{laid}
 use Rattle.record.specs.View.{phaseView}
 use Rattle.record.specs.Methods.{refusedOf}
@@ -19,31 +16,16 @@ use Rattle.record.specs.declared.Phase.the-variants as phase
 use Rattle.record.specs.declared.Transaction.{Transaction}
 use Rattle.record.specs.declared.Answered.{Answered}
 use Rattle.matching.specs.Matching.{Look, look, matchOf, isMatch, throughOf}
-
--- the rows kept as candidates, the own pending rows, and both; a count above its list's room acts as the room
-abbrev pub candidateRows : List ℕ → ℕ → ℕ → List ℕ
-candidateRows lists slot n = candidatesOf lists slot (min n mostRows)
-
-abbrev pub writtenRows : List ℕ → ℕ → ℕ → List ℕ
-writtenRows lists slot n = rowsWritten (writesOf lists slot (min n mostWrites))
-
-abbrev pub wantedRows : List ℕ → Transaction → List ℕ
-wantedRows lists t = candidateRows lists (t .slot) (t .«candidates_n») ++ writtenRows lists (t .slot) (t .«writes_n»)
+use Rattle.gathering.specs.Gathering.{wantedRows}
+use Rattle.recording.specs.Recording.{knownPointers, recordFor, putRecords}
 
 -- the rows of the store that are wanted and match, ascending; a row count above 256 acts as 256
 unfoldable pub matchedRows : Look → ℕ → List ℕ
 matchedRows l rowCount = pick (λ r. member r (wantedRows (l .lists) (l .txn)) && isMatch (matchOf l r)) 0 (min rowCount mostRows)
 
--- the pointers that are recorded
-abbrev pub knownPointers : List ℕ → ℕ → ℕ → List ℕ
-knownPointers lists slot n = pointers (recordsOf lists slot (min n mostRecords))
-
--- the pointer that a row is matched through, and its version as a read record
+-- the pointer that a row is matched through
 abbrev pub through : Look → ℕ → ℕ
 through l r = throughOf (matchOf l r)
-
-abbrev pub recordFor : List ℕ → ℕ → ℕ → ReadRecord
-recordFor versions r p = record { row = r; ptr = p; xmin = xminOf versions p }
 
 -- for each row matched through a version whose pointer is not yet recorded, a record, in row order
 unfoldable pub newRecords : Look → List ℕ → List ℕ → List ReadRecord
@@ -51,11 +33,6 @@ newRecords l known [] = []
 newRecords l known (r ∷ rs) =
     cond (eqb (through l r) 0 || member (through l r) known) (newRecords l known rs)
     (recordFor (l .versions) r (through l r) ∷ newRecords l (through l r ∷ known) rs)
-
--- read records stored one behind the other, from entry n on
-unfoldable pub putRecords : List ℕ → ℕ → ℕ → List ReadRecord → List ℕ
-putRecords lists slot n [] = lists
-putRecords lists slot n (r ∷ rs) = putRecords (stored records lists slot n (r .row ∷ r .ptr ∷ r .xmin ∷ [])) slot (n + 1) rs
 
 -- a room above 256 counts as 256; the lent list may be shorter
 abbrev pub roomFor : ℕ → ℕ → ℕ

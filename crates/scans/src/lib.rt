@@ -33,7 +33,7 @@ pub fn active_contains(active: &[u64], count: usize, id: u64) -> bool
 }
 
 // A count, or the room of its list where that is less.
-fn clip(count: u32, room: u32) -> u32
+pub fn clip(count: u32, room: u32) -> u32
     ensures { λ r. ⌜ r ≡ min count room ⌝ }
 {
     if count < room { count } else { room }

@@ -2,3 +2,4 @@ pub mod Laws
 pub mod Parts
 pub mod Spans
 pub mod Stored
+pub mod Runs
