@@ -3,6 +3,7 @@ use limits::MOST_BUCKETS;
 use limits::MOST_LIVE;
 use limits::MOST_ROWS;
 use limits::MOST_VERSIONS;
+use links::within;
 use places::Sizes;
 use record::Transaction;
 use record::idle;
@@ -10,16 +11,6 @@ ghost use mathlib.Core.Path.{_≡_};
 ghost use Rattle.model.specs.Shape as model;
 ghost use Rattle.model.specs.Machine.{canOpen};
 ghost use Rattle.steps.specs.Words.{sizesView, freePlaces};
-
-// Whether a number is from 1 to the most.
-pub fn within(n: u64, most: u64) -> bool
-    ensures { λ r. ⌜ r ≡ model.within n most ⌝ }
-{
-    if n < 1 {
-        return false;
-    }
-    n <= most
-}
 
 // Whether sizes are within limits.
 pub fn good_sizes(sizes: Sizes) -> bool

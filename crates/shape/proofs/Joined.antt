@@ -42,7 +42,9 @@ use Rattle.bridge.proofs.Starting.{nonzero, pick-nonzero, live-nonzero}
 use Rattle.bridge.proofs.Needing.{written-pending, pending-written}
 use Rattle.bridge.proofs.Distinct.{sorted-pending, listed-pending}
 use Rattle.shape.specs.Shape.{tablesLent, inPlace, allInPlace, tablesFit, shapeOf}
-use Rattle.shape.specs.Tests.{chainsFit, countsFit, writesIn, rangesFit, headedBy, headsFit, leastOf, txnFits, placeFits, txnsFit, unlike, distinctAt, allDistinct}
+use Rattle.links.specs.Links.{chainsFit}
+use Rattle.fits.specs.Fits.{countsFit, writesIn, rangesFit, headedBy, headsFit, leastOf, txnFits, placeFits}
+use Rattle.shape.specs.Tests.{txnsFit, unlike, distinctAt, allDistinct}
 
 -- the second test matters only where the first holds
 and-same : (a a′ b b′ : Bool) → a ≡ a′ → (a′ ≡ true → b ≡ b′) → a && b ≡ a′ && b′

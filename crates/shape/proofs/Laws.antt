@@ -1,50 +1,18 @@
--- Tests of every number below a bound, and how the loops go through them.
+-- A sum within a limit, the record at a place, and lists that are filled place by place.
 -- Assumes nothing.
-use Prim.Native.Nat.{ℕ, zero, suc, _+_, _-_, _<_, _≤_}
+use Prim.Native.Nat.{ℕ, _+_, _-_, _<_, _≤_}
 use mathlib.Core.Path.{_≡_, refl, sym, ap, _∙_}
-use mathlib.Core.Bool.{Bool, true, false, cond, and-false}
+use mathlib.Core.Bool.{Bool, true, false}
 use mathlib.Core.List.{List, map}
-use native.Mathlib.Decide.{decLt}
 use native.Mathlib.Numerals.{add-one}
 use native.Mathlib.Omega.{arith}
-use lib.Dec.{ltb, leb}
+use lib.Dec.{leb}
 use borrow.Author.Tests.{leb-true, leb-false, le-leb, lt-leb}
-use lib.ListN.{length, take, drop, getD, set, length-take, length-map, drop-of-length-le, List·getD-map}
-use lib.Seq.{drop-cons, getD-take, take-all, take-suc, take-suc-set}
-use Rattle.model.specs.Lists.{every, least}
+use lib.ListN.{length, take, getD, set, length-map, List·getD-map}
+use lib.Seq.{take-all, take-suc, take-suc-set}
 use Rattle.record.specs.Methods.{idleOf}
 use Rattle.record.specs.declared.Transaction.{Transaction}
 use Rattle.bridge.proofs.Places.{default-any}
-
--- none, one more, all, and one that fails
-pub every-none : (test : ℕ → Bool) → every 0 test ≡ true
-unfolding every
-every-none test = refl
-
-module _ (test : ℕ → Bool) (i : ℕ) where
-  pub every-next : every i test ≡ true → test i ≡ true → every (i + 1) test ≡ true
-  unfolding every
-  every-next e t = rw (add-one, e, t)
-
-  pub every-done : (n : ℕ) → i ≤ n → n ≤ i → every i test ≡ true → true ≡ every n test
-  every-done n a b e = let d : i ≡ n = omega arith in sym (sym (ap (λ (j : ℕ). every j test) d) ∙ e)
-
-  pub every-fails : (n : ℕ) → i < n → test i ≡ false → false ≡ every n test
-  unfolding every
-  every-fails zero h e = absurd (omega arith)
-  every-fails (suc n) h e = elim (decLt i n) [ yes l ↦ rw (← every-fails n l e) | no l ↦ let d : i ≡ n = omega (arith, l) in rw (← d, e, and-false) ]
-
--- the least of a number and what is left of a list
-module _ (l : List ℕ) (n i : ℕ) where
-  pub least-next : (x : ℕ) → i < n → i < length l → least x (drop i (take n l)) ≡ least (cond (ltb (getD l i 0) x) (getD l i 0) x) (drop (i + 1) (take n l))
-  unfolding least
-  least-next x h k =
-      let m : i < length (take n l) = rw length-take (omega arith) in
-      rw (add-one, drop-cons (take n l) i 0, getD-take n l i 0)
-
-  pub least-end : (x : ℕ) → length (take n l) ≤ i → least x (drop i (take n l)) ≡ x
-  unfolding least
-  least-end x h = rw (drop-of-length-le (take n l) h)
 
 -- a sum within a limit, by what is left of the limit
 pub sum-leb : (a b limit : ℕ) → a ≤ limit → leb b (limit - a) ≡ leb (a + b) limit

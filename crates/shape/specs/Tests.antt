@@ -1,85 +1,17 @@
--- The tests of the shape as the code makes them, word by word.
-use Prim.Native.Nat.{ℕ, suc}
-use mathlib.Core.Bool.{Bool, not, _&&_, _||_}
+-- The tests of the eight records as the code makes them.
+use Prim.Native.Nat.{ℕ}
+use mathlib.Core.Bool.{Bool, not, _||_}
 use mathlib.Core.List.{List}
-use lib.Dec.{eqb, ltb, leb}
-use lib.ListN.{take, getD}
-use Rattle.limits.specs.Limits.{mostLive, mostIndexReads, mostWrites, mostRecords, mostRows}
-use Rattle.model.specs.Lists.{every, least}
-use Rattle.model.specs.Store.{rank, bucketIn}
-use Rattle.model.specs.Shape.{within}
-use Rattle.tables.specs.Fields.{headOf, xminOf, nextOf}
-use Rattle.tables.specs.Lists.{readAt, writeAt, recordAt, candidateAt}
-use Rattle.record.specs.View.{phaseView}
+use lib.Dec.{eqb}
+use lib.ListN.{getD}
+use Rattle.limits.specs.Limits.{mostLive}
+use Rattle.model.specs.Lists.{every}
 use Rattle.record.specs.Methods.{idleOf}
 use Rattle.record.specs.declared.Transaction.{Transaction}
 use Rattle.places.specs.declared.Sizes.{Sizes}
+use Rattle.fits.specs.Fits.{placeFits}
 
--- heads at most the last used pointer; each next below its own pointer
-abbrev pub headsIn : List ℕ → ℕ → ℕ → Bool
-headsIn rows n used = every n (λ r. leb (headOf rows r) used)
-
-abbrev pub nextsFall : List ℕ → ℕ → Bool
-nextsFall versions used = every used (λ p. ltb (nextOf versions (suc p)) (suc p))
-
-abbrev pub chainsFit : List ℕ → List ℕ → Sizes → ℕ → Bool
-chainsFit rows versions z used = leb used (z .versions) && headsIn rows (z .rows) used && nextsFall versions used
-
--- counts within limits
-abbrev pub countsFit : Transaction → Bool
-countsFit t = leb (t .«reads_n») mostIndexReads && leb (t .«writes_n») mostWrites && leb (t .«records_n») mostRecords && leb (t .«candidates_n») mostRows
-
--- rows, buckets and recorded pointers in range
-abbrev pub writesIn : List ℕ → ℕ → ℕ → ℕ → Bool
-writesIn lists slot n rows = every n (λ i. ltb (writeAt lists slot i .row) rows)
-
-abbrev pub recordIn : ℕ → ℕ → ℕ → ℕ → Bool
-recordIn rows used row ptr = ltb row rows && within ptr used
-
-abbrev pub recordsIn : List ℕ → ℕ → ℕ → ℕ → ℕ → Bool
-recordsIn lists slot n rows used = every n (λ i. recordIn rows used (recordAt lists slot i .row) (recordAt lists slot i .ptr))
-
-abbrev pub candidatesIn : List ℕ → ℕ → ℕ → ℕ → Bool
-candidatesIn lists slot n rows = every n (λ i. ltb (candidateAt lists slot i) rows)
-
-abbrev pub readsIn : List ℕ → ℕ → ℕ → ℕ → Bool
-readsIn lists slot n buckets = every n (λ i. ltb (readAt lists slot i .bucket) buckets)
-
-unfoldable pub rangesFit : List ℕ → Sizes → ℕ → Transaction → Bool
-rangesFit lists z used t =
-    writesIn lists (t .slot) (t .«writes_n») (z .rows)
-    && recordsIn lists (t .slot) (t .«records_n») (z .rows) used
-    && candidatesIn lists (t .slot) (t .«candidates_n») (z .rows)
-    && readsIn lists (t .slot) (t .«reads_n») (z .buckets)
-    && ltb (bucketIn (phaseView (t .phase))) (z .buckets)
-
--- a row headed by a version of this number
-abbrev pub headedBy : List ℕ → List ℕ → ℕ → ℕ → Bool
-headedBy rows versions n r = leb 1 (headOf rows r) && eqb (xminOf versions (headOf rows r)) n
-
-abbrev pub rowsHeaded : List ℕ → List ℕ → List ℕ → ℕ → ℕ → ℕ → Bool
-rowsHeaded rows versions lists slot n number = every n (λ i. headedBy rows versions number (writeAt lists slot i .row))
-
--- each pending row of an Installed or Ended transaction
-unfoldable pub headsFit : List ℕ → List ℕ → List ℕ → Transaction → Bool
-headsFit rows versions lists t = ltb (rank (phaseView (t .phase))) 5 || rowsHeaded rows versions lists (t .slot) (t .«writes_n») (t .number)
-
--- snapshot xmin the least of its active numbers and its own
-abbrev pub leastOf : Transaction → ℕ
-leastOf t = least (t .number) (take (t .snapshot .«active_n») (t .snapshot .active))
-
--- a live transaction, and what stands at a place
-unfoldable pub txnFits : List ℕ → List ℕ → List ℕ → Sizes → ℕ → ℕ → Transaction → Bool
-txnFits rows versions lists z clock used t =
-    ltb (t .number) clock
-    && eqb (t .snapshot .xmin) (leastOf t)
-    && countsFit t
-    && rangesFit lists z used t
-    && headsFit rows versions lists t
-
-unfoldable pub placeFits : List ℕ → List ℕ → List ℕ → Sizes → ℕ → ℕ → Transaction → Bool
-placeFits rows versions lists z clock used t = eqb (t .number) 0 || txnFits rows versions lists z clock used t
-
+-- each record has its shape, or its place is free
 abbrev pub txnsFit : List ℕ → List ℕ → List ℕ → Sizes → ℕ → ℕ → List Transaction → Bool
 txnsFit rows versions lists z clock used ts = every mostLive (λ i. placeFits rows versions lists z clock used (getD ts i (idleOf i)))
 

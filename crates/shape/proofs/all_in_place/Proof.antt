@@ -9,7 +9,8 @@ use lib.ListN.{length, getD}
 use borrow.Author.Tests.{not-true, not-false}
 use Rattle.model.specs.Lists.{every}
 use Rattle.record.specs.Methods.{idleOf}
-use Rattle.shape.proofs.Laws.{every-none, every-next, every-done, every-fails, test-at}
+use Rattle.links.proofs.Laws.{every-none, every-next, every-done, every-fails}
+use Rattle.shape.proofs.Laws.{test-at}
 use Rattle.shape.specs.Shape.{inPlace}
 use Rattle.shape.proofs.all_in_place.Statement.{statement}
 use Rattle.shape.proofs.all_in_place.Tie as tie

@@ -5,7 +5,7 @@ use mathlib.Core.Path.{_≡_}
 use mathlib.Core.Bool.{true}
 use Prim.Native.Nat.{_≤_, _-_}
 use native.Mathlib.Omega.{arith}
-use Rattle.shape.proofs.Laws.{every-none, every-next, every-done, every-fails}
+use Rattle.links.proofs.Laws.{every-none, every-next, every-done, every-fails}
 use borrow.Author.Tests.{not-true, not-false}
 use Rattle.model.specs.Lists.{every}
 use Rattle.shape.specs.Tests.{distinctAt}

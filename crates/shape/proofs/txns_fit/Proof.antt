@@ -9,8 +9,9 @@ use lib.ListN.{length, getD}
 use borrow.Author.Tests.{not-true, not-false}
 use Rattle.model.specs.Lists.{every}
 use Rattle.record.specs.Methods.{idleOf}
-use Rattle.shape.proofs.Laws.{every-none, every-next, every-done, every-fails, test-at}
-use Rattle.shape.specs.Tests.{placeFits}
+use Rattle.links.proofs.Laws.{every-none, every-next, every-done, every-fails}
+use Rattle.shape.proofs.Laws.{test-at}
+use Rattle.fits.specs.Fits.{placeFits}
 use Rattle.shape.proofs.txns_fit.Statement.{statement}
 use Rattle.shape.proofs.txns_fit.Tie as tie
 

@@ -1,0 +1,241 @@
+// What the shape asks of one transaction's record and its lists.
+use limits::MOST_ACTIVE;
+use limits::MOST_INDEX_READS;
+use limits::MOST_RECORDS;
+use limits::MOST_ROWS;
+use limits::MOST_WRITES;
+use links::within;
+use places::Sizes;
+use record::Transaction;
+use record::bucket_in;
+use record::phase_rank;
+use tables::head_at;
+use tables::lists::candidate_at;
+use tables::lists::read_bucket_at;
+use tables::lists::record_ptr_at;
+use tables::lists::record_row_at;
+use tables::lists::write_row_at;
+use tables::xmin_at;
+ghost use mathlib.Core.Path.{_≡_};
+ghost use mathlib.Core.Bool.{cond};
+ghost use lib.Dec.{ltb};
+ghost use lib.ListN.{take};
+ghost use Rattle.model.specs.Lists.{least};
+ghost use Rattle.fits.specs.Fits.{countsFit, writesIn, recordIn, recordsIn, candidatesIn, readsIn, rangesFit, headedBy, rowsHeaded, headsFit, txnFits, placeFits};
+
+// Whether counts are within limits.
+fn counts_fit(t: Transaction) -> bool
+    ensures { λ r. ⌜ r ≡ countsFit t ⌝ }
+{
+    if t.reads_n > MOST_INDEX_READS {
+        return false;
+    }
+    if t.writes_n > MOST_WRITES {
+        return false;
+    }
+    if t.records_n > MOST_RECORDS {
+        return false;
+    }
+    t.candidates_n <= MOST_ROWS as u32
+}
+
+// Whether rows, buckets and recorded pointers are in range, list by list.
+fn writes_in(lists: &[u64], slot: u32, count: u32, row_count: u64) -> bool
+    ensures { λ r. ⌜ r ≡ writesIn (now (lists .entry)) slot count «row_count» ⌝ }
+{
+    let mut i: u32 = 0;
+    while i < count {
+        if write_row_at(lists, slot, i) >= row_count {
+            return false;
+        }
+        i += 1;
+    }
+    true
+}
+
+fn record_in(row_count: u64, used: u64, row: u64, ptr: u64) -> bool
+    ensures { λ r. ⌜ r ≡ recordIn «row_count» used row ptr ⌝ }
+{
+    if row >= row_count {
+        return false;
+    }
+    within(ptr, used)
+}
+
+fn records_in(lists: &[u64], slot: u32, count: u32, row_count: u64, used: u64) -> bool
+    ensures { λ r. ⌜ r ≡ recordsIn (now (lists .entry)) slot count «row_count» used ⌝ }
+{
+    let mut i: u32 = 0;
+    while i < count {
+        if !record_in(
+            row_count,
+            used,
+            record_row_at(lists, slot, i),
+            record_ptr_at(lists, slot, i),
+        ) {
+            return false;
+        }
+        i += 1;
+    }
+    true
+}
+
+fn candidates_in(lists: &[u64], slot: u32, count: u32, row_count: u64) -> bool
+    ensures { λ r. ⌜ r ≡ candidatesIn (now (lists .entry)) slot count «row_count» ⌝ }
+{
+    let mut i: u32 = 0;
+    while i < count {
+        if candidate_at(lists, slot, i) >= row_count {
+            return false;
+        }
+        i += 1;
+    }
+    true
+}
+
+fn reads_in(lists: &[u64], slot: u32, count: u32, bucket_count: u64) -> bool
+    ensures { λ r. ⌜ r ≡ readsIn (now (lists .entry)) slot count «bucket_count» ⌝ }
+{
+    let mut i: u32 = 0;
+    while i < count {
+        if read_bucket_at(lists, slot, i) >= bucket_count {
+            return false;
+        }
+        i += 1;
+    }
+    true
+}
+
+fn ranges_fit(lists: &[u64], sizes: Sizes, used: u64, t: Transaction) -> bool
+    ensures { λ r. ⌜ r ≡ rangesFit (now (lists .entry)) sizes used t ⌝ }
+{
+    let phase = t.phase;
+    if !writes_in(lists, t.slot, t.writes_n, sizes.rows) {
+        return false;
+    }
+    if !records_in(lists, t.slot, t.records_n, sizes.rows, used) {
+        return false;
+    }
+    if !candidates_in(lists, t.slot, t.candidates_n, sizes.rows) {
+        return false;
+    }
+    if !reads_in(lists, t.slot, t.reads_n, sizes.buckets) {
+        return false;
+    }
+    bucket_in(phase) < sizes.buckets
+}
+
+// Whether a row is headed by a version of this number.
+fn headed_by(rows_table: &[u64], versions: &[u64], number: u64, row: u64) -> bool
+    ensures { λ r. ⌜ r ≡ headedBy (now («rows_table» .entry)) (now (versions .entry)) number row ⌝ }
+{
+    let head = head_at(rows_table, row as usize);
+    if head < 1 {
+        return false;
+    }
+    xmin_at(versions, head as usize) == number
+}
+
+fn rows_headed(
+    rows_table: &[u64],
+    versions: &[u64],
+    lists: &[u64],
+    slot: u32,
+    count: u32,
+    number: u64,
+) -> bool
+    ensures { λ r. ⌜ r ≡ rowsHeaded (now («rows_table» .entry)) (now (versions .entry)) (now (lists .entry)) slot count number ⌝ }
+{
+    let mut i: u32 = 0;
+    while i < count {
+        if !headed_by(rows_table, versions, number, write_row_at(lists, slot, i)) {
+            return false;
+        }
+        i += 1;
+    }
+    true
+}
+
+// Whether each pending row of an Installed or Ended transaction is headed by its own version.
+fn heads_fit(rows_table: &[u64], versions: &[u64], lists: &[u64], t: Transaction) -> bool
+    ensures { λ r. ⌜ r ≡ headsFit (now («rows_table» .entry)) (now (versions .entry)) (now (lists .entry)) t ⌝ }
+{
+    let phase = t.phase;
+    if phase_rank(phase) < 5 {
+        return true;
+    }
+    rows_headed(rows_table, versions, lists, t.slot, t.writes_n, t.number)
+}
+
+// The lesser of two numbers.
+fn lower(x: u64, n: u64) -> u64
+    ensures { λ r. ⌜ r ≡ cond (ltb x n) x n ⌝ }
+{
+    if x < n {
+        return x;
+    }
+    n
+}
+
+// The least of a number and the first n active numbers.
+fn least_of(number: u64, active: [u64; MOST_ACTIVE], n: usize) -> u64
+    ensures { λ r. ⌜ r ≡ least number (take n active) ⌝ }
+{
+    let mut lowest = number;
+    let mut i = 0;
+    while i < MOST_ACTIVE {
+        if n <= i {
+            return lowest;
+        }
+        lowest = lower(active[i], lowest);
+        i += 1;
+    }
+    lowest
+}
+
+// Whether a live transaction has its shape.
+fn txn_fits(
+    rows_table: &[u64],
+    versions: &[u64],
+    lists: &[u64],
+    sizes: Sizes,
+    clock: u64,
+    used: u64,
+    t: Transaction,
+) -> bool
+    ensures { λ r. ⌜ r ≡ txnFits (now («rows_table» .entry)) (now (versions .entry)) (now (lists .entry)) sizes clock used t ⌝ }
+{
+    let snapshot = t.snapshot;
+    let active = snapshot.active;
+    if t.number >= clock {
+        return false;
+    }
+    if snapshot.xmin != least_of(t.number, active, snapshot.active_n) {
+        return false;
+    }
+    if !counts_fit(t) {
+        return false;
+    }
+    if !ranges_fit(lists, sizes, used, t) {
+        return false;
+    }
+    heads_fit(rows_table, versions, lists, t)
+}
+
+// The same of what stands at a place; a free one is asked for nothing.
+pub fn place_fits(
+    rows_table: &[u64],
+    versions: &[u64],
+    lists: &[u64],
+    sizes: Sizes,
+    clock: u64,
+    used: u64,
+    t: Transaction,
+) -> bool
+    ensures { λ r. ⌜ r ≡ placeFits (now («rows_table» .entry)) (now (versions .entry)) (now (lists .entry)) sizes clock used t ⌝ }
+{
+    if t.number == 0 {
+        return true;
+    }
+    txn_fits(rows_table, versions, lists, sizes, clock, used, t)
+}
