@@ -6,7 +6,6 @@ use lib.Dec.{eqb, ltb}
 use lib.ListN.{getD, set}
 use Rattle.limits.specs.Limits.{mostLive}
 use Rattle.tables.specs.Fields.{setHead, setXmin, setXmax, setNext, setStamp, setHolder}
-use Rattle.chain.specs.declared.Snapshot.{Snapshot}
 use Rattle.record.specs.Methods.{idleOf}
 use Rattle.record.specs.declared.Transaction.{Transaction}
 use Rattle.shape.specs.declared.Machine.{Machine}
