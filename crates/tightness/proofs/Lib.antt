@@ -7,6 +7,8 @@ pub mod Scans
 pub mod Chain
 pub mod Record
 pub mod Places
+pub mod Links
+pub mod Fits
 pub mod Holders
 pub mod Verdict
 pub mod Install
@@ -14,6 +16,8 @@ pub mod Prepare
 pub mod Publish
 pub mod Begin
 pub mod Matching
+pub mod Gathering
+pub mod Recording
 pub mod Rows
 pub mod Steps
 pub mod Opening

@@ -4,7 +4,7 @@ use Prim.Native.Nat.{ℕ, suc}
 use mathlib.Core.Path.{refl}
 use mathlib.Core.Bool.{_&&_}
 use mathlib.Core.List.{List, map}
-use lib.Dec.{ltb, leb}
+use lib.Dec.{leb}
 use lib.ListN.{getD, replicate}
 use Rattle.limits.specs.Limits.{mostRows, mostVersions, mostBuckets, mostLive}
 use Rattle.model.specs.Shape as model
@@ -16,14 +16,6 @@ use Rattle.steps.specs.Words.{sizesView, freePlaces}
 use Rattle.tightness.specs.Wrong.{Excludes}
 use Rattle.tightness.proofs.Apart.{apart, bit}
 use Rattle.tightness.proofs.Computes.{computes}
-
--- `within`: 0 is let in
-pub within-zero : Excludes {A = ℕ × ℕ} (λ (n, most). model.within n most) (λ (n, most). leb n most)
-within-zero = apart (0, 1) bit refl
-
--- `within`: the most itself is kept out
-pub within-below-most : Excludes {A = ℕ × ℕ} (λ (n, most). model.within n most) (λ (n, most). leb 1 n && ltb n most)
-within-below-most = apart (1, 1) bit refl
 
 -- `good_sizes`: the rows are measured by the versions' limit
 pub good-sizes-other-limit : Excludes (λ (z : Sizes). model.goodSizes (sizesView z)) (λ z. model.within (z .rows) mostVersions && model.within (z .versions) mostVersions && model.within (z .buckets) mostBuckets)

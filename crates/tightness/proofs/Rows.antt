@@ -1,6 +1,6 @@
 -- Wrong bodies of the crate `reads`.
 -- Assumes nothing.
-use Prim.Native.Nat.{ℕ, suc}
+use Prim.Native.Nat.{ℕ}
 use mathlib.Core.Path.{refl}
 use mathlib.Core.Bool.{cond, not}
 use mathlib.Core.List.{List, [], _∷_, _++_}
@@ -13,8 +13,7 @@ use Rattle.record.specs.Methods.{withCandidates}
 use Rattle.record.specs.declared.Phase.the-variants as phase
 use Rattle.record.specs.declared.Transaction.{Transaction}
 use Rattle.matching.specs.Matching.{look}
-use Rattle.reads.specs.Rows.{candidateRows, wantedRows, matchedRows, LeftRows, refusedRows, answerOf, readingOf, rowsOf}
-use Rattle.reads.specs.Inner.{Run, copied}
+use Rattle.reads.specs.Rows.{matchedRows, LeftRows, refusedRows, answerOf, readingOf, rowsOf}
 use Rattle.tightness.specs.Wrong.{Excludes}
 use Rattle.tightness.proofs.Apart.{apart, numberIn}
 use Rattle.tightness.proofs.Computes.{computes}
@@ -47,24 +46,3 @@ pub rows-unrecorded : Excludes reads (λ (rows, versions, lists, found, rowCount
     (answerOf lists found t room (matchedRows (look rows versions lists used t (keyIn (phaseView (t .phase)))) rowCount) []))
 unfolding computes
 rows-unrecorded = apart seen (λ (l : LeftRows). l .reply .txn .«records_n») refl
-
--- what gather is given: lists, the place for the rows, the record and the bound
-abbrev Gathered : Type 0
-Gathered = List ℕ × List ℕ × Transaction × ℕ
-
-abbrev gathers : Gathered → Run
-gathers (lists, out, t, bound) = copied out 0 bound (wantedRows lists t)
-
--- one pending write of row 0, and a bound
-abbrev oneWrite : ℕ → Gathered
-oneWrite bound = (puts, 9 ∷ [], writer phase.Open, bound)
-
--- `gather`: the own pending rows are left out
-pub gather-candidates-only : Excludes gathers (λ (lists, out, t, bound). copied out 0 bound (candidateRows lists (t .slot) (t .«candidates_n»)))
-unfolding computes
-gather-candidates-only = apart (oneWrite 1) (λ (r : Run). r .n) refl
-
--- `gather`: the bound itself is below the bound
-pub gather-bound-in : Excludes gathers (λ (lists, out, t, bound). copied out 0 (suc bound) (wantedRows lists t))
-unfolding computes
-gather-bound-in = apart (oneWrite 0) (λ (r : Run). r .n) refl
