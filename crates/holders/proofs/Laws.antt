@@ -1,17 +1,17 @@
 -- How lists in lent words and runs over a list go on by one.
 -- Assumes nothing.
-use Prim.Native.Nat.{ℕ, zero, suc, _+_, _<_, _≤_, min}
-use mathlib.Core.Path.{_≡_, refl, sym, ap, _∙_}
-use mathlib.Core.Bool.{Bool, true, false, cond, _||_}
-use mathlib.Core.Option.{Option, none, some}
+use Prim.Native.Nat.{ℕ, _+_, _<_, _≤_, min}
+use mathlib.Core.Path.{_≡_, refl}
+use mathlib.Core.Bool.{Bool, true, false}
+use mathlib.Core.Option.{none}
 use mathlib.Core.List.{List, [], _∷_, _++_, map}
 use native.Mathlib.Numerals.{add-one}
 use native.Mathlib.Omega.{arith}
 use lib.Dec.{eqb, ltb}
 use borrow.Author.Tests.{ltb-true}
-use lib.ListN.{length, take, drop, getD, set, length-take, length-set, drop-of-length-le}
-use lib.Seq.{slice-cons, getD-take, drop-cons}
-use Rattle.model.specs.Lists.{some-of, join}
+use lib.ListN.{length, take, drop, getD, length-take, length-set, drop-of-length-le}
+use lib.Seq.{getD-take, drop-cons}
+use Rattle.model.specs.Lists.{join}
 use Rattle.model.specs.Store.{sameKey}
 use Rattle.record.specs.View.{keyView}
 use Rattle.tables.specs.Lists.{Kind, listAt, entryAt}

@@ -5,7 +5,7 @@ use mathlib.Core.List.{List, [], _∷_}
 use lib.Dec.{eqb}
 use Rattle.model.specs.Lists.{some-of}
 use Rattle.record.specs.Methods.{takenBy}
-use Rattle.tables.specs.Fields.{claimOf, setClaim, stampOf, setStamp, holderOf, setHolder}
+use Rattle.tables.specs.Fields.{claimOf, setClaim, setStamp, holderOf, setHolder}
 
 -- a bucket of the list is held by another; a row of the list is claimed by another
 abbrev pub anyTaken : List ℕ → ℕ → List ℕ → Bool

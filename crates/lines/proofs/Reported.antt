@@ -8,7 +8,7 @@ use lib.ListN.{length, drop, length-append, length-drop}
 use lib.Seq.{take-append-seam, drop-append-add, drop-drop}
 use Rattle.model.specs.Replay.{mostRoom}
 use Rattle.lines.specs.declared.Wrote.the-variants.{Next, Full}
-use Rattle.lines.specs.Lines.{laid, Written, writtenAt}
+use Rattle.lines.specs.Lines.{laid, writtenAt}
 use Rattle.lines.proofs.Writing.{written-full, written-next}
 
 -- the lent report with the text from its start

@@ -5,7 +5,7 @@ ghost use Prim.Native.Nat.{_+_, _*_, _≤_, min};
 ghost use lib.ListN.{length};
 ghost use Rattle.model.specs.Report.{decimal, spaced, line};
 ghost use Rattle.model.specs.Replay.{mostRoom};
-ghost use Rattle.lines.specs.Lines.{laid, Written, writtenAt};
+ghost use Rattle.lines.specs.Lines.{laid, writtenAt};
 
 // Where the next line begins, or that the line does not fit.
 pub enum Wrote {

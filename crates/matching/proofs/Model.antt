@@ -31,7 +31,6 @@ use Rattle.scans.specs.declared.Found.the-variants as place
 use Rattle.scans.proofs.Laws.{fields-length, fields-last, last-end}
 use Rattle.scans.proofs.Places.{isPlace}
 use Rattle.chain.specs.Chain.{activeOf, visibleTo, firstVisible}
-use Rattle.chain.specs.Chain as chain
 use Rattle.chain.specs.declared.Snapshot.{Snapshot}
 use Rattle.chain.specs.declared.Pointer.{Pointer}
 use Rattle.chain.specs.declared.Pointer.the-variants as pointer

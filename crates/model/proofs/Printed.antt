@@ -4,7 +4,7 @@ use mathlib.Core.List.{List, [], _∷_, _++_}
 use Prim.Native.Nat.{ℕ}
 use Rattle.model.specs.Log.{number, widths, total, fields, commandOf, whole, readRecord}
 use Rattle.model.specs.Report.{digitsStep, digitsFor, decimal, spaced, line}
-use Rattle.model.specs.Replay.{Replayed, writeThen, turn, replayFor, replayFrom, replay}
+use Rattle.model.specs.Replay.{writeThen, turn, replayFor, replayFrom, replay}
 use Rattle.model.proofs.Computes.{computes}
 
 -- open 4 8 4 1; begin; put 1 row 2 key 6 payload 10; prepare 1; install 1; end 1; publish 1; begin; capture 3 key 6; collect 3; rows 3 room 4; begin; put 4 row 0 key 2 payload 7; prepare 4; validate 3; install 4; end 4; publish 4; validate 3; prepare 3

@@ -1,11 +1,11 @@
 -- The machine: open, one step with its answer, any sequence of steps.
 use Prim.Native.Nat.{ℕ}
-use mathlib.Core.Bool.{Bool, true, false, cond, not, _&&_}
+use mathlib.Core.Bool.{Bool, true, false, cond, _&&_}
 use mathlib.Core.Option.{Option, none, some}
 use mathlib.Core.List.{List, [], _∷_, _++_}
 use lib.Dec.{leb}
 use lib.ListN.{length, drop}
-use Rattle.model.specs.Store.{Sizes, Store, Write, fresh, Ended, keyIn, bucketOf}
+use Rattle.model.specs.Store.{Sizes, Store, Ended, keyIn, bucketOf}
 use Rattle.model.specs.Verdict.{Verdict, verdict, verdictNumber, verdictValues}
 use Rattle.model.specs.Steps.{begun, stale, captured, collected, postedRows, foundRows, readDone, written, prepared, installed, becomes, published, ended}
 use Rattle.model.specs.Refusals.{Refusal, WrongSize, NoNumbers, Full, NoSuch, WrongPhase, NoRow, Taken, Stale, Marked, ManyReads, NoRoom, ManyRecords, ManyWrites, NoVersions, Conflict, Malformed, WrongShape, refusalNumber, Step, begin, capture, collect, rows, put, erase, prepare, install, end, publish, validate, abort, placeOf, txnOf, checks, refusal}

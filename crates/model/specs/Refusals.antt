@@ -1,11 +1,11 @@
 -- The refusals: each with its number, when it is given, and in which order.
 use Prim.Native.Nat.{ℕ, zero, suc, _+_, min}
-use mathlib.Core.Bool.{Bool, true, false, cond, not, _&&_, _||_}
+use mathlib.Core.Bool.{Bool, cond, not, _&&_, _||_}
 use mathlib.Core.Option.{Option, none, some}
-use mathlib.Core.List.{List, [], _∷_, _++_}
+use mathlib.Core.List.{List, [], _∷_}
 use lib.Dec.{eqb, ltb, leb}
 use lib.ListN.{length}
-use Rattle.limits.specs.Limits.{mostRows, mostVersions, mostBuckets, mostLive, mostIndexReads, mostRecords, mostWrites, lastNumber}
+use Rattle.limits.specs.Limits.{mostRows, mostLive, mostIndexReads, mostRecords, mostWrites, lastNumber}
 use Rattle.model.specs.Lists.{pick, first, some-of}
 use Rattle.model.specs.Store.{Sizes, Txn, Store, rank, bucketOf}
 use Rattle.model.specs.Seeing.{live}

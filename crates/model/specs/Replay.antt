@@ -1,13 +1,13 @@
 -- Replay of a whole log: a status, and the text of the report.
 use Prim.Native.Nat.{ℕ, zero, suc, _+_, _*_, min}
-use mathlib.Core.Bool.{Bool, true, false, cond}
+use mathlib.Core.Bool.{cond}
 use mathlib.Core.Option.{Option, none, some}
 use mathlib.Core.List.{List, [], _∷_, _++_}
 use lib.Dec.{leb}
 use lib.ListN.{length, drop}
 use Rattle.model.specs.Store.{Sizes, Store, fresh}
-use Rattle.model.specs.Refusals.{Refusal, WrongSize, Malformed, refusalNumber, Step}
-use Rattle.model.specs.Machine.{Stepped, step, canOpen}
+use Rattle.model.specs.Refusals.{WrongSize, Malformed, refusalNumber, Step}
+use Rattle.model.specs.Machine.{step, canOpen}
 use Rattle.model.specs.Log.{Command, Opening, Asking, readRecord}
 use Rattle.model.specs.Report.{openWord, badWord, line, answerLine}
 

@@ -1,8 +1,8 @@
 -- Seeing a row: what a snapshot sees of a chain, and when a row matches a key.
-use Prim.Native.Nat.{ℕ, zero, suc, _≤_}
-use mathlib.Core.Bool.{Bool, true, false, cond, not, _&&_, _||_}
+use Prim.Native.Nat.{ℕ, zero, suc}
+use mathlib.Core.Bool.{Bool, false, cond, not, _&&_, _||_}
 use mathlib.Core.Option.{Option, none, some}
-use mathlib.Core.List.{List, [], _∷_, _++_, map}
+use mathlib.Core.List.{List, [], _∷_, map}
 use lib.Dec.{eqb, ltb, leb}
 use Rattle.model.specs.Lists.{member, least, pick}
 use Rattle.model.specs.Store.{Chains, Snapshot, Write, ReadRecord, Txn, Store, sameKey, rank}

@@ -1,12 +1,11 @@
 -- The shape that public steps test first: a store of another shape gets 16.
 use Prim.Native.Nat.{ℕ, suc, _+_}
-use mathlib.Core.Bool.{Bool, true, false, cond, not, _&&_, _||_}
-use mathlib.Core.List.{List, [], _∷_}
+use mathlib.Core.Bool.{Bool, not, _&&_, _||_}
 use lib.Dec.{eqb, ltb, leb}
 use lib.ListN.{length}
 use Rattle.limits.specs.Limits.{mostRows, mostVersions, mostBuckets, mostLive, mostActive, mostIndexReads, mostRecords, mostWrites, lastNumber}
 use Rattle.model.specs.Lists.{least, every, all-of}
-use Rattle.model.specs.Store.{Sizes, Chains, Snapshot, IndexRead, Write, ReadRecord, Txn, Store, rank, bucketIn}
+use Rattle.model.specs.Store.{Sizes, Chains, IndexRead, Write, ReadRecord, Txn, Store, rank, bucketIn}
 use Rattle.model.specs.Seeing.{live}
 use Rattle.model.specs.Steps.{pendingRows}
 use Rattle.model.specs.Refusals.{liveCount, reserved}

@@ -1,13 +1,12 @@
 -- The steps of a transaction: what each leaves where it is not refused. Place i is where the transaction stands.
 use Prim.Native.Nat.{ℕ, suc, _+_}
-use mathlib.Core.Bool.{Bool, true, false, cond, not, _&&_, _||_}
+use mathlib.Core.Bool.{Bool, true, false, cond, _&&_, _||_}
 use mathlib.Core.Option.{Option, none, some}
 use mathlib.Core.List.{List, [], _∷_, _++_, map}
-use lib.Dec.{eqb, ltb}
-use lib.ListN.{length}
+use lib.Dec.{eqb}
 use Rattle.model.specs.Lists.{member, least, pick, some-of, join}
 use Rattle.model.specs.Table.{update, updateAll}
-use Rattle.model.specs.Store.{Sizes, Chains, Index, Held, Snapshot, Phase, Open, Holding, Collected, Prepared, Installed, Ended, IndexRead, Write, ReadRecord, Txn, Store, noTxn, bucketIn, keyIn, sameKey, bucketOf}
+use Rattle.model.specs.Store.{Sizes, Chains, Index, Held, Phase, Open, Holding, Collected, Prepared, Installed, IndexRead, Write, ReadRecord, Txn, Store, noTxn, bucketIn, keyIn, sameKey, bucketOf}
 use Rattle.model.specs.Seeing.{keyAt, lastWrite, pending, writtenKey, matches, recordOf, activeNumbers}
 
 -- one part of the store, or of a transaction, anew

@@ -1,6 +1,6 @@
 -- The verdict: in this order the mark, the first index read whose bucket changed, the first read record that changed.
 use Prim.Native.Nat.{ℕ}
-use mathlib.Core.Bool.{Bool, true, false, cond, not, _&&_, _||_}
+use mathlib.Core.Bool.{Bool, cond, not, _&&_, _||_}
 use mathlib.Core.List.{List, [], _∷_}
 use lib.Dec.{eqb, ltb, leb}
 use Rattle.model.specs.Lists.{member}

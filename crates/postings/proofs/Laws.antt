@@ -1,7 +1,7 @@
 -- How a pick and a run of stores grow by one at their end.
 -- Assumes nothing.
-use Prim.Native.Nat.{ℕ, zero, suc, _+_, _≤_, _<_}
-use mathlib.Core.Path.{_≡_, refl, sym, ap, _∙_}
+use Prim.Native.Nat.{ℕ, zero, suc, _+_}
+use mathlib.Core.Path.{_≡_, refl, _∙_}
 use mathlib.Core.List.{List, [], _∷_, _++_}
 use mathlib.Core.Bool.{Bool, true, false, cond}
 use native.Mathlib.Nat.{add-zero, zero-add}
@@ -11,7 +11,7 @@ use lib.ListN.{length, set, length-append}
 use lib.Seq.{sets}
 use mathlib.Core.List.{append-nil}
 use Rattle.model.specs.Lists.{pick}
-use Rattle.tables.specs.Lists.{candidates, placeOf, stored}
+use Rattle.tables.specs.Lists.{candidates, placeOf}
 use Rattle.postings.specs.Postings.{Kept, postedWith, keptIn, keepOne}
 
 -- the last of the numbers joins where the test holds

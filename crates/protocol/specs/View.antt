@@ -1,5 +1,4 @@
 -- The code's steps and answers as the model has them.
-use Prim.Native.Nat.{ℕ}
 use lib.ListN.{length}
 use Rattle.model.specs.Refusals as model
 use Rattle.model.specs.Verdict as judged

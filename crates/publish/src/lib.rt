@@ -22,8 +22,7 @@ use tables::lists::write_row_at;
 use tables::set_posted;
 use tables::set_posted_key;
 ghost use mathlib.Core.Path.{_≡_};
-ghost use lib.ListN.{length};
-ghost use Rattle.holders.specs.Needs.{pushAll, rowsWritten};
+ghost use Rattle.holders.specs.Needs.{rowsWritten};
 ghost use Rattle.publish.specs.Publish.{endOf, postedOne, postedAll, stampedIn, freedIn, publishOf, abortOf};
 
 // Words for the buckets of all index reads and of the old and the new keys of all pending writes, and for the one that Holding carries.

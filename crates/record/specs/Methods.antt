@@ -6,7 +6,6 @@ use lib.Dec.{eqb, ltb, leb}
 use lib.ListN.{replicate, length}
 use Rattle.limits.specs.Limits.{mostActive, mostIndexReads, mostWrites}
 use Rattle.model.specs.Store.{rank, bucketIn, keyIn}
-use Rattle.protocol.specs.declared.Answer.{Answer}
 use Rattle.protocol.specs.declared.Answer.the-variants as tell
 use Rattle.tables.specs.Fields.{stampOf, holderOf, setHolder}
 use Rattle.tables.specs.Lists.{reads, writes, stored}
@@ -15,7 +14,6 @@ use Rattle.scans.specs.Scans.{readPrefix}
 use Rattle.scans.specs.declared.Found.{Found}
 use Rattle.scans.specs.declared.Found.the-variants.{At, Nothing}
 use Rattle.buckets.specs.Buckets.{precedes}
-use Rattle.chain.specs.declared.Snapshot.{Snapshot}
 use Rattle.postings.specs.Postings.{postedUpTo, keptIn}
 use Rattle.record.specs.declared.Phase.{Phase}
 use Rattle.record.specs.declared.Phase.the-variants as phase

@@ -1,10 +1,10 @@
 -- The transaction's record and the lent tables as the model has them.
 use Prim.Native.Nat.{ℕ, _*_, suc}
-use mathlib.Core.Bool.{Bool, cond}
+use mathlib.Core.Bool.{cond}
 use mathlib.Core.Option.{Option, none, some}
 use mathlib.Core.List.{List, map}
 use lib.Dec.{eqb}
-use lib.ListN.{take, getD}
+use lib.ListN.{take}
 use Rattle.model.specs.Store as model
 use Rattle.tables.specs.Fields.{rowWords, versionWords, bucketWords, headOf, claimOf, postedOf, postedKeyOf, xminOf, xmaxOf, nextOf, keyedOf, keyOf, payloadOf, stampOf, holderOf}
 use Rattle.tables.specs.Lists.{readsOf, writesOf, recordsOf, candidatesOf}

@@ -11,7 +11,7 @@ ghost use Prim.Native.Nat.{_≤_};
 ghost use lib.ListN.{take};
 ghost use Rattle.model.specs.Report.{wordOf};
 ghost use Rattle.protocol.specs.View.{asked};
-ghost use Rattle.lines.specs.Lines.{Written, writtenAt};
+ghost use Rattle.lines.specs.Lines.{writtenAt};
 ghost use Rattle.report.specs.Lines.{openLine, badLine, lineFor};
 
 // The kind's name, in the first `long` of eight bytes.

@@ -6,7 +6,6 @@ use lib.ListN.{length, getD, set}
 use Rattle.limits.specs.Limits.{mostLive, mostActive, mostIndexReads, mostWrites, mostRecords, mostRows}
 use Rattle.model.specs.Store as model
 use Rattle.protocol.specs.declared.Step.{Step}
-use Rattle.protocol.specs.declared.Answer.{Answer}
 use Rattle.tables.specs.Fields.{rowWords, versionWords, bucketWords}
 use Rattle.tables.specs.Lists.{listsWords}
 use Rattle.record.specs.View.{rowsPart, versionsPart, bucketsPart, chainsView, indexView, heldView, txnView}

@@ -5,7 +5,7 @@ use mathlib.Core.Path.{_≡_}
 use mathlib.Core.List.{List}
 use native.Mathlib.Nat.{mul-le-mul-left}
 use native.Mathlib.Omega.{arith}
-use lib.ListN.{length, take, length-take, List·getD-eq-default}
+use lib.ListN.{take, length-take, List·getD-eq-default}
 use lib.Seq.{getD-take, take-set-lt, take-set-le}
 use Rattle.tables.specs.Words.{field, setField}
 use Rattle.tables.proofs.Laws.{below}

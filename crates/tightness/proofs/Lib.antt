@@ -5,6 +5,7 @@ pub mod Tables
 pub mod Buckets
 pub mod Scans
 pub mod Chain
+pub mod Postings
 pub mod Record
 pub mod Places
 pub mod Links
@@ -26,6 +27,7 @@ pub mod Turns
 pub mod PublicSteps
 pub mod Log
 pub mod Lines
+pub mod Answers
 pub mod Report
 pub mod Commands
 pub mod Stops

@@ -7,14 +7,12 @@ use mathlib.Core.List.{List, [], _∷_}
 use lib.Dec.{eqb}
 use lib.ListN.{getD}
 use Rattle.model.specs.Store.{rank, bucketIn, keyIn}
-use Rattle.tables.specs.Fields.{postedOf, postedKeyOf}
 use Rattle.tables.specs.Lists.{writes}
 use Rattle.record.specs.declared.Phase.{Phase}
 use Rattle.record.specs.declared.Phase.the-variants as phase
 use Rattle.record.specs.declared.Transaction.{Transaction}
 use Rattle.record.specs.declared.Answered.{Answered}
 use Rattle.record.specs.View.{phaseView}
-use Rattle.postings.specs.Postings.{postedWith}
 use Rattle.record.specs.Methods.{idleOf, withPhase, withMark, takenBy, refusedOf, Left, LeftLists, left, captureAt, captureOf, writeOf, collectOf}
 use Rattle.tightness.specs.Wrong.{Excludes}
 use Rattle.tightness.proofs.Apart.{apart, either-way, itself, bit, numberIn}
@@ -163,13 +161,3 @@ collect-bucket-held = apart collecting (λ (l : Left). getD (l .buckets) 1 0) re
 pub collect-last-row-missed : Excludes collect (λ (rows, n, t, buckets, lists). collect (rows, n - 1, t, buckets, lists))
 unfolding computes
 collect-last-row-missed = apart collecting (λ (l : Left). numberIn (l .reply .answer)) refl
-
--- `posted_with`: a row without a posting is posted with key 0
-pub posted-with-none : Excludes {A = List ℕ × ℕ × ℕ} (λ (rows, r, key). postedWith rows key r) (λ (rows, r, key). eqb (postedKeyOf rows r) key)
-unfolding computes
-posted-with-none = apart ([], 0, 0) bit refl
-
--- `posted_with`: with any key
-pub posted-with-any : Excludes {A = List ℕ × ℕ × ℕ} (λ (rows, r, key). postedWith rows key r) (λ (rows, r, key). not (eqb (postedOf rows r) 0))
-unfolding computes
-posted-with-any = apart (0 ∷ 0 ∷ 1 ∷ 7 ∷ [], 0, 5) bit refl

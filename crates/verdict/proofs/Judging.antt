@@ -6,7 +6,6 @@ use mathlib.Core.Bool.{Bool, true, false, cond}
 use mathlib.Core.List.{List, [], _∷_, map}
 use native.Mathlib.Omega.{arith}
 use lib.ListN.{length, getD}
-use Rattle.model.specs.Store as model
 use Rattle.model.specs.Verdict.{Clear, badRead, judgeReads, judgeRecords, verdict}
 use Rattle.model.specs.Verdict as judged
 use Rattle.tables.specs.Lists.{Kind, reads, records, readOf, recordOf, entryAt, listAt}
