@@ -1,3 +1,4 @@
 pub mod Opened
 pub mod Calls
 pub mod Demands
+pub mod Refusing
