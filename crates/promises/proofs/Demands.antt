@@ -1,6 +1,7 @@
 -- Demands 1 to 3, of the public functions: from an accepted open, after any calls, refused ones included. Assumes nothing.
 use Prim.Native.Nat.{ℕ, _≤_}
 use mathlib.Core.Path.{_≡_, refl, sym, ap, subst, _∙_}
+use mathlib.Core.Logic.{_⊎_}
 use mathlib.Core.List.{List, [], _∷_, _++_, map-append}
 use native.Mathlib.Omega.{arith}
 use lib.ListN.{length, drop}
@@ -20,7 +21,8 @@ use Rattle.places.specs.declared.Sizes.{Sizes}
 use Rattle.steps.specs.Words.{Words, sizesView, view}
 use Rattle.turns.specs.Turns.{openOf}
 use Rattle.promises.proofs.Opened.{open-stands, open-view}
-use Rattle.promises.proofs.Calls.{Call, Public, AllPublic, called, calls, stepsOf, called-as, calls-stand, calls-view}
+use Rattle.promises.proofs.Refusing.{Marks, refused-words}
+use Rattle.promises.proofs.Calls.{Call, Public, AllPublic, lending, called, calls, stepsOf, called-as, calls-stand, calls-view}
 
 -- found rows are told by their count
 told-rows : (a : machine.Answer) (n : ℕ) → told a ≡ tell.Rows n → (rs : List ℕ) × (a ≡ machine.Rows rs) × (n ≡ length rs)
@@ -77,18 +79,20 @@ module _ (rowsTable versions buckets lists : List ℕ) (z : Sizes) (clock : ℕ)
   unfolding run
   steps-after cs c between = ap (run (fresh (sizesView z) clock)) (map-append (λ (d : Call). asked (d .asks)) cs (c ∷ between)) ∙ run-append (fresh (sizesView z) clock) (stepsOf cs) (stepsOf (c ∷ between))
 
-  -- Demand 1: a call answers, and leaves in store and lent list, what the model's step does, for which `ExactAnswer` says when each number is given and what it leaves.
+  -- Demand 1: a call answers, and leaves in store and lent list, what the model's step does, for which `ExactAnswer` says when each number is given and what it leaves;
+  -- a refused call leaves every lent word as found, but that a stale stamp marks its transaction.
   pub record ExactCall (cs : List Call) (c : Call) : Type 0 where
     pub answer : called (after cs) c .answer ≡ told (step (storeAfter cs) (asked (c .asks)) .answer)
     pub store : view (called (after cs) c .words) ≡ step (storeAfter cs) (asked (c .asks)) .store
     pub found : called (after cs) c .words .tables .found ≡ lentAfter (step (storeAfter cs) (asked (c .asks)) .answer) (c .lent)
     pub exact : ExactAnswer (storeAfter cs) (asked (c .asks))
+    pub words : (n : ℕ) → called (after cs) c .answer ≡ tell.Refused n → (called (after cs) c .words ≡ lending (after cs) (c .lent)) ⊎ Marks (lending (after cs) (c .lent)) (c .asks) (called (after cs) c .words) n
 
   pub exact-call : (cs : List Call) → AllPublic cs → (c : Call) → Public c → ExactCall cs c
   exact-call cs p c q =
       let k = called-as (after cs) (calls-stand _ (open-stands rowsTable versions buckets lists z clock l o) cs p) c q in
       let v = stands-for cs p in
-      record { answer = rw v at (k .answer); store = rw v at (k .store); found = rw v at (k .found); exact = exact-answer (storeAfter cs) (asked (c .asks)) }
+      record { answer = rw v at (k .answer); store = rw v at (k .store); found = rw v at (k .found); exact = exact-answer (storeAfter cs) (asked (c .asks)); words = refused-words (lending (after cs) (c .lent)) (c .asks) }
 
   -- Demand 2: a call of rows that answers n rows has handed them over at the front of its list, and they are a finished read.
   pub record ReadCall (cs : List Call) (t : ℕ) (lent : List ℕ) (n : ℕ) : Type 0 where

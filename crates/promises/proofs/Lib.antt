@@ -1,4 +1,4 @@
 pub mod Opened
+pub mod Refusing
 pub mod Calls
 pub mod Demands
-pub mod Refusing

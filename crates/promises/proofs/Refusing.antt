@@ -35,7 +35,8 @@ use Rattle.holders.specs.Holders.{anyTaken, anyClaimed}
 use Rattle.verdict.specs.Judged.{verdictOf}
 use Rattle.prepare.specs.Prepare.{readsTakenIn, validateOf, isClear, lacks, neededInto, mostNeeded, prepareWith, prepareOf}
 use Rattle.matching.specs.Matching.{look}
-use Rattle.reads.specs.Rows.{matchedRows, knownPointers, newRecords, roomFor, answerOf, readingOf, rowsOf}
+use Rattle.recording.specs.Recording.{knownPointers}
+use Rattle.reads.specs.Rows.{matchedRows, newRecords, roomFor, answerOf, readingOf, rowsOf}
 use Rattle.places.specs.Places.{missesOf, liveIn}
 use Rattle.places.specs.declared.Sizes.{Sizes}
 use Rattle.places.specs.declared.Others.{Others}
