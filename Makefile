@@ -34,6 +34,6 @@ soak: kit
 bench: kit
 	@archive=$$(hosts/native) && cd hosts/rust && TORUXENG_ARCHIVE=$$archive cargo run --offline --quiet --release -p bench
 
-# both cores stay busy where the crates of a pair, or the edits, take unlike times
+# one check more than there are processors: rt waits for the slowest of each batch
 test: kit
-	@RT_JOBS=$$((2 * $$(nproc))) hosts/beside rt ci
+	@RT_JOBS=$$(($$(nproc) + 1)) hosts/beside rt ci

@@ -6,6 +6,7 @@ use limits::MOST_ROWS;
 use limits::MOST_WRITES;
 use links::within;
 use places::Sizes;
+use record::INSTALLED;
 use record::Transaction;
 use record::bucket_in;
 use record::phase_rank;
@@ -161,7 +162,7 @@ fn heads_fit(rows_table: &[u64], versions: &[u64], lists: &[u64], t: Transaction
     ensures { λ r. ⌜ r ≡ headsFit (now («rows_table» .entry)) (now (versions .entry)) (now (lists .entry)) t ⌝ }
 {
     let phase = t.phase;
-    if phase_rank(phase) < 5 {
+    if phase_rank(phase) < INSTALLED {
         return true;
     }
     rows_headed(rows_table, versions, lists, t.slot, t.writes_n, t.number)

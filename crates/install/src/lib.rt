@@ -6,6 +6,7 @@ use limits::MOST_BUCKETS;
 use limits::MOST_WRITES;
 use protocol::Answer;
 use protocol::WRONG_PHASE;
+use record::PREPARED;
 use record::Phase;
 use record::Transaction;
 use record::phase_rank;
@@ -168,7 +169,7 @@ pub fn install(
     ensures { λ r. ⌜ record { reply = r; rows = now (rows .exit); versions = now (versions .exit) } ≡ installOf (now (lists .entry)) t (record { rows = now (rows .entry); versions = now (versions .entry); used = used }) ⌝ }
 {
     let phase = t.phase;
-    if phase_rank(phase) != 4 {
+    if phase_rank(phase) != PREPARED {
         return Installed {
             answer: Answer::Refused(WRONG_PHASE),
             txn: t,

@@ -1,11 +1,13 @@
 // The eight places of the live transactions: which one a step goes to, and what a step needs to know of the others.
 use limits::MOST_LIVE;
 use protocol::Step;
+use record::ENDED;
+use record::PREPARED;
 use record::Phase;
 use record::phase_rank;
 ghost use mathlib.Core.Path.{_≡_};
 ghost use Prim.Native.Nat.{_<_};
-ghost use Rattle.limits.specs.Limits.{lastNumber};
+ghost use Rattle.limits.specs.Limits.{lastNumber, mostLive};
 ghost use Rattle.places.specs.Places.{wantedOf, isBegin, missesOf, placeIn, activeNumber, preparedCount, oneLive, liveIn};
 
 // The sizes that a store was opened with.
@@ -49,7 +51,7 @@ pub fn wanted(s: Step) -> u64
 
 // The first place with this number, and place 0 where there is none.
 pub fn place_of(numbers: [u64; MOST_LIVE], number: u64) -> usize
-    ensures { λ r. ⌜ (r ≡ placeIn numbers number) × (r < 8) ⌝ }
+    ensures { λ r. ⌜ (r ≡ placeIn numbers number) × (r < mostLive) ⌝ }
 {
     let mut i = 0;
     while i < MOST_LIVE {
@@ -65,7 +67,7 @@ pub fn place_of(numbers: [u64; MOST_LIVE], number: u64) -> usize
 pub fn active_number(number: u64, phase: Phase) -> u64
     ensures { λ r. ⌜ r ≡ activeNumber number phase ⌝ }
 {
-    if phase_rank(phase) == 6 {
+    if phase_rank(phase) == ENDED {
         return 0;
     }
     number
@@ -78,7 +80,7 @@ pub fn prepared_count(number: u64, phase: Phase, writes_n: u32) -> u32
     if number == 0 {
         return 0;
     }
-    if phase_rank(phase) == 4 {
+    if phase_rank(phase) == PREPARED {
         return writes_n;
     }
     0

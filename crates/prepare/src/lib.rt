@@ -8,6 +8,7 @@ use holders::push_writes;
 use install::MOST_PENDING;
 use install::pending_rows;
 use limits::MOST_INDEX_READS;
+use limits::MOST_LIVE;
 use limits::MOST_WRITES;
 use protocol::Answer;
 use protocol::CONFLICT;
@@ -16,6 +17,7 @@ use protocol::TAKEN;
 use protocol::Verdict;
 use protocol::WRONG_PHASE;
 use record::Answered;
+use record::OPEN;
 use record::Phase;
 use record::Transaction;
 use record::phase_rank;
@@ -43,7 +45,7 @@ pub fn validate(versions: &[u64], buckets: &[u64], lists: &[u64], t: Transaction
     ensures { λ r. ⌜ r ≡ validateOf (now (versions .entry)) (now (buckets .entry)) (now (lists .entry)) t ⌝ }
 {
     let phase = t.phase;
-    if phase_rank(phase) != 1 {
+    if phase_rank(phase) != OPEN {
         return refused(t, WRONG_PHASE);
     }
     if reads_taken(buckets, lists, t.slot, t.reads_n, t.number) {
@@ -84,7 +86,7 @@ fn distinct_rows(lists: &[u64], slot: u32, count: u32) -> u64
 }
 
 // The versions that Prepared transactions have reserved: of each slot the distinct rows of its first pending writes, as many as `prepared` says.
-pub fn reserved(lists: &[u64], prepared: [u32; 8]) -> u64
+pub fn reserved(lists: &[u64], prepared: [u32; MOST_LIVE]) -> u64
     ensures { λ r. ⌜ r ≡ reservedIn (now (lists .entry)) prepared ⌝ }
 {
     distinct_rows(lists, 0, prepared[0])
@@ -113,7 +115,7 @@ fn exceed(used: u64, reserved: u64, own: u64, limit: u64) -> bool
 // Whether there are too few versions: used, reserved by others, and the own distinct pending rows are above the limit.
 fn no_versions(
     lists: &[u64],
-    prepared: [u32; 8],
+    prepared: [u32; MOST_LIVE],
     slot: u32,
     count: u32,
     used: u64,
@@ -162,13 +164,13 @@ pub fn prepare(
     bucket_count: u64,
     version_count: u64,
     used: u64,
-    prepared: [u32; 8],
+    prepared: [u32; MOST_LIVE],
     t: Transaction,
 ) -> Answered
     ensures { λ r. ⌜ record { reply = r; rows = now (rows .exit); buckets = now (buckets .exit) } ≡ prepareOf (now (versions .entry)) (now (lists .entry)) «bucket_count» «version_count» used prepared t (now (rows .entry)) (now (buckets .entry)) ⌝ }
 {
     let phase = t.phase;
-    if phase_rank(phase) != 1 {
+    if phase_rank(phase) != OPEN {
         return refused(t, WRONG_PHASE);
     }
     let mut list = [0u64; MOST_NEEDED];

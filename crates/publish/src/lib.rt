@@ -12,6 +12,8 @@ use limits::MOST_WRITES;
 use protocol::Answer;
 use protocol::WRONG_PHASE;
 use record::Answered;
+use record::ENDED;
+use record::INSTALLED;
 use record::Phase;
 use record::Transaction;
 use record::bucket_in;
@@ -33,7 +35,7 @@ pub fn end(t: Transaction) -> Answered
     ensures { λ r. ⌜ r ≡ endOf t ⌝ }
 {
     let phase = t.phase;
-    if phase_rank(phase) != 5 {
+    if phase_rank(phase) != INSTALLED {
         return refused(t, WRONG_PHASE);
     }
     Answered {
@@ -135,7 +137,7 @@ pub fn publish(
     ensures { λ r. ⌜ record { reply = r; rows = now (rows .exit); buckets = now (buckets .exit) } ≡ publishOf (now (versions .entry)) (now (lists .entry)) «bucket_count» clock t (now (rows .entry)) (now (buckets .entry)) ⌝ }
 {
     let phase = t.phase;
-    if phase_rank(phase) != 6 {
+    if phase_rank(phase) != ENDED {
         return refused(t, WRONG_PHASE);
     }
     stamp_changes(
@@ -181,7 +183,7 @@ pub fn abort(
     ensures { λ r. ⌜ record { reply = r; rows = now (rows .exit); buckets = now (buckets .exit) } ≡ abortOf (now (versions .entry)) (now (lists .entry)) «bucket_count» t (now (rows .entry)) (now (buckets .entry)) ⌝ }
 {
     let phase = t.phase;
-    if phase_rank(phase) >= 5 {
+    if phase_rank(phase) >= INSTALLED {
         return refused(t, WRONG_PHASE);
     }
     free_needed(

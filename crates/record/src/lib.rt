@@ -1,6 +1,7 @@
 // The transaction's record: it goes in by value and comes back; its lists stand in its slot of the lent lists.
 use buckets::stamp_precedes_snapshot;
 use chain::Snapshot;
+use limits::MOST_ACTIVE;
 use limits::MOST_INDEX_READS;
 use limits::MOST_WRITES;
 use postings::keep_posted;
@@ -55,17 +56,30 @@ pub struct Answered {
     pub txn: Transaction,
 }
 
-// Phases as numbers, in document 01's order: Open 1 to Ended 6.
+// Phases as numbers, in document 01's order.
+pub const OPEN: u64 = 1;
+
+pub const HOLDING: u64 = 2;
+
+pub const COLLECTED: u64 = 3;
+
+pub const PREPARED: u64 = 4;
+
+pub const INSTALLED: u64 = 5;
+
+pub const ENDED: u64 = 6;
+
+// The number of a phase.
 pub fn phase_rank(phase: Phase) -> u64
     ensures { λ r. ⌜ r ≡ rank (phaseView phase) ⌝ }
 {
     match phase {
-        Phase::Open => 1,
-        Phase::Holding { bucket: _, key: _ } => 2,
-        Phase::Collected { key: _ } => 3,
-        Phase::Prepared => 4,
-        Phase::Installed => 5,
-        Phase::Ended => 6,
+        Phase::Open => OPEN,
+        Phase::Holding { bucket: _, key: _ } => HOLDING,
+        Phase::Collected { key: _ } => COLLECTED,
+        Phase::Prepared => PREPARED,
+        Phase::Installed => INSTALLED,
+        Phase::Ended => ENDED,
     }
 }
 
@@ -105,7 +119,7 @@ pub fn idle(slot: u32) -> Transaction
         snapshot: Snapshot {
             xmin: 0,
             xmax: 0,
-            active: [0; 7],
+            active: [0; MOST_ACTIVE],
             active_n: 0,
         },
         marked: false,
@@ -208,7 +222,7 @@ impl Transaction {
     {
         let phase = self.phase;
         let n = self.reads_n;
-        if phase_rank(phase) != 1 {
+        if phase_rank(phase) != OPEN {
             return refused(self, WRONG_PHASE);
         }
         if self.marked {
@@ -248,7 +262,7 @@ impl Transaction {
     {
         let phase = self.phase;
         let n = self.writes_n;
-        if phase_rank(phase) != 1 {
+        if phase_rank(phase) != OPEN {
             return refused(self, WRONG_PHASE);
         }
         if row >= row_count {
@@ -296,7 +310,7 @@ impl Transaction {
         ensures { λ r. ⌜ record { reply = r; buckets = now (buckets .exit); lists = now (lists .exit) } ≡ collectOf (now (rows .entry)) «row_count» self (now (buckets .entry)) (now (lists .entry)) ⌝ }
     {
         let phase = self.phase;
-        if phase_rank(phase) != 2 {
+        if phase_rank(phase) != HOLDING {
             return refused(self, WRONG_PHASE);
         }
         let bucket = bucket_in(phase);

@@ -1,5 +1,7 @@
 // Plays the sequences of public steps in data/sequences.txt: a line has a name, the next the steps and the answers that document 01 asks for.
 // After the values of rows come the rows. Names that document 01 has not change a word of the state, as `stamp 2 9: 0;`.
+use answers::Numbers;
+use answers::numbers_of;
 use changes::changed_machine;
 use changes::changed_table;
 use finishing::abort;
@@ -9,7 +11,6 @@ use finishing::publish;
 use limits::MOST_LIVE;
 use limits::MOST_ROWS;
 use protocol::Answer;
-use protocol::Verdict;
 use reading::begin;
 use reading::capture;
 use reading::collect;
@@ -201,86 +202,47 @@ fn any_step(
     writing_step(rows_table, versions, buckets, lists, m, name, a, b, c, d)
 }
 
-// An answer in numbers: document 01's number, and the values behind it.
-struct Told {
-    numbers: [u64; ANSWER],
-    k: usize,
-}
-
-// One number, and a number with a value behind it.
-fn one(number: u64) -> Told {
-    Told {
-        numbers: [number, 0, 0, 0, 0, 0, 0, 0],
-        k: 1,
+// How many numbers an answer has, as far as a written step has room for them: its own, and the rows found.
+fn said(told: Numbers) -> usize {
+    if told.count >= ANSWER {
+        return ANSWER;
     }
-}
-
-fn valued(value: u64) -> Told {
-    Told {
-        numbers: [0, value, 0, 0, 0, 0, 0, 0],
-        k: 2,
+    if told.rows < ANSWER - told.count {
+        return told.count + told.rows;
     }
+    ANSWER
 }
 
-// How many were found, and of those the first six.
-fn told_rows(n: u64, found: &[u64; MOST_FOUND]) -> Told {
-    let mut told = valued(n);
-    let mut i: usize = 0;
-    while i < 6 {
-        if i as u64 >= n {
-            return told;
+// One of these numbers; 0 past the last.
+fn said_at(told: Numbers, found: &[u64; MOST_FOUND], i: usize) -> u64 {
+    let list = told.list;
+    if i < told.count {
+        if i < list.len() {
+            return list[i];
         }
-        told.numbers[2 + i] = found[i];
-        told.k = 3 + i;
-        i += 1;
+        return 0;
     }
-    told
-}
-
-fn told_verdict(v: Verdict) -> Told {
-    match v {
-        Verdict::Clear => valued(0),
-        Verdict::Bucket {
-            bucket,
-            captured,
-            present,
-        } => Told {
-            numbers: [0, 1, bucket, captured, present, 0, 0, 0],
-            k: 5,
-        },
-        Verdict::Row { row, ptr } => Told {
-            numbers: [0, 2, row, ptr, 0, 0, 0, 0],
-            k: 4,
-        },
-        Verdict::Mark => valued(3),
+    let row = i - told.count;
+    if row < told.rows {
+        if row < MOST_FOUND {
+            return found[row];
+        }
     }
-}
-
-fn in_numbers(answer: Answer, found: &[u64; MOST_FOUND]) -> Told {
-    match answer {
-        Answer::Done => one(0),
-        Answer::Number(n) => valued(n),
-        Answer::Stamp(n) => valued(n),
-        Answer::Count(n) => valued(n),
-        Answer::Rows(n) => told_rows(n, found),
-        Answer::Judged(v) => told_verdict(v),
-        Answer::Refused(n) => one(n),
-    }
+    0
 }
 
 // Whether the answer is the expected one.
-fn expected(t: Told, line: Line) -> bool {
-    let told = t.numbers;
+fn expected(told: Numbers, found: &[u64; MOST_FOUND], line: Line) -> bool {
     let asked = line.numbers;
     let mut i: usize = 0;
     if line.at < ANSWER {
         return false;
     }
-    if line.at - ANSWER != t.k {
+    if line.at - ANSWER != said(told) {
         return false;
     }
     while i < ANSWER {
-        if told[i] != asked[ANSWER + i] {
+        if said_at(told, found, i) != asked[ANSWER + i] {
             return false;
         }
         i += 1;
@@ -289,8 +251,8 @@ fn expected(t: Told, line: Line) -> bool {
 }
 
 // What differed: which step, and the number and the value that it answered.
-fn differed(step: u64, t: Told) {
-    let numbers = t.numbers;
+fn differed(step: u64, told: Numbers) {
+    let numbers = told.list;
     io::write_all(1, b": step ");
     io::print_decimal(1, step);
     io::write_all(1, b" answered ");
@@ -324,8 +286,8 @@ fn play(name: &[u8], text: &[u8]) {
     let mut m = opened.machine;
     let mut step: u64 = 1;
     io::write_all(1, name);
-    let begun = in_numbers(answer, &found);
-    if !expected(begun, first) {
+    let begun = numbers_of(answer);
+    if !expected(begun, &found, first) {
         differed(step, begun);
         return;
     }
@@ -348,10 +310,10 @@ fn play(name: &[u8], text: &[u8]) {
         );
         let gave = turned.answer;
         m = turned.machine;
-        let t = in_numbers(gave, &found);
+        let told = numbers_of(gave);
         step = std::num::wrapping_add_u64(step, 1);
-        if !expected(t, line) {
-            differed(step, t);
+        if !expected(told, &found, line) {
+            differed(step, told);
             return;
         }
         at = next;

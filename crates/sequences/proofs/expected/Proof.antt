@@ -6,13 +6,16 @@ use Rattle.sequences.proofs.expected.Statement.{statement}
 use Rattle.sequences.proofs.expected.Tie as tie
 
 abbrev Inv-loop : tie.InvT-loop
-Inv-loop told asked i₀ i = i ≤ 8
+Inv-loop told found asked i₀ i = i ≤ 8
 
 abbrev μ-loop : tie.MeasureT-loop
-μ-loop told asked i₀ i = 8 - i
+μ-loop told found asked i₀ i = 8 - i
 
 returns : tie.Need-returns Inv-loop μ-loop
 returns c = search needs
+
+said-requires : tie.Need-said-requires Inv-loop μ-loop
+said-requires c κs = tt
 
 returns-2 : tie.Need-returns-2 Inv-loop μ-loop
 returns-2 c = search needs
@@ -20,20 +23,17 @@ returns-2 c = search needs
 loop-holds : tie.Need-loop-holds Inv-loop μ-loop
 loop-holds c = search needs
 
+said-at-requires : tie.Need-said-at-requires Inv-loop μ-loop
+said-at-requires c κs = tt
+
+add-if3 : tie.Need-add-if3 Inv-loop μ-loop
+add-if3 c = search needs
+
 mul-if3 : tie.Need-mul-if3 Inv-loop μ-loop
 mul-if3 c = search needs
 
 array-read-if3 : tie.Need-array-read-if3 Inv-loop μ-loop
 array-read-if3 c = search needs
-
-add-if3 : tie.Need-add-if3 Inv-loop μ-loop
-add-if3 c = search needs
-
-mul-if3-2 : tie.Need-mul-if3-2 Inv-loop μ-loop
-mul-if3-2 c = search needs
-
-array-read-if3-2 : tie.Need-array-read-if3-2 Inv-loop μ-loop
-array-read-if3-2 c = search needs
 
 returns-3 : tie.Need-returns-3 Inv-loop μ-loop
 returns-3 c = search needs
@@ -57,13 +57,13 @@ expected-spec =
     Inv-loop
     μ-loop
     returns
+    said-requires
     returns-2
     loop-holds
+    said-at-requires
+    add-if3
     mul-if3
     array-read-if3
-    add-if3
-    mul-if3-2
-    array-read-if3-2
     returns-3
     add-i
     loop-less

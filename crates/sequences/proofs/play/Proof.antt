@@ -50,8 +50,8 @@ open-requires c κs = tt
 write-all-requires : tie.Need-write-all-requires Inv-loop μ-loop
 write-all-requires c κs = tt
 
-in-numbers-requires : tie.Need-in-numbers-requires Inv-loop μ-loop
-in-numbers-requires c κs = tt
+numbers-of-requires : tie.Need-numbers-of-requires Inv-loop μ-loop
+numbers-of-requires c κs = tt
 
 expected-requires : tie.Need-expected-requires Inv-loop μ-loop
 expected-requires c κs = tt
@@ -86,8 +86,8 @@ array-read-any-step-4 c = search needs
 any-step-requires : tie.Need-any-step-requires Inv-loop μ-loop
 any-step-requires c κs = tt
 
-in-numbers-requires-2 : tie.Need-in-numbers-requires-2 Inv-loop μ-loop
-in-numbers-requires-2 c κs = tt
+numbers-of-requires-2 : tie.Need-numbers-of-requires-2 Inv-loop μ-loop
+numbers-of-requires-2 c κs = tt
 
 wrapping-add-u64-requires : tie.Need-wrapping-add-u64-requires Inv-loop μ-loop
 wrapping-add-u64-requires c κs = tt
@@ -134,7 +134,7 @@ play-spec =
     array-read-open-4
     open-requires
     write-all-requires
-    in-numbers-requires
+    numbers-of-requires
     expected-requires
     differed-requires
     returns
@@ -146,7 +146,7 @@ play-spec =
     array-read-any-step-3
     array-read-any-step-4
     any-step-requires
-    in-numbers-requires-2
+    numbers-of-requires-2
     wrapping-add-u64-requires
     expected-requires-2
     differed-requires-2
