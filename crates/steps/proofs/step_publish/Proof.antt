@@ -1,8 +1,7 @@
 -- `steps::step_publish` meets its contract.
 -- Assumes nothing.
 use borrow.Author.Needs.{needs}
-use Prim.Native.Nat.{_-_}
-use Rattle.steps.specs.Steps.{publishStep}
+use Rattle.steps.proofs.Laws.{published}
 use Rattle.steps.proofs.step_publish.Statement.{statement}
 use Rattle.steps.proofs.step_publish.Tie as tie
 
@@ -22,8 +21,7 @@ same-length-2 : tie.Need-same-length-2
 same-length-2 c = search needs
 
 returns : tie.Need-returns
-unfolding publishStep
-returns c = rw (c .with-clock .ensures, c .before .published-clock .ensures, ← c .before .before .before .before .before .before .publish .ensures)
+returns c = published _ _ _ _ _ _ _ _ _ _ _ _ _ (c .before .before .before .before .before .before .publish .ensures) (c .before .published-clock .ensures) (c .with-clock .ensures)
 
 pub step-publish-spec : {M : Type 1} → statement M
 step-publish-spec =
