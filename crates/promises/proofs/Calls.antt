@@ -1,63 +1,27 @@
 -- Any sequence of calls of the public functions, the tables handed on as the last call left them, is the model's run.
 -- Assumes nothing.
-use Prim.Native.Nat.{ℕ, suc, _*_, _≤_, _<_}
+use Prim.Native.Nat.{ℕ, suc, _*_, _<_}
 use mathlib.Core.Path.{_≡_, refl, ap, _∙_}
 use mathlib.Core.Bool.{true}
-use mathlib.Core.List.{List, [], _∷_, map}
+use mathlib.Core.List.{List, [], _∷_}
 use native.Mathlib.Omega.{arith}
 use lib.ListN.{length}
 use borrow.Author.Tests.{eq-eqb, le-leb}
 use Rattle.limits.specs.Limits.{mostLive, mostActive}
 use Rattle.model.specs.Store.{Store}
-use Rattle.model.specs.Refusals.{Step as Asked}
 use Rattle.model.specs.Machine.{lentAfter, step, run}
 use Rattle.model.proofs.ListLaws.{every-each}
 use Rattle.model.proofs.Good.{right-shape, step-in}
-use Rattle.protocol.specs.declared.Step.{Step}
 use Rattle.protocol.specs.View.{asked, told}
 use Rattle.tables.specs.Fields.{rowWords, versionWords, bucketWords}
 use Rattle.tables.specs.Lists.{listsWords}
 use Rattle.steps.specs.Words.{Words, view, txnAt, movedBy, wordsAfter, Sized}
 use Rattle.bridge.proofs.Same.{Same}
-use Rattle.bridge.proofs.Stepping.{roomOf, step-same}
+use Rattle.bridge.proofs.Stepping.{step-same}
 use Rattle.bridge.proofs.Running.{Stands, step-stands, step-view}
 use Rattle.shape.specs.Shape.{inPlace, tablesFit, shapeOf}
-use Rattle.turns.specs.Turns.{Left, turnOf}
-
--- a call of a public function: its step, and the row list that it lends
-pub record Call : Type 0 where
-  pub asks : Step
-  pub lent : List ℕ
-
--- the public rows asks for as much room as its list has, and no other function asks for room
-abbrev pub Public : Call → Type 0
-Public c = roomOf (c .asks) ≤ length (c .lent)
-
-abbrev pub AllPublic : List Call → Type 0
-AllPublic [] = Unit {0}
-AllPublic (c ∷ cs) = Public c × AllPublic cs
-
--- the words with this row list lent
-abbrev pub lending : Words → List ℕ → Words
-lending w found = record {
-  tables = record { rows = w .tables .rows; versions = w .tables .versions; buckets = w .tables .buckets; lists = w .tables .lists; found = found };
-  txns = w .txns;
-  sizes = w .sizes;
-  clock = w .clock;
-  used = w .used;
-}
-
--- what a call answers and leaves, and the words after a sequence of calls
-abbrev pub called : Words → Call → Left
-called w c = turnOf (lending w (c .lent)) (c .asks)
-
-unfoldable pub calls : Words → List Call → Words
-calls w [] = w
-calls w (c ∷ cs) = calls (called w c .words) cs
-
--- the steps that the calls ask for
-abbrev pub stepsOf : List Call → List Asked
-stepsOf cs = map (λ (c : Call). asked (c .asks)) cs
+use Rattle.turns.specs.Turns.{turnOf}
+use Rattle.promises.specs.Calls.{Call, Public, AllPublic, lending, called, calls, stepsOf}
 
 lent-sized : (w : Words) (found : List ℕ) → Sized w → Sized (lending w found)
 lent-sized w found z = record { eight = z .eight; rows = z .rows; versions = z .versions; buckets = z .buckets; lists = z .lists; txns = z .txns }

@@ -20,9 +20,11 @@ use Rattle.protocol.specs.View.{asked, told}
 use Rattle.places.specs.declared.Sizes.{Sizes}
 use Rattle.steps.specs.Words.{Words, sizesView, view}
 use Rattle.turns.specs.Turns.{openOf}
+use Rattle.promises.specs.Calls.{Call, Public, AllPublic, lending, called, calls, stepsOf}
+use Rattle.promises.specs.Refused.{Marks}
 use Rattle.promises.proofs.Opened.{open-stands, open-view}
-use Rattle.promises.proofs.Refusing.{Marks, refused-words}
-use Rattle.promises.proofs.Calls.{Call, Public, AllPublic, lending, called, calls, stepsOf, called-as, calls-stand, calls-view}
+use Rattle.promises.proofs.Refusing.{refused-words}
+use Rattle.promises.proofs.Calls.{called-as, calls-stand, calls-view}
 
 -- found rows are told by their count
 told-rows : (a : machine.Answer) (n : ℕ) → told a ≡ tell.Rows n → (rs : List ℕ) × (a ≡ machine.Rows rs) × (n ≡ length rs)

@@ -1,6 +1,6 @@
 -- Each refusal leaves state and lent list as found, except that a stale stamp marks its transaction: every lent word, also past a size and in free slots, and the machine.
 -- Assumes nothing.
-use Prim.Native.Nat.{ℕ, _+_, _%_, _≤_, _<_}
+use Prim.Native.Nat.{ℕ, _+_, _%_, _<_}
 use mathlib.Core.Path.{_≡_, refl, sym, ap, subst, _∙_}
 use mathlib.Core.Bool.{Bool, true, false, not}
 use mathlib.Core.Logic.{_⊎_, _≢_, inl, inr, ⊎-elim}
@@ -8,7 +8,7 @@ use mathlib.Core.List.{List, []}
 use native.Mathlib.Decide.{decLt}
 use native.Mathlib.Omega.{arith}
 use lib.Dec.{eqb, ltb, leb}
-use lib.ListN.{length, getD, set, replicate, List·getD-eq-default}
+use lib.ListN.{length, replicate, List·getD-eq-default}
 use lib.Seq.{set-getD}
 use borrow.Author.Tests.{eqb-true, eqb-false, ltb-false, not-false}
 use Rattle.limits.specs.Limits.{mostWrites, mostRecords}
@@ -45,6 +45,7 @@ use Rattle.steps.specs.Words.{Words, sizesView, othersIn, placeFor, movedBy, wo
 use Rattle.bridge.proofs.Placed.{after}
 use Rattle.shape.specs.Shape.{tablesLent, shapeOf, wordsOf}
 use Rattle.turns.specs.Turns.{turnOf, closedOf, openOf}
+use Rattle.promises.specs.Refused.{asker, Marks}
 
 -- a test of a step: what holds either way holds
 guard : {P : Type 0} (test : Bool) → (test ≡ true → P) → (test ≡ false → P) → P
@@ -179,21 +180,6 @@ module _ (z : Sizes) (t : Transaction) (clock used : ℕ) (b : Tables) where
 
   step-refused : (o : Others) (s : Step) (n : ℕ) → stepOf z o t clock used s b .stepped .answer ≡ tell.Refused n → Refuses s n (stepOf z o t clock used s b)
   step-refused o s n e = subst (λ (a : Answer). WhereRefused a (λ n. Refuses s n (stepOf z o t clock used s b))) e (step-kept o s)
-
--- the record that stands at the step's place
-abbrev pub asker : Words → Step → Transaction
-asker w s = getD (w .txns) (placeFor (w .txns) s) (idleOf 0)
-
--- 8, to a capture by a transaction without a mark, of a bucket whose stamp is not below its number: that record is marked, and all else is as found
-pub record Marks (w : Words) (s : Step) (after : Words) (n : ℕ) : Type 0 where
-  pub key : ℕ
-  pub captures : s ≡ ask.Capture (asker w s .number) key
-  pub live : asker w s .number ≢ 0
-  pub there : placeFor (w .txns) s < length (w .txns)
-  pub refusal : n ≡ 8
-  pub unmarked : asker w s .marked ≡ false
-  pub stale : asker w s .number ≤ stampOf (w .tables .buckets) (key % w .sizes .buckets)
-  pub marks : after ≡ record { tables = w .tables; txns = set (w .txns) (placeFor (w .txns) s) (withMark (asker w s)); sizes = w .sizes; clock = w .clock; used = w .used }
 
 module _ (w : Words) (s : Step) (n : ℕ) where
   -- what a step leaves, with its record at its place
