@@ -6,9 +6,16 @@ use lib.Dec.{eqb, ltb, leb}
 use lib.ListN.{getD, set, drop, replicate}
 use Rattle.script.specs.declared.Line.{Line}
 
+-- a step and its answer have eight places each, the answer's from this one on
+abbrev pub answerPlace : ℕ
+answerPlace = 8
+
+abbrev pub places : ℕ
+places = 16
+
 -- nothing read yet
 abbrev pub emptyLine : Line
-emptyLine = record { name = 0; numbers = replicate 16 0; at = 0; value = 0; digits = false }
+emptyLine = record { name = 0; numbers = replicate places 0; at = 0; value = 0; digits = false }
 
 -- a letter more of the name; those behind the third are not kept
 abbrev pub withLetter : Line → ℕ → Line
@@ -24,11 +31,11 @@ withNumber l = record { name = l .name; numbers = set (l .numbers) (l .at) (l .v
 
 -- a number ends, if digits of one were read and there is a place
 abbrev pub endedLine : Line → Line
-endedLine l = cond (l .digits) (cond (ltb (l .at) 16) (withNumber l) l) l
+endedLine l = cond (l .digits) (cond (ltb (l .at) places) (withNumber l) l) l
 
 -- the answer's numbers come next
 abbrev pub answered : Line → Line
-answered l = record { name = l .name; numbers = l .numbers; at = 8; value = l .value; digits = l .digits }
+answered l = record { name = l .name; numbers = l .numbers; at = answerPlace; value = l .value; digits = l .digits }
 
 -- one byte more: a digit, a letter, the colon before the answer, or what parts them
 unfoldable pub withByte : Line → ℕ → Line
