@@ -15,15 +15,15 @@ use borrow.Author.Tests.{lt-ltb, le-ltb, lt-leb, le-leb, leb-false}
 use Rattle.limits.specs.Limits.{mostLive}
 use Rattle.model.specs.Store as model
 use Rattle.model.specs.Store.{bucketIn, rank}
-use Rattle.model.specs.Lists.{join}
+use Rattle.model.specs.Lists.{join, Among}
 use Rattle.model.specs.Table.{update}
 use Rattle.model.specs.Steps.{freed, keyBuckets, oldKey, newKey, neededBuckets, pendingRows}
 use Rattle.model.specs.Refusals.{WrongPhase, checks, refusal, txnOf}
 use Rattle.model.specs.Machine.{accepted, afterRefusal, carried}
-use Rattle.model.proofs.ListLaws.{Among, among-cases, join-which, join-same}
+use Rattle.model.specs.Holding.{needs, Wants}
+use Rattle.model.proofs.ListLaws.{among-cases, join-which, join-same}
 use Rattle.model.proofs.Good.{Good}
 use Rattle.model.proofs.Ranges.{good-sized}
-use Rattle.model.proofs.Holders.{needs, Wants}
 use Rattle.model.proofs.Written.{posted-old}
 use Rattle.protocol.specs.declared.Step.the-variants as ask
 use Rattle.protocol.specs.declared.Answer.the-variants as tell

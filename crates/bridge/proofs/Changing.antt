@@ -8,12 +8,12 @@ use mathlib.Core.List.{List, [], _∷_, _++_}
 use native.Mathlib.Omega.{arith}
 use lib.ListN.{length, length-append}
 use Rattle.model.specs.Store.{bucketIn, rank, sameKey}
-use Rattle.model.specs.Lists.{join}
+use Rattle.model.specs.Lists.{join, Among}
 use Rattle.model.specs.Table.{cond-elim}
 use Rattle.model.specs.Steps.{keyBefore, newKey, keyBuckets, readBuckets, changedBuckets, pendingRows}
-use Rattle.model.proofs.ListLaws.{Among, among-left, among-right, among-cases, join-which, which-join, join-same}
+use Rattle.model.specs.Holding.{needs, Wants}
+use Rattle.model.proofs.ListLaws.{among-left, among-right, among-cases, join-which, which-join, join-same}
 use Rattle.model.proofs.Good.{Good}
-use Rattle.model.proofs.Holders.{needs, Wants}
 use Rattle.tables.specs.Fields as fields
 use Rattle.tables.proofs.Parts.{part-field}
 use Rattle.record.specs.View.{phaseView}

@@ -14,7 +14,8 @@ use Rattle.limits.specs.Limits.{mostBuckets, mostWrites}
 use Rattle.model.specs.Store as model
 use Rattle.model.specs.Steps.{pendingRows}
 use Rattle.model.specs.Seeing.{pending}
-use Rattle.model.proofs.ListLaws.{Among, Rising, pick-rising, same-test, or-cases, or-left, or-right}
+use Rattle.model.specs.Lists.{Among, Rising}
+use Rattle.model.proofs.ListLaws.{pick-rising, same-test, or-cases, or-left, or-right}
 use Rattle.model.proofs.Good.{Good}
 use Rattle.model.proofs.Ranges.{good-sized}
 use Rattle.buckets.specs.Buckets.{bucketsOf, laid, canonicalOf}

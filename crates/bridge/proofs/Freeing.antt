@@ -10,10 +10,10 @@ use native.Mathlib.Omega.{arith}
 use lib.Dec.{eqb}
 use lib.ListN.{length}
 use borrow.Author.Tests.{eq-eqb, ne-eqb, eqb-true}
-use Rattle.model.specs.Lists.{member}
+use Rattle.model.specs.Lists.{member, Among}
 use Rattle.model.specs.Table.{update, update-same, update-other, cond-elim}
 use Rattle.model.specs.Steps.{release}
-use Rattle.model.proofs.ListLaws.{Among, among-member}
+use Rattle.model.proofs.ListLaws.{among-member}
 use Rattle.tables.specs.Words.{field, setField}
 use Rattle.tables.proofs.Laws.{field-length}
 use Rattle.tables.proofs.Parts.{part-field}

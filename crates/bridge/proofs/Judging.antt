@@ -9,12 +9,12 @@ use native.Mathlib.Omega.{arith}
 use lib.Dec.{eqb}
 use lib.ListN.{length, length-map}
 use Rattle.model.specs.Store as model
-use Rattle.model.specs.Lists.{some-of}
+use Rattle.model.specs.Lists.{some-of, Among}
 use Rattle.model.specs.Steps.{readBuckets}
 use Rattle.model.specs.Verdict as judged
 use Rattle.model.specs.Refusals.{WrongPhase, Taken, byAnother, checks, refusal, inPhase, bucketsTaken, txnOf}
 use Rattle.model.specs.Machine.{accepted, afterRefusal, carried}
-use Rattle.model.proofs.ListLaws.{Among, among-map, map-among}
+use Rattle.model.proofs.ListLaws.{among-map, map-among}
 use Rattle.model.proofs.Good.{Good}
 use Rattle.protocol.specs.declared.Step.the-variants as ask
 use Rattle.protocol.specs.declared.Answer.the-variants as tell

@@ -10,8 +10,7 @@ use native.Mathlib.Omega.{arith}
 use lib.ListN.{length, take, set, replicate, length-set, length-replicate}
 use lib.Seq.{take-suc-set}
 use borrow.Author.Tests.{lt-ltb}
-use Rattle.model.specs.Lists.{some-of}
-use Rattle.model.proofs.ListLaws.{Among}
+use Rattle.model.specs.Lists.{some-of, Among}
 use Rattle.holders.specs.Needs.{Listed, pushOne, pushAll}
 
 push-room : (x : ℕ) (xs : List ℕ) (st : Listed) → st .n < length (st .out) → pushAll st (x ∷ xs) ≡ pushAll (record { out = set (st .out) (st .n) x; n = st .n + 1 }) xs

@@ -11,11 +11,11 @@ use lib.Dec.{eqb}
 use borrow.Author.Tests.{eq-eqb}
 use Rattle.model.specs.Store as model
 use Rattle.model.specs.Store.{bucketOf}
-use Rattle.model.specs.Lists.{member, join}
+use Rattle.model.specs.Lists.{member, join, Among}
 use Rattle.model.specs.Table.{updateAll}
 use Rattle.model.specs.Seeing.{keyAt, pending}
 use Rattle.model.specs.Steps.{pendingRows, oldKey, newKey, keyBuckets, readBuckets, neededBuckets}
-use Rattle.model.proofs.ListLaws.{Among, among-left, among-right, among-cases, among-map, map-among, join-which, which-join, member-among, among-member, same-test, or-left, or-right, pick-which}
+use Rattle.model.proofs.ListLaws.{among-left, among-right, among-cases, among-map, map-among, join-which, which-join, member-among, among-member, same-test, or-left, or-right, pick-which}
 use Rattle.model.proofs.SeeingLaws.{which-pendingRows, pending-which}
 use Rattle.model.proofs.Good.{Good}
 use Rattle.tables.specs.Fields as fields

@@ -11,12 +11,12 @@ use lib.ListN.{length, take, getD, replicate, List·getD-map}
 use Rattle.limits.specs.Limits.{mostLive}
 use Rattle.model.specs.Store as model
 use Rattle.model.specs.Store.{rank}
-use Rattle.model.specs.Lists.{some-of}
+use Rattle.model.specs.Lists.{some-of, Among}
 use Rattle.model.specs.Verdict as judged
 use Rattle.model.specs.Steps.{pendingRows, neededBuckets, preparedHeld}
 use Rattle.model.specs.Refusals.{Refusal, WrongPhase, Taken, Conflict, NoVersions, byAnother, reservedBy, reserved, bucketsTaken, rowsClaimed, checks, refusal, inPhase, txnOf}
 use Rattle.model.specs.Machine.{accepted, afterRefusal, carried}
-use Rattle.model.proofs.ListLaws.{Among, same-test, some-which, which-some}
+use Rattle.model.proofs.ListLaws.{same-test, some-which, which-some}
 use Rattle.model.proofs.Good.{Good}
 use Rattle.protocol.specs.declared.Step.the-variants as ask
 use Rattle.protocol.specs.declared.Answer.the-variants as tell

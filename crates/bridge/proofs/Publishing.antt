@@ -13,13 +13,13 @@ use borrow.Author.Tests.{eqb-true, not-false}
 use Rattle.limits.specs.Limits.{mostLive, lastNumber}
 use Rattle.model.specs.Store as model
 use Rattle.model.specs.Store.{bucketIn, rank}
-use Rattle.model.specs.Lists.{member, pick, join}
+use Rattle.model.specs.Lists.{member, pick, join, Among}
 use Rattle.model.specs.Table.{update, updateAll}
 use Rattle.model.specs.Seeing.{live}
 use Rattle.model.specs.Steps.{pendingRows, repost, changedBuckets, publishedIndex, freed}
 use Rattle.model.specs.Refusals.{WrongPhase, liveCount, checks, refusal, inPhase}
 use Rattle.model.specs.Machine.{accepted, afterRefusal, carried}
-use Rattle.model.proofs.ListLaws.{Among, same-test, member-among, among-member, which-pick}
+use Rattle.model.proofs.ListLaws.{same-test, member-among, among-member, which-pick}
 use Rattle.model.proofs.Move.{live-test}
 use Rattle.model.proofs.Good.{Good}
 use Rattle.protocol.specs.declared.Step.the-variants as ask

@@ -9,9 +9,8 @@ use native.Mathlib.Decide.{decLt}
 use native.Mathlib.Omega.{arith}
 use lib.Dec.{eqb}
 use lib.ListN.{length, take, length-take}
-use Rattle.model.specs.Lists.{member}
+use Rattle.model.specs.Lists.{member, Among}
 use Rattle.model.specs.Table.{update, updateAll}
-use Rattle.model.proofs.ListLaws.{Among}
 use Rattle.tables.specs.Words.{field, setField}
 use Rattle.tables.proofs.Laws.{below, field-update, field-kept, field-length}
 use Rattle.tables.proofs.Parts.{part-set, part-kept}

@@ -12,53 +12,53 @@ use Rattle.model.specs.Machine.{Stamp, Rows, Judged, Refused, step, run}
 use Rattle.model.proofs.Computes.{computes}
 
 -- a store of 4 rows and 4 buckets, after some steps
-abbrev after : List Step → Store
+abbrev pub after : List Step → Store
 after steps = run (fresh (record { rows = 4; versions = 8; buckets = 4 }) 1) steps
 
 -- transaction 1 writes key 6 into row 2; its bucket is 2
-abbrev writing : List Step
+abbrev pub writing : List Step
 writing = begin ∷ put 1 2 6 10 ∷ prepare 1 ∷ []
 
-abbrev wrote : List Step
+abbrev pub wrote : List Step
 wrote = writing ++ (install 1 ∷ end 1 ∷ publish 1 ∷ [])
 
 -- transaction 5 is open, and every bucket has this stamp
-abbrev stamped : ℕ → Store
+abbrev pub stamped : ℕ → Store
 stamped n =
     let x : Txn = record { number = 5; snapshot = record { xmin = 5; xmax = 6; active = [] }; marked = false; phase = Open; reads = []; writes = []; records = []; candidates = [] } in
     let s = after [] in
     record { sizes = s .sizes; clock = 6; chains = s .chains; index = record { stamp = λ b. n; posted = λ r. none }; held = s .held; txns = update (λ i. noTxn) 0 x }
 
-record Caught : Type 0 where
+pub record Caught : Type 0 where
   -- accepting a stamp equal to the number
-  lower-stamp : step (stamped 4) (capture 5 2) .answer ≡ Stamp 4
-  equal-stamp : step (stamped 5) (capture 5 2) .answer ≡ Refused Stale
+  pub lower-stamp : step (stamped 4) (capture 5 2) .answer ≡ Stamp 4
+  pub equal-stamp : step (stamped 5) (capture 5 2) .answer ≡ Refused Stale
   -- stamping with an old number
-  new-stamp : after wrote .index .stamp 2 ≡ 2
+  pub new-stamp : after wrote .index .stamp 2 ≡ 2
   -- updating postings at install, or never
-  posted-late : after (writing ++ (install 1 ∷ [])) .index .posted 2 ≡ none
-  posted-then : after wrote .index .posted 2 ≡ some 6
+  pub posted-late : after (writing ++ (install 1 ∷ [])) .index .posted 2 ≡ none
+  pub posted-then : after wrote .index .posted 2 ≡ some 6
   -- a snapshot that leaves out who has not ended
-  active-open : txnOf (after (begin ∷ begin ∷ [])) 2 .snapshot .active ≡ 1 ∷ []
-  active-installed : txnOf (after (writing ++ (install 1 ∷ begin ∷ []))) 2 .snapshot .active ≡ 1 ∷ []
+  pub active-open : txnOf (after (begin ∷ begin ∷ [])) 2 .snapshot .active ≡ 1 ∷ []
+  pub active-installed : txnOf (after (writing ++ (install 1 ∷ begin ∷ []))) 2 .snapshot .active ≡ 1 ∷ []
   -- leasing no bucket for the old key, or for a payload-only write
-  old-bucket : after (wrote ++ (begin ∷ put 3 2 3 11 ∷ prepare 3 ∷ [])) .held .holder 2 ≡ 3
-  payload-bucket : after (wrote ++ (begin ∷ put 3 2 6 11 ∷ prepare 3 ∷ [])) .held .holder 2 ≡ 3
+  pub old-bucket : after (wrote ++ (begin ∷ put 3 2 3 11 ∷ prepare 3 ∷ [])) .held .holder 2 ≡ 3
+  pub payload-bucket : after (wrote ++ (begin ∷ put 3 2 6 11 ∷ prepare 3 ∷ [])) .held .holder 2 ≡ 3
   -- the old head's xmax
-  old-xmax : after (wrote ++ (begin ∷ put 3 2 6 11 ∷ prepare 3 ∷ install 3 ∷ [])) .chains .xmax 1 ≡ 3
+  pub old-xmax : after (wrote ++ (begin ∷ put 3 2 6 11 ∷ prepare 3 ∷ install 3 ∷ [])) .chains .xmax 1 ≡ 3
   -- finding candidates alone, without own pending rows
-  own-row : step (after (begin ∷ put 1 2 6 10 ∷ capture 1 6 ∷ collect 1 ∷ [])) (rows 1 4) .answer ≡ Rows (2 ∷ [])
+  pub own-row : step (after (begin ∷ put 1 2 6 10 ∷ capture 1 6 ∷ collect 1 ∷ [])) (rows 1 4) .answer ≡ Rows (2 ∷ [])
   -- recording only rows of the first read
-  second-read : txnOf (after (begin ∷ put 1 2 6 10 ∷ put 1 0 3 7 ∷ prepare 1 ∷ install 1 ∷ end 1 ∷ publish 1 ∷ begin ∷ capture 3 6 ∷ collect 3 ∷ rows 3 4 ∷ capture 3 3 ∷ collect 3 ∷ rows 3 4 ∷ [])) 3 .records
+  pub second-read : txnOf (after (begin ∷ put 1 2 6 10 ∷ put 1 0 3 7 ∷ prepare 1 ∷ install 1 ∷ end 1 ∷ publish 1 ∷ begin ∷ capture 3 6 ∷ collect 3 ∷ rows 3 4 ∷ capture 3 3 ∷ collect 3 ∷ rows 3 4 ∷ [])) 3 .records
       ≡ record { row = 2; ptr = 2; xmin = 1 } ∷ record { row = 0; ptr = 1; xmin = 1 } ∷ []
   -- judging under a bucket that another holds
-  held-verdict : step (after (wrote ++ (begin ∷ capture 3 6 ∷ collect 3 ∷ rows 3 4 ∷ begin ∷ put 4 0 2 7 ∷ prepare 4 ∷ []))) (validate 3) .answer ≡ Refused Taken
+  pub held-verdict : step (after (wrote ++ (begin ∷ capture 3 6 ∷ collect 3 ∷ rows 3 4 ∷ begin ∷ put 4 0 2 7 ∷ prepare 4 ∷ []))) (validate 3) .answer ≡ Refused Taken
   -- a record that passes since its xmax is below the snapshot's, though it was active
-  active-xmax : step (after (wrote ++ (begin ∷ begin ∷ capture 4 6 ∷ collect 4 ∷ rows 4 4 ∷ put 3 2 6 11 ∷ prepare 3 ∷ install 3 ∷ end 3 ∷ publish 3 ∷ []))) (validate 4) .answer ≡ Judged (Row 2 1)
+  pub active-xmax : step (after (wrote ++ (begin ∷ begin ∷ capture 4 6 ∷ collect 4 ∷ rows 4 4 ∷ put 3 2 6 11 ∷ prepare 3 ∷ install 3 ∷ end 3 ∷ publish 3 ∷ []))) (validate 4) .answer ≡ Judged (Row 2 1)
   -- forgetting what others have reserved
-  reserved-version : step (run (fresh (record { rows = 4; versions = 1; buckets = 4 }) 1) (begin ∷ put 1 0 1 7 ∷ prepare 1 ∷ begin ∷ put 2 1 2 8 ∷ [])) (prepare 2) .answer ≡ Refused NoVersions
+  pub reserved-version : step (run (fresh (record { rows = 4; versions = 1; buckets = 4 }) 1) (begin ∷ put 1 0 1 7 ∷ prepare 1 ∷ begin ∷ put 2 1 2 8 ∷ [])) (prepare 2) .answer ≡ Refused NoVersions
 
-caught : Caught
+pub caught : Caught
 unfolding computes
 caught = record {
   lower-stamp = refl;

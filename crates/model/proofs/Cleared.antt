@@ -7,7 +7,7 @@ use native.Mathlib.Omega.{arith}
 use Rattle.model.specs.Store.{Chains, Index, IndexRead, ReadRecord, Txn}
 use Rattle.model.specs.Seeing.{seen}
 use Rattle.model.specs.Verdict.{Verdict, Clear, Bucket, Row, Mark, verdictNumber, badRead, badRecord, verdict}
-use Rattle.model.proofs.ListLaws.{Among}
+use Rattle.model.specs.Lists.{Among}
 use Rattle.model.proofs.Told.{which-seen}
 use Rattle.model.proofs.Verdicts.{read-bad, record-bad, verdict-0}
 

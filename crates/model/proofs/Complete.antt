@@ -7,14 +7,15 @@ use mathlib.Core.List.{[], _++_}
 use Prim.Native.Nat.{ℕ, _≤_, _<_}
 use native.Mathlib.Omega.{arith}
 use Rattle.model.specs.Store.{Chains, Snapshot, Holding, Store, rank, sameKey, bucketOf}
-use Rattle.model.specs.Seeing.{seen, versionOf, keyAt}
+use Rattle.model.specs.Seeing.{seen, versionOf, keyAt, Live}
 use Rattle.model.specs.Steps.{postedRows, pendingRows, keyBefore, newKey, keyBuckets, changedBuckets}
-use Rattle.model.proofs.ListLaws.{Among, among-cases, join-which, which-pick}
-use Rattle.model.proofs.Move.{Live}
+use Rattle.model.specs.Lists.{Among}
+use Rattle.model.specs.Holding.{Writes, Wants, needs}
+use Rattle.model.proofs.ListLaws.{among-cases, join-which, which-pick}
 use Rattle.model.proofs.Chained.{Chained}
 use Rattle.model.proofs.Numbers.{Numbers}
 use Rattle.model.proofs.SeeingLaws.{same-key, key-same, keyAt-pos}
-use Rattle.model.proofs.Holders.{Writes, Wants, needs, HoldersAt, needs-old, needs-new}
+use Rattle.model.proofs.Holders.{HoldersAt, needs-old, needs-new}
 use Rattle.model.proofs.Written.{WrittenAt}
 use Rattle.model.proofs.Told.{Turn, Carries, ToldAt}
 use Rattle.model.proofs.Walk.{Finds, nothing, here, down, version-finds}

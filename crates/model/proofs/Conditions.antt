@@ -13,115 +13,16 @@ use borrow.Author.Tests.{eq-eqb, ltb-true, ltb-false, lt-ltb, not-true, not-fals
 use Rattle.limits.specs.Limits.{mostRows, mostVersions, mostBuckets, mostLive, mostIndexReads}
 use Rattle.model.specs.Lists.{first, every, all-of}
 use Rattle.model.specs.Table.{cond-elim}
-use Rattle.model.specs.Store.{Sizes, Store, rank, bucketOf}
-use Rattle.model.specs.Verdict.{verdict, verdictNumber}
+use Rattle.model.specs.Store.{Sizes, Store, rank}
 use Rattle.model.specs.Steps.{hasRead, pendingRows}
-use Rattle.model.specs.Refusals.{Refusal, WrongSize, NoNumbers, Full, NoSuch, WrongPhase, NoRow, Taken, Stale, Marked, ManyReads, NoRoom, ManyRecords, ManyWrites, NoVersions, Conflict, Malformed, WrongShape, refusalNumber, Step, begin, capture, collect, rows, put, erase, prepare, install, end, publish, validate, abort, placeOf, txnOf, byAnother, reserved, found, bucketsTaken, rowsClaimed, checks, refusal}
+use Rattle.model.specs.Refusals.{Refusal, WrongSize, NoNumbers, Full, NoSuch, WrongPhase, NoRow, Taken, Stale, Marked, ManyReads, NoRoom, ManyRecords, ManyWrites, NoVersions, Conflict, Malformed, WrongShape, refusalNumber, Step, begin, capture, collect, rows, put, erase, prepare, install, end, publish, validate, abort, placeOf, txnOf, byAnother, found, bucketsTaken, rowsClaimed, checks, refusal}
 use Rattle.model.specs.Shape.{within, goodSizes, distinctNumbers, rightShape}
 use Rattle.model.specs.Machine.{Answer, Done, Number, Stamp, Count, Rows, Judged, Refused, answerNumber, actor, gives, accepted, carried, step, stepIn, canOpen}
-use Rattle.model.proofs.ListLaws.{and-l, and-r, or-cases, is-false, or-r, Among}
+use Rattle.model.specs.Given.{_and_, number, RightPhase, Outside, ByAnother, Shaped, Lives, bucketFor, RowTaken, stampFor, BucketTaken, Free, Ready, Seventeenth, RowsFree, RoomForRead, BucketsFree}
+use Rattle.model.proofs.ListLaws.{and-l, and-r, or-cases, is-false, or-r}
 use Rattle.model.proofs.Move.{place-number, live-test}
 use Rattle.model.proofs.Unrefused.{refuses, accepted-answers}
-use Rattle.model.proofs.FirstTest.{_and_, Test, itself, opposite, either, both, less, at-most, equal, any, code, without, stop, skip}
-
--- the number that a step gives
-abbrev pub number : Store → Step → ℕ
-number s a = answerNumber (step s a .answer)
-
--- the shape is right
-abbrev pub Shaped : Store → Type 0
-Shaped s = rightShape s ≡ true
-
--- a live transaction has this number
-abbrev pub Lives : Store → ℕ → Type 0
-Lives s t = (i : ℕ) × (i < mostLive) × (s .txns i .number ≡ t) × (1 ≤ t)
-
--- a step names a transaction: all but begin do
-abbrev pub Names : Step → Type 0
-Names begin = ⊥
-Names (capture t k) = Unit {0}
-Names (collect t) = Unit {0}
-Names (rows t room) = Unit {0}
-Names (put t r k payload) = Unit {0}
-Names (erase t r) = Unit {0}
-Names (prepare t) = Unit {0}
-Names (install t) = Unit {0}
-Names (end t) = Unit {0}
-Names (publish t) = Unit {0}
-Names (validate t) = Unit {0}
-Names (abort t) = Unit {0}
-
--- the phases in which a step is right, by rank: 1 Open, 2 Holding, 3 Collected, 4 Prepared, 5 Installed, 6 Ended
-abbrev pub Right : Step → ℕ → Type 0
-Right begin n = Unit {0}
-Right (capture t k) n = n ≡ 1
-Right (collect t) n = n ≡ 2
-Right (rows t room) n = n ≡ 3
-Right (put t r k payload) n = n ≡ 1
-Right (erase t r) n = n ≡ 1
-Right (prepare t) n = n ≡ 1
-Right (install t) n = n ≡ 4
-Right (end t) n = n ≡ 5
-Right (publish t) n = n ≡ 6
-Right (validate t) n = n ≡ 1
-Right (abort t) n = n < 5
-
-abbrev pub RightPhase : Store → Step → Type 0
-RightPhase s a = Right a (rank (txnOf s (actor a) .phase))
-
--- neither 16 nor 4 nor 5
-abbrev pub Ready : Store → Step → Type 0
-Ready s a = Shaped s × Lives s (actor a) × RightPhase s a
-
--- held, or claimed, by another; free, or the own number's
-abbrev pub ByAnother : (ℕ → ℕ) → ℕ → ℕ → Type 0
-ByAnother f t j = (f j ≢ 0) × (f j ≢ t)
-
-abbrev pub Free : (ℕ → ℕ) → ℕ → ℕ → Type 0
-Free f t j = (f j ≡ 0) ⊎ (f j ≡ t)
-
--- a bucket of the list is held by another; none is
-abbrev pub BucketTaken : Store → ℕ → List ℕ → Type 0
-BucketTaken s t bs = (b : ℕ) × Among b bs × ByAnother (s .held .holder) t b
-
-abbrev pub BucketsFree : Store → ℕ → List ℕ → Type 0
-BucketsFree s t bs = (b : ℕ) → Among b bs → Free (s .held .holder) t b
-
--- a pending row is claimed by another; none is
-abbrev pub RowTaken : Store → ℕ → Type 0
-RowTaken s t = (r : ℕ) × Among r (pendingRows (s .sizes) (txnOf s t .writes)) × ByAnother (s .held .claim) t r
-
-abbrev pub RowsFree : Store → ℕ → Type 0
-RowsFree s t = (r : ℕ) → Among r (pendingRows (s .sizes) (txnOf s t .writes)) → Free (s .held .claim) t r
-
--- capture: the bucket, and its stamp
-abbrev pub bucketFor : Store → ℕ → ℕ
-bucketFor s k = bucketOf (s .sizes) k
-
-abbrev pub stampFor : Store → ℕ → ℕ
-stampFor s k = s .index .stamp (bucketFor s k)
-
--- capture would add a 17th index read; or it adds none, or there is room
-abbrev pub Seventeenth : Store → ℕ → ℕ → Type 0
-Seventeenth s t k = (hasRead (txnOf s t .reads) (bucketFor s k) ≡ false) × (mostIndexReads ≤ length (txnOf s t .reads))
-
-abbrev pub RoomForRead : Store → ℕ → ℕ → Type 0
-RoomForRead s t k = (hasRead (txnOf s t .reads) (bucketFor s k) ≡ true) ⊎ (length (txnOf s t .reads) < mostIndexReads)
-
--- the verdict's number; versions used, reserved by others Prepared, and the own distinct pending rows
-abbrev pub verdictOf : Store → ℕ → ℕ
-verdictOf s t = verdictNumber (verdict (s .chains) (s .index) (txnOf s t))
-
-abbrev pub versionsAfter : Store → ℕ → ℕ
-versionsAfter s t = s .chains .used + reserved (s .sizes) (s .txns) mostLive + length (pendingRows (s .sizes) (txnOf s t .writes))
-
--- open: a size outside its range
-abbrev pub Outside : ℕ → ℕ → Type 0
-Outside n most = (n < 1) ⊎ (most < n)
-
--- the number that open gives
-abbrev pub openNumber : Sizes → ℕ → ℕ
-openNumber z clock = cond (canOpen z clock) 0 (refusalNumber WrongSize)
+use Rattle.model.proofs.FirstTest.{Test, itself, opposite, either, both, less, at-most, equal, any, code, without, stop, skip}
 
 -- HOW A STEP'S NUMBER IS READ OFF ITS TESTS
 
@@ -247,7 +148,7 @@ pub lives-number : (s : Store) (t : ℕ) → Lives s t → txnOf s t .number ≡
 lives-number s t w = place-number s t (ltb-true _ _ (not-false _ (or-r (eqb t 0) _ (lives-test s t .if-no w))))
 
 -- the shape's live numbers differ, so the one found is the only one
-each-below : (n : ℕ) (test : ℕ → Bool) → every n test ≡ true → (i : ℕ) → i < n → test i ≡ true
+pub each-below : (n : ℕ) (test : ℕ → Bool) → every n test ≡ true → (i : ℕ) → i < n → test i ≡ true
 unfolding every
 each-below zero test e i l = absurd (omega arith)
 each-below (suc n) test e i l = elim (ℕ-discrete i n) [ yes d ↦ rw d (and-r (every n test) (test n) e) | no d ↦ each-below n test (and-l (every n test) (test n) e) i (omega arith) ]

@@ -10,7 +10,7 @@ use native.Mathlib.Decide.{ℕ-discrete}
 use lib.Dec.{eqb, ltb}
 use borrow.Author.Tests.{eqb-true, eqb-false, eq-eqb, ne-eqb, ltb-true, lt-ltb}
 use Rattle.limits.specs.Limits.{lastNumber}
-use Rattle.model.specs.Lists.{member, join}
+use Rattle.model.specs.Lists.{member, join, Among, Rising}
 use Rattle.model.specs.Table.{update, updateAll, update-same, update-other}
 use Rattle.model.specs.Store.{Sizes, Txn, Store, fresh, rank, sameKey}
 use Rattle.model.specs.Steps.{postedRows, pendingRows, keyBefore, newKey, keyBuckets, repost, changedBuckets, published}
@@ -18,10 +18,11 @@ use Rattle.model.specs.Refusals.{Step, begin, capture, collect, rows, pu
 use Rattle.model.specs.Machine.{at, accepted, step, run, canOpen}
 use Rattle.model.specs.Upstream.{Event, Postings, postingsOf, remove, insert, postingStep, postingReplay, liveRows, Coherent, stampAt, rawCandidates}
 use Rattle.model.specs.History.{eventOf, addEvents, stepEvents, historyOver, history, changing}
-use Rattle.model.proofs.ListLaws.{and-l, and-r, and-both, same-test, Among, member-among, among-member, pick-which, which-pick, Rising, rising-above, pick-rising}
-use Rattle.model.proofs.Move.{Live}
+use Rattle.model.specs.Seeing.{Live}
+use Rattle.model.specs.Given.{number}
+use Rattle.model.proofs.ListLaws.{and-l, and-r, and-both, same-test, member-among, among-member, pick-which, which-pick, rising-above, pick-rising}
 use Rattle.model.proofs.Good.{Good, sizes-run, good-run, opened-good}
-use Rattle.model.proofs.Conditions.{number, lives-number}
+use Rattle.model.proofs.Conditions.{lives-number}
 use Rattle.model.proofs.Refused.{publish-0}
 use Rattle.model.proofs.Outcomes.{refused-store, done-does}
 

@@ -9,15 +9,15 @@ use lib.Dec.{eqb}
 use lib.ListN.{length}
 use borrow.Author.Tests.{eqb-true, ltb-false}
 use Rattle.limits.specs.Limits.{mostLive, mostRecords}
-use Rattle.model.specs.Lists.{member, pick, first}
+use Rattle.model.specs.Lists.{member, pick, first, Among, Rising}
 use Rattle.model.specs.Table.{update-same, update-field}
 use Rattle.model.specs.Store.{Chains, Snapshot, ReadRecord, Txn, Store, rank, keyIn}
-use Rattle.model.specs.Seeing.{versionOf, pending, matches, recordOf}
+use Rattle.model.specs.Seeing.{versionOf, pending, matches, recordOf, Live}
 use Rattle.model.specs.Steps.{foundRows, recordsAfter, readTxn, readDone}
 use Rattle.model.specs.Refusals.{rows, placeOf, txnOf, checks}
 use Rattle.model.specs.Machine.{Rows, at, accepted, step}
-use Rattle.model.proofs.ListLaws.{and-r, or-left, or-right, same-test, Among, among-member, Rising, pick-same, pick-rising}
-use Rattle.model.proofs.Move.{Live, passes, finds, did-rows}
+use Rattle.model.proofs.ListLaws.{and-r, or-left, or-right, same-test, among-member, pick-same, pick-rising}
+use Rattle.model.proofs.Move.{passes, finds, did-rows}
 use Rattle.model.proofs.Chained.{Chained}
 use Rattle.model.proofs.SeeingLaws.{keyAt-pos, match-version, found-which, recordAll-has}
 use Rattle.model.proofs.Walk.{heads, version-finds, finds-chain, chains-apart}

@@ -9,19 +9,20 @@ use borrow.Author.Tests.{eq-eqb, ne-eqb, lt-ltb, le-leb, ltb-false, leb-true}
 use Rattle.limits.specs.Limits.{mostLive, lastNumber}
 use Rattle.model.specs.Lists.{all-of}
 use Rattle.model.specs.Store.{Sizes, IndexRead, Write, ReadRecord, Txn, Store, fresh, rank}
-use Rattle.model.specs.Seeing.{live}
+use Rattle.model.specs.Seeing.{live, Live}
 use Rattle.model.specs.Steps.{pendingRows}
 use Rattle.model.specs.Refusals.{Step}
 use Rattle.model.specs.Shape.{within, goodSizes, goodChains, goodCounts, goodRanges, goodHeads, goodTxn, distinctNumbers, rightShape}
 use Rattle.model.specs.Machine.{step, stepIn, run, canOpen}
+use Rattle.model.specs.Holding.{Writes, Claims}
 use Rattle.model.proofs.ListLaws.{and-l, and-r, and-both, none-each, each-all, every-each}
-use Rattle.model.proofs.Move.{Live, test-live, CanPrepare, Move, stay, did-begin, did-mark, did-capture, did-collect, did-rows, did-write, did-prepare, did-install, did-end, did-publish, did-abort, run-inv}
+use Rattle.model.proofs.Move.{test-live, CanPrepare, Move, stay, did-begin, did-mark, did-capture, did-collect, did-rows, did-write, did-prepare, did-install, did-end, did-publish, did-abort, run-inv}
 use Rattle.model.proofs.Chained.{Chained, chained-move, chained-fresh}
 use Rattle.model.proofs.Numbers.{Numbers, numbers-move, numbers-fresh, BelowAt, below-move, below-fresh}
 use Rattle.model.proofs.Room.{RoomAt, room-move, room-fresh}
 use Rattle.model.proofs.Ranges.{good-sized, RangesAt, ranges-move, ranges-fresh}
 use Rattle.model.proofs.Owned.{free}
-use Rattle.model.proofs.Holders.{Writes, Claims, claims-busy, HoldersAt, holders-move, holders-fresh}
+use Rattle.model.proofs.Holders.{claims-busy, HoldersAt, holders-move, holders-fresh}
 use Rattle.model.proofs.Written.{WrittenAt, posted-free, written-move, written-fresh}
 use Rattle.model.proofs.Told.{ToldAt, told-move, told-fresh}
 use Rattle.model.proofs.Reading.{ReadingAt, reading-move, reading-fresh}

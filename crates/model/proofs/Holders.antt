@@ -1,35 +1,22 @@
 -- Nothing held is lost: a holder or a claim that is not 0 is the number of a live transaction in a phase that needs it, which holds all that it needs. Assumes nothing.
 use mathlib.Core.Path.{_≡_, refl, sym, ap, _∙_}
 use mathlib.Core.Bool.{true≢false}
-use mathlib.Core.Logic.{_≢_, _⊎_, inl, inr, ⊎-elim}
+use mathlib.Core.Logic.{_≢_, inl, inr, ⊎-elim}
 use mathlib.Core.Option.{Option, none, some}
 use mathlib.Core.List.{List, _++_}
 use Prim.Native.Nat.{ℕ, _≤_, _<_}
 use native.Mathlib.Omega.{arith}
-use Rattle.model.specs.Lists.{member, join}
+use Rattle.model.specs.Lists.{member, Among}
 use Rattle.model.specs.Table.{update, update-elim, cond-elim}
 use Rattle.model.specs.Store.{Sizes, Held, Phase, Open, Holding, Collected, Prepared, Installed, Ended, Txn, Store, noTxn, fresh, rank, bucketIn, keyIn, bucketOf}
 use Rattle.model.specs.Steps.{withPhase, capturedTxn, captured, collectedTxn, collected, prepared, published, pendingRows, oldKey, newKey, keyBuckets, readBuckets, neededBuckets, repost, freed}
-use Rattle.model.proofs.ListLaws.{Among, among-left, among-right, join-same, which-join, none-each, member-among, among-member}
-use Rattle.model.proofs.Move.{Live, CanCapture, CanPrepare, Move, stay, did-begin, did-mark, did-capture, did-collect, did-rows, did-write, did-prepare, did-install, did-end, did-publish, did-abort}
+use Rattle.model.specs.Holding.{Writes, needs, Wants, Claims}
+use Rattle.model.specs.Seeing.{Live}
+use Rattle.model.proofs.ListLaws.{among-left, among-right, join-same, which-join, none-each, member-among, among-member}
+use Rattle.model.proofs.Move.{CanCapture, CanPrepare, Move, stay, did-begin, did-mark, did-capture, did-collect, did-rows, did-write, did-prepare, did-install, did-end, did-publish, did-abort}
 use Rattle.model.proofs.Numbers.{Numbers}
 use Rattle.model.proofs.SeeingLaws.{key-bucket}
 use Rattle.model.proofs.Owned.{Owned, owned-wants, one-wanter, free, owned-quiet, owned-same, owned-release, owned-take, owned-one, owned-drop}
-
--- r is a pending row of x
-abbrev pub Writes : Sizes → Txn → ℕ → Type 0
-Writes z x r = Among r (pendingRows z (x .writes))
-
--- the buckets of all index reads, and of the posted and the new key of every pending row
-unfoldable pub needs : Sizes → (ℕ → Option ℕ) → Txn → List ℕ
-needs z posted x = readBuckets x ++ join (λ r. keyBuckets z (posted r) ++ keyBuckets z (newKey x r)) (pendingRows z (x .writes))
-
--- a bucket is wanted while Holding it, and from Prepared on if it is needed; a row from Prepared on if it is pending
-abbrev pub Wants : Sizes → (ℕ → Option ℕ) → Txn → ℕ → Type 0
-Wants z posted x b = ((k : ℕ) × (x .phase ≡ Holding b k)) ⊎ ((4 ≤ rank (x .phase)) × Among b (needs z posted x))
-
-abbrev pub Claims : Sizes → Txn → ℕ → Type 0
-Claims z x r = (4 ≤ rank (x .phase)) × Writes z x r
 
 pub record Holders (z : Sizes) (h : Held) (posted : ℕ → Option ℕ) (t : ℕ → Txn) : Type 0 where
   pub buckets : Owned (Wants z posted) (h .holder) t

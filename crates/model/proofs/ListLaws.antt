@@ -9,7 +9,7 @@ use native.Mathlib.Decide.{ℕ-discrete}
 use lib.Dec.{eqb}
 use lib.ListN.{length}
 use borrow.Author.Tests.{eqb-true, eq-eqb}
-use Rattle.model.specs.Lists.{member, pick, first, every, some-of, all-of, join}
+use Rattle.model.specs.Lists.{member, pick, first, every, some-of, all-of, join, Among, Rising}
 use Rattle.model.specs.Table.{cond-elim}
 
 -- tests joined by `and` and `or`
@@ -53,11 +53,6 @@ same-test true b f g = sym (f refl)
 same-test false b f g = sym (is-false b (λ e. false≢true (g e)))
 
 module _ {A : Type 0} where
-  -- x is an entry of the list
-  abbrev pub Among : A → List A → Type 0
-  Among x [] = ⊥
-  Among x (y ∷ ys) = (x ≡ y) ⊎ Among x ys
-
   pub among-left : (x : A) (ys zs : List A) → Among x ys → Among x (ys ++ zs)
   among-left x (y ∷ ys) zs (inl e) = inl e
   among-left x (y ∷ ys) zs (inr m) = inr (among-left x ys zs m)
@@ -132,11 +127,6 @@ among-member x (y ∷ ys) (inr m) = or-right (eqb x y) _ (among-member x ys m)
 
 pub not-member : (x : ℕ) (ys : List ℕ) → (Among x ys → ⊥) → member x ys ≡ false
 not-member x ys h = is-false _ (λ e. h (member-among x ys e))
-
--- every number is at least k, and each is above the one before
-abbrev pub Rising : ℕ → List ℕ → Type 0
-Rising k [] = Unit {0}
-Rising k (r ∷ rs) = (k ≤ r) × Rising (suc r) rs
 
 pub rising-from : (j k : ℕ) (rs : List ℕ) → j ≤ k → Rising k rs → Rising j rs
 rising-from j k [] h g = tt

@@ -13,17 +13,13 @@ use Rattle.limits.specs.Limits.{mostLive, mostIndexReads, mostRecords, mostWrit
 use Rattle.model.specs.Lists.{some-of, all-of}
 use Rattle.model.specs.Table.{cond-elim}
 use Rattle.model.specs.Store.{Store, Txn, Write, Ended, rank, bucketOf}
-use Rattle.model.specs.Seeing.{live}
+use Rattle.model.specs.Seeing.{live, Live}
 use Rattle.model.specs.Verdict.{verdict, verdictNumber}
 use Rattle.model.specs.Steps.{begun, stale, captured, collected, readDone, written, prepared, installed, becomes, published, ended, hasRead, recordsAfter, pendingRows, neededBuckets}
 use Rattle.model.specs.Refusals.{Refusal, Step, begin, capture, collect, rows, put, erase, prepare, install, end, publish, validate, abort, placeOf, txnOf, liveCount, byAnother, reserved, found, checks, refusal}
 use Rattle.model.specs.Shape.{rightShape}
 use Rattle.model.specs.Machine.{at, actor, accepted, isStale, afterRefusal, carried, step, stepIn, run}
 use Rattle.model.proofs.ListLaws.{and-l, and-r, or-l, or-r, first-holds, first-free}
-
--- a transaction whose number is not 0
-abbrev pub Live : Txn → Type 0
-Live x = 1 ≤ x .number
 
 -- the test of a live transaction, and its fact
 pub test-live : (x : Txn) → live x ≡ true → Live x

@@ -3,22 +3,25 @@ use mathlib.Core.Path.{_≡_, refl, sym, ap, _∙_}
 use mathlib.Core.Bool.{Bool, true, false, cond, true≢false}
 use mathlib.Core.Logic.{_↔_, _≢_, _⊎_, inl, inr, ⊎-elim}
 use mathlib.Core.Option.{Option, none, some}
-use mathlib.Core.List.{List, [], _∷_, _++_}
-use Prim.Native.Nat.{ℕ, suc, _≤_}
+use mathlib.Core.List.{List}
+use Prim.Native.Nat.{ℕ, _≤_}
 use native.Mathlib.Omega.{arith}
+use lib.Dec.{eqb}
 use lib.ListN.{length, take, drop}
 use lib.Seq.{take-at, drop-at}
-use Rattle.model.specs.Table.{update-same, cond-elim}
-use Rattle.model.specs.Store.{Write, Store, Holding, Collected, rank, keyIn}
-use Rattle.model.specs.Verdict.{verdict}
-use Rattle.model.specs.Steps.{stale, addRead, postedRows, foundRows}
-use Rattle.model.specs.Refusals.{Refusal, WrongSize, NoNumbers, Full, NoSuch, WrongPhase, NoRow, Taken, Stale, Marked, ManyReads, NoRoom, ManyRecords, ManyWrites, NoVersions, Conflict, Malformed, WrongShape, Step, begin, capture, collect, rows, put, erase, prepare, install, end, publish, validate, abort, txnOf, checks, refusal}
+use Rattle.limits.specs.Limits.{mostLive}
+use Rattle.model.specs.Table.{cond-elim}
+use Rattle.model.specs.Store.{Store}
+use Rattle.model.specs.Steps.{stale}
+use Rattle.model.specs.Refusals.{Refusal, WrongSize, NoNumbers, Full, NoSuch, WrongPhase, NoRow, Taken, Stale, Marked, ManyReads, NoRoom, ManyRecords, ManyWrites, NoVersions, Conflict, Malformed, WrongShape, Step, begin, capture, collect, rows, put, erase, prepare, install, end, publish, validate, abort, txnOf, checks, refusal, liveCount, placeOf}
 use Rattle.model.specs.Shape.{rightShape}
-use Rattle.model.specs.Machine.{Answer, Done, Number, Stamp, Count, Rows, Judged, Refused, answerNumber, lentAfter, at, actor, isStale, gives, accepted, afterRefusal, carried, step, stepIn}
+use Rattle.model.specs.Machine.{Rows, Refused, answerNumber, lentAfter, at, actor, isStale, gives, accepted, afterRefusal, carried, step, stepIn}
+use Rattle.model.specs.Given.{_and_, number, Ready, Free, bucketFor, stampFor, documented}
+use Rattle.model.proofs.ListLaws.{first-free}
+use Rattle.model.proofs.Move.{place-number}
 use Rattle.model.proofs.Unrefused.{refuses, is-accepted, accepted-answers}
-use Rattle.model.proofs.FirstTest.{_and_}
-use Rattle.model.proofs.Conditions.{number, Ready, Free, bucketFor, stampFor, lives-test, lives-number, in-phase, another, stale-test, zero-unless, unless-zero}
-use Rattle.model.proofs.Refused.{capture-8, put-0, erase-0, validate-0}
+use Rattle.model.proofs.Conditions.{lives-test, lives-number, in-phase, another, stale-test, zero-unless, unless-zero}
+use Rattle.model.proofs.Refused.{begin-0, capture-8}
 
 -- WHAT A REFUSAL LEAVES
 
@@ -101,21 +104,6 @@ capture-stale s t k = (λ e. let w = capture-8 s t k .0 (ap answerNumber e) in (
 
 -- WHAT AN ACCEPTED STEP ANSWERS AND LEAVES
 
--- document 01's answers: the number, the stamp of the bucket, the count of the posted rows, the rows, the new stamp, the verdict
-abbrev pub documented : Store → Step → Answer
-documented s begin = Number (s .clock)
-documented s (capture t k) = Stamp (stampFor s k)
-documented s (collect t) = Count (length (postedRows s (keyIn (txnOf s t .phase))))
-documented s (rows t room) = Rows (foundRows s (txnOf s t))
-documented s (put t r k payload) = Done
-documented s (erase t r) = Done
-documented s (prepare t) = Done
-documented s (install t) = Done
-documented s (end t) = Done
-documented s (publish t) = Stamp (s .clock)
-documented s (validate t) = Judged (verdict (s .chains) (s .index) (txnOf s t))
-documented s (abort t) = Done
-
 -- 0 is given exactly where the step is carried out
 pub done-does : (s : Store) (a : Step) → number s a ≡ 0 → step s a ≡ accepted s a
 done-does s a e = is-accepted s a (unless-zero (step s a .answer) e) .does
@@ -135,113 +123,7 @@ answers s (publish t) e = ap (λ w. w .answer) (done-does s (publish t) e)
 answers s (validate t) e = ap (λ w. w .answer) (done-does s (validate t) e)
 answers s (abort t) e = ap (λ w. w .answer) (done-does s (abort t) e)
 
--- the phase after a step, by rank; a record that ended leaves a free place, whose rank is 1
-abbrev pub rankAfter : Step → ℕ
-rankAfter begin = 1
-rankAfter (capture t k) = 2
-rankAfter (collect t) = 3
-rankAfter (rows t room) = 1
-rankAfter (put t r k payload) = 1
-rankAfter (erase t r) = 1
-rankAfter (prepare t) = 4
-rankAfter (install t) = 5
-rankAfter (end t) = 6
-rankAfter (publish t) = 1
-rankAfter (validate t) = 1
-rankAfter (abort t) = 1
-
-abbrev pub clockAfter : Step → ℕ → ℕ
-clockAfter begin n = suc n
-clockAfter (capture t k) n = n
-clockAfter (collect t) n = n
-clockAfter (rows t room) n = n
-clockAfter (put t r k payload) n = n
-clockAfter (erase t r) n = n
-clockAfter (prepare t) n = n
-clockAfter (install t) n = n
-clockAfter (end t) n = n
-clockAfter (publish t) n = suc n
-clockAfter (validate t) n = n
-clockAfter (abort t) n = n
-
-abbrev pub writesAfter : Step → List Write → List Write
-writesAfter begin ws = []
-writesAfter (capture t k) ws = ws
-writesAfter (collect t) ws = ws
-writesAfter (rows t room) ws = ws
-writesAfter (put t r k payload) ws = ws ++ (record { row = r; key = some k; payload = payload } ∷ [])
-writesAfter (erase t r) ws = ws ++ (record { row = r; key = none; payload = 0 } ∷ [])
-writesAfter (prepare t) ws = ws
-writesAfter (install t) ws = ws
-writesAfter (end t) ws = ws
-writesAfter (publish t) ws = []
-writesAfter (validate t) ws = ws
-writesAfter (abort t) ws = []
-
--- no step only pretends: the phase, the clock and the pending writes after it
-pub phase-after : (s : Store) (a : Step) → number s a ≡ 0 → rank (step s a .store .txns (at s (actor a)) .phase) ≡ rankAfter a
-unfolding accepted
-phase-after s begin e = rw (done-does s begin e, update-same)
-phase-after s (capture t k) e = rw (done-does s (capture t k) e, update-same)
-phase-after s (collect t) e = rw (done-does s (collect t) e, update-same)
-phase-after s (rows t room) e = rw (done-does s (rows t room) e, update-same)
-phase-after s (put t r k payload) e = rw (done-does s (put t r k payload) e, update-same) (put-0 s t r k payload .0 e .0 .2)
-phase-after s (erase t r) e = rw (done-does s (erase t r) e, update-same) (erase-0 s t r .0 e .0 .2)
-phase-after s (prepare t) e = rw (done-does s (prepare t) e, update-same)
-phase-after s (install t) e = rw (done-does s (install t) e, update-same)
-phase-after s (end t) e = rw (done-does s (end t) e, update-same)
-phase-after s (publish t) e = rw (done-does s (publish t) e, update-same)
-phase-after s (validate t) e = rw (done-does s (validate t) e) (validate-0 s t .0 e .0 .2)
-phase-after s (abort t) e = rw (done-does s (abort t) e, update-same)
-
-pub clock-after : (s : Store) (a : Step) → number s a ≡ 0 → step s a .store .clock ≡ clockAfter a (s .clock)
-unfolding accepted
-clock-after s begin e = rw (done-does s begin e)
-clock-after s (capture t k) e = rw (done-does s (capture t k) e)
-clock-after s (collect t) e = rw (done-does s (collect t) e)
-clock-after s (rows t room) e = rw (done-does s (rows t room) e)
-clock-after s (put t r k payload) e = rw (done-does s (put t r k payload) e)
-clock-after s (erase t r) e = rw (done-does s (erase t r) e)
-clock-after s (prepare t) e = rw (done-does s (prepare t) e)
-clock-after s (install t) e = rw (done-does s (install t) e)
-clock-after s (end t) e = rw (done-does s (end t) e)
-clock-after s (publish t) e = rw (done-does s (publish t) e)
-clock-after s (validate t) e = rw (done-does s (validate t) e)
-clock-after s (abort t) e = rw (done-does s (abort t) e)
-
-pub writes-after : (s : Store) (a : Step) → number s a ≡ 0 → step s a .store .txns (at s (actor a)) .writes ≡ writesAfter a (txnOf s (actor a) .writes)
-unfolding accepted
-writes-after s begin e = rw (done-does s begin e, update-same)
-writes-after s (capture t k) e = rw (done-does s (capture t k) e, update-same)
-writes-after s (collect t) e = rw (done-does s (collect t) e, update-same)
-writes-after s (rows t room) e = rw (done-does s (rows t room) e, update-same)
-writes-after s (put t r k payload) e = rw (done-does s (put t r k payload) e, update-same)
-writes-after s (erase t r) e = rw (done-does s (erase t r) e, update-same)
-writes-after s (prepare t) e = rw (done-does s (prepare t) e, update-same)
-writes-after s (install t) e = rw (done-does s (install t) e, update-same)
-writes-after s (end t) e = rw (done-does s (end t) e, update-same)
-writes-after s (publish t) e = rw (done-does s (publish t) e, update-same)
-writes-after s (validate t) e = rw (done-does s (validate t) e)
-writes-after s (abort t) e = rw (done-does s (abort t) e, update-same)
-
--- capture reads nothing yet: it holds the bucket and adds its index read, and candidates and records stay
-pub record CaptureLeaves (s s′ : Store) (t k : ℕ) : Type 0 where
-  pub phase-is : s′ .txns (at s t) .phase ≡ Holding (bucketFor s k) k
-  pub holder-is : s′ .held .holder (bucketFor s k) ≡ txnOf s t .number
-  pub reads-are : s′ .txns (at s t) .reads ≡ addRead (txnOf s t .reads) (bucketFor s k) (stampFor s k)
-  pub candidates-stay : s′ .txns (at s t) .candidates ≡ txnOf s t .candidates
-  pub records-stay : s′ .txns (at s t) .records ≡ txnOf s t .records
-
-pub capture-leaves : (s : Store) (t k : ℕ) → number s (capture t k) ≡ 0 → CaptureLeaves s (step s (capture t k) .store) t k
-unfolding accepted
-capture-leaves s t k e = rw (done-does s (capture t k) e) (record { phase-is = rw update-same; holder-is = rw update-same; reads-are = rw update-same; candidates-stay = rw update-same; records-stay = rw update-same })
-
--- collect keeps the rows posted with the key, and records stay
-pub record CollectLeaves (s s′ : Store) (t : ℕ) : Type 0 where
-  pub phase-is : s′ .txns (at s t) .phase ≡ Collected (keyIn (txnOf s t .phase))
-  pub candidates-are : s′ .txns (at s t) .candidates ≡ postedRows s (keyIn (txnOf s t .phase))
-  pub records-stay : s′ .txns (at s t) .records ≡ txnOf s t .records
-
-pub collect-leaves : (s : Store) (t : ℕ) → number s (collect t) ≡ 0 → CollectLeaves s (step s (collect t) .store) t
-unfolding accepted
-collect-leaves s t e = rw (done-does s (collect t) e) (record { phase-is = rw update-same; candidates-are = rw update-same; records-stay = rw update-same })
+-- the place that begin takes is free
+pub free-place : (s : Store) → number s begin ≡ 0 → s .txns (at s 0) .number ≡ 0
+unfolding liveCount placeOf
+free-place s z = place-number s 0 (first-free (λ i. eqb (s .txns i .number) 0) 0 mostLive (begin-0 s .0 z .1 .0))

@@ -12,8 +12,9 @@ use Rattle.model.specs.Table.{update, updateAll, update-elim, update-sam
 use Rattle.model.specs.Store.{Txn, noTxn, rank}
 use Rattle.model.specs.Steps.{release}
 use Rattle.model.specs.Refusals.{byAnother}
-use Rattle.model.proofs.ListLaws.{Among, member-among, among-member}
-use Rattle.model.proofs.Move.{Live}
+use Rattle.model.specs.Lists.{Among}
+use Rattle.model.specs.Seeing.{Live}
+use Rattle.model.proofs.ListLaws.{member-among, among-member}
 use Rattle.model.proofs.Numbers.{Numbers}
 
 -- W says which entries a transaction wants: it has them all, and every entry that is not 0 is wanted by whom it names

@@ -16,7 +16,8 @@ use Rattle.model.specs.Store.{Sizes, Installed, IndexRead, ReadRecord, W
 use Rattle.model.specs.Seeing.{pending, recordOf}
 use Rattle.model.specs.Steps.{withPhase, hasRead, addRead, postedRows, pendingRows, recordsAfter, foundRows}
 use Rattle.model.specs.Shape.{within, goodSizes}
-use Rattle.model.proofs.ListLaws.{and-l, and-r, Among, among-last, Rising, pick-rising, pick-which, pick-few}
+use Rattle.model.specs.Lists.{Among, Rising}
+use Rattle.model.proofs.ListLaws.{and-l, and-r, among-last, pick-rising, pick-which, pick-few}
 use Rattle.model.proofs.Move.{CanCapture, Move, stay, did-begin, did-mark, did-capture, did-collect, did-rows, did-write, did-prepare, did-install, did-end, did-publish, did-abort}
 use Rattle.model.proofs.SeeingLaws.{keyAt-pos, version-in, match-version, addRead-cases, recordAll-cases, found-which}
 use Rattle.model.proofs.Room.{used-pushAll}

@@ -1,8 +1,10 @@
--- Runs that meet the premises of the promises: a read that finds a row, another transaction that publishes meanwhile, a clear verdict; and the history of that run. Assumes nothing.
+-- Runs that meet the premises of the page of statements: a read that finds a row, another transaction that publishes meanwhile, a clear verdict; a stale stamp and a mark that lasts; a version that ends; and the history of a run. Assumes nothing.
 use mathlib.Core.Path.{_≡_, refl}
 use mathlib.Core.Bool.{true, false}
+use mathlib.Core.Logic.{inl}
 use mathlib.Core.Option.{none, some}
 use mathlib.Core.List.{List, [], _∷_, _++_}
+use native.Mathlib.Omega.{arith}
 use Rattle.model.specs.Store.{Sizes, Store, Collected, fresh}
 use Rattle.model.specs.Verdict.{Clear}
 use Rattle.model.specs.Refusals.{Step, begin, capture, collect, rows, put, prepare, install, end, publish, validate, txnOf}
@@ -10,32 +12,64 @@ use Rattle.model.specs.Seeing.{shows, snapshotNow}
 use Rattle.model.specs.Machine.{Done, Rows, Judged, step, run, canOpen}
 use Rattle.model.specs.Upstream.{postingsOf, remove, insert, postingReplay}
 use Rattle.model.specs.History.{addEvents, stepEvents, historyOver, history}
+use Rattle.model.specs.Given.{StaleStamp}
 use Rattle.model.proofs.Computes.{computes}
 
-abbrev sizes : Sizes
+abbrev pub sizes : Sizes
 sizes = record { rows = 4; versions = 8; buckets = 4 }
 
 -- transaction 1 writes key 6 into row 2 and publishes; transaction 3 captures and collects key 6
-abbrev before : List Step
+abbrev pub before : List Step
 before = begin ∷ put 1 2 6 10 ∷ prepare 1 ∷ install 1 ∷ end 1 ∷ publish 1 ∷ begin ∷ capture 3 6 ∷ collect 3 ∷ []
 
 -- transaction 4 writes a key of another bucket into row 0 and publishes, and a step is refused
-abbrev between : List Step
+abbrev pub between : List Step
 between = begin ∷ put 4 0 3 7 ∷ prepare 4 ∷ install 4 ∷ end 4 ∷ publish 4 ∷ publish 4 ∷ []
 
-abbrev s₁ : Store
+abbrev pub s₁ : Store
 s₁ = run (fresh sizes 1) before
 
-abbrev s₂ : Store
+abbrev pub s₂ : Store
 s₂ = run (step s₁ (rows 3 4) .store) between
 
-met : (canOpen sizes 1 ≡ true) × (step s₁ (rows 3 4) .answer ≡ Rows (2 ∷ [])) × (txnOf s₁ 3 .phase ≡ Collected 6) × (txnOf s₁ 3 .writes ≡ []) × (step s₂ (validate 3) .answer ≡ Judged Clear) × (step s₂ (prepare 3) .answer ≡ Done)
+-- the premises of finished-read, validated-read and prepared-read
+pub met : (canOpen sizes 1 ≡ true) × (step s₁ (rows 3 4) .answer ≡ Rows (2 ∷ [])) × (txnOf s₁ 3 .phase ≡ Collected 6) × (txnOf s₁ 3 .writes ≡ []) × (step s₂ (validate 3) .answer ≡ Judged Clear) × (step s₂ (prepare 3) .answer ≡ Done)
     × (shows (s₂ .chains) 4 (snapshotNow s₂) 6 ≡ record { row = 2; ptr = 1; xmin = 1 } ∷ [])
 unfolding computes
 met = (refl, refl, refl, refl, refl, refl, refl)
 
 -- the history of the run up to s₂: the two publishes
-told : (history (fresh sizes 1) (before ++ (rows 3 4 ∷ between)) ≡ record { row = 0; before = none; after = some 3; creator = 4; stamp = 5 } ∷ record { row = 2; before = none; after = some 6; creator = 1; stamp = 2 } ∷ [])
+pub told : (history (fresh sizes 1) (before ++ (rows 3 4 ∷ between)) ≡ record { row = 0; before = none; after = some 3; creator = 4; stamp = 5 } ∷ record { row = 2; before = none; after = some 6; creator = 1; stamp = 2 } ∷ [])
     × (postingReplay (postingsOf (λ r. none)) (history (fresh sizes 1) before) 6 2 ≡ true) × (postingReplay (postingsOf (λ r. none)) (history (fresh sizes 1) before) 6 0 ≡ false)
 unfolding computes addEvents stepEvents historyOver postingReplay postingsOf remove insert
 told = (refl, refl, refl)
+
+-- transaction 3 was live when 4 published key 2 into its bucket: its capture of key 6 meets a stale stamp
+abbrev pub late : List Step
+late = begin ∷ put 1 2 6 10 ∷ prepare 1 ∷ install 1 ∷ end 1 ∷ publish 1 ∷ begin ∷ begin ∷ put 4 0 2 7 ∷ prepare 4 ∷ install 4 ∷ end 4 ∷ publish 4 ∷ []
+
+abbrev pub s₃ : Store
+s₃ = run (fresh sizes 1) late
+
+pub met-stale : StaleStamp s₃ (capture 3 6)
+unfolding computes
+met-stale = ((refl, (0, omega arith, refl, omega arith), refl), (refl, (inl refl, omega arith)))
+
+-- the mark lasts through a put, and the transaction goes on: the premises of mark-life
+abbrev pub s₄ : Store
+s₄ = step s₃ (capture 3 6) .store
+
+pub met-mark : (s₄ .txns 0 .number ≡ 3) × (step s₄ (put 3 1 5 8) .store .txns 0 .number ≡ 3) × (s₄ .txns 0 .marked ≡ true) × (step s₄ (put 3 1 5 8) .store .txns 0 .marked ≡ true)
+unfolding computes
+met-mark = (refl, refl, refl, refl)
+
+-- a version that ends: transaction 3 writes row 2 again; key and payload of the old version stay, and its xmax turns from 0 to 3
+abbrev pub over : List Step
+over = begin ∷ put 3 2 6 11 ∷ prepare 3 ∷ install 3 ∷ []
+
+abbrev pub s₅ : Store
+s₅ = run (fresh sizes 1) (begin ∷ put 1 2 6 10 ∷ prepare 1 ∷ install 1 ∷ end 1 ∷ publish 1 ∷ [])
+
+pub met-version : (s₅ .chains .used ≡ 1) × (s₅ .chains .xmax 1 ≡ 0) × (run s₅ over .chains .xmax 1 ≡ 3) × (run s₅ over .chains .payload 1 ≡ 10) × (run s₅ over .chains .payload 2 ≡ 11)
+unfolding computes
+met-version = (refl, refl, refl, refl, refl)

@@ -7,10 +7,11 @@ use Prim.Native.Nat.{ℕ, _<_}
 use native.Mathlib.Omega.{arith}
 use Rattle.model.specs.Table.{update, update-elim, updateAll-elim}
 use Rattle.model.specs.Store.{Sizes, Chains, Holding, Collected, Prepared, Installed, Ended, ReadRecord, Txn, Store, noTxn, fresh, rank, bucketIn, keyIn, bucketOf}
-use Rattle.model.specs.Seeing.{seen, versionOf, keyAt, recordOf}
+use Rattle.model.specs.Seeing.{seen, versionOf, keyAt, recordOf, Live}
 use Rattle.model.specs.Steps.{newTxn, markedTxn, hasRead, capturedTxn, collectedTxn, postedRows, foundRows, readTxn, writtenTxn, withPhase, pendingRows, installed, changedBuckets, published}
-use Rattle.model.proofs.ListLaws.{Among, member-among}
-use Rattle.model.proofs.Move.{Live, CanCapture, Move, stay, did-begin, did-mark, did-capture, did-collect, did-rows, did-write, did-prepare, did-install, did-end, did-publish, did-abort}
+use Rattle.model.specs.Lists.{Among}
+use Rattle.model.proofs.ListLaws.{member-among}
+use Rattle.model.proofs.Move.{CanCapture, Move, stay, did-begin, did-mark, did-capture, did-collect, did-rows, did-write, did-prepare, did-install, did-end, did-publish, did-abort}
 use Rattle.model.proofs.Chained.{Chained}
 use Rattle.model.proofs.Numbers.{Numbers}
 use Rattle.model.proofs.SeeingLaws.{addRead-has, recordAll-cases}

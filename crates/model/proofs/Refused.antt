@@ -7,15 +7,15 @@ use Prim.Native.Nat.{ℕ, _+_, _≤_, _<_, min}
 use native.Mathlib.Omega.{arith}
 use lib.ListN.{length}
 use Rattle.limits.specs.Limits.{mostRows, mostVersions, mostBuckets, mostLive, mostRecords, mostWrites, lastNumber}
-use Rattle.model.specs.Lists.{all-of}
+use Rattle.model.specs.Lists.{all-of, Among}
 use Rattle.model.specs.Store.{Sizes, Store}
 use Rattle.model.specs.Steps.{foundRows, recordsAfter, readBuckets, neededBuckets}
 use Rattle.model.specs.Refusals.{Step, begin, capture, collect, rows, put, erase, prepare, install, end, publish, validate, abort, txnOf, liveCount, checks}
 use Rattle.model.specs.Shape.{rightShape}
 use Rattle.model.specs.Machine.{actor, canOpen}
-use Rattle.model.proofs.ListLaws.{Among}
-use Rattle.model.proofs.FirstTest.{_and_, given-among, itself, opposite, either, less, at-most, equal, stop, skip, stop-or, pass}
-use Rattle.model.proofs.Conditions.{number, Shaped, Lives, Names, RightPhase, Ready, ByAnother, Free, BucketTaken, BucketsFree, RowTaken, RowsFree, bucketFor, stampFor, Seventeenth, RoomForRead, verdictOf, versionsAfter, all-tests, number-is, shape-test, lives-number, past, ready-only, cannot-open, Outside, openNumber, unknown, wrong-phase, no-sixteen, in-phase, early, another, bucket-taken, row-taken, stale-test, read-test}
+use Rattle.model.specs.Given.{_and_, number, Shaped, Lives, Names, RightPhase, Ready, ByAnother, Free, BucketTaken, BucketsFree, RowTaken, RowsFree, bucketFor, stampFor, Seventeenth, RoomForRead, verdictOf, versionsAfter, Outside, openNumber}
+use Rattle.model.proofs.FirstTest.{given-among, itself, opposite, either, less, at-most, equal, stop, skip, stop-or, pass}
+use Rattle.model.proofs.Conditions.{all-tests, number-is, shape-test, lives-number, past, ready-only, cannot-open, unknown, wrong-phase, no-sixteen, in-phase, early, another, bucket-taken, row-taken, stale-test, read-test}
 
 -- the numbers that a step can give, in the order of its tests; capture's first 8 is the mark's, its second a stale stamp's
 abbrev pub inOrder : Step → List ℕ

@@ -8,12 +8,12 @@ use Prim.Native.Nat.{ℕ, _≤_, _<_}
 use native.Mathlib.Omega.{arith}
 use Rattle.model.specs.Table.{update, update-elim}
 use Rattle.model.specs.Store.{Sizes, Chains, Snapshot, ReadRecord, Installed, Txn, Store, noTxn, rank, bucketOf}
-use Rattle.model.specs.Seeing.{seen, versionOf, keyAt, recordOf}
+use Rattle.model.specs.Seeing.{seen, versionOf, keyAt, recordOf, Live}
 use Rattle.model.specs.Steps.{newTxn, hasRead, pendingRows, foundRows, withPhase, installed}
 use Rattle.model.specs.Refusals.{Step}
 use Rattle.model.specs.Machine.{run}
-use Rattle.model.proofs.ListLaws.{Among}
-use Rattle.model.proofs.Move.{Live, Move, stay, did-begin, did-mark, did-capture, did-collect, did-rows, did-write, did-prepare, did-install, did-end, did-publish, did-abort, run-inv}
+use Rattle.model.specs.Lists.{Among}
+use Rattle.model.proofs.Move.{Move, stay, did-begin, did-mark, did-capture, did-collect, did-rows, did-write, did-prepare, did-install, did-end, did-publish, did-abort, run-inv}
 use Rattle.model.proofs.Numbers.{Numbering, began, kept, numbering}
 use Rattle.model.proofs.SeeingLaws.{addRead-keeps, recordAll-keeps}
 use Rattle.model.proofs.Grown.{Grown}

@@ -12,11 +12,11 @@ use Rattle.limits.specs.Limits.{mostLive, lastNumber}
 use Rattle.model.specs.Lists.{pick}
 use Rattle.model.specs.Table.{update, update-same, update-other}
 use Rattle.model.specs.Store.{Sizes, Chains, Prepared, Installed, Txn, Store, noTxn, fresh, rank}
-use Rattle.model.specs.Seeing.{live, lastWrite}
+use Rattle.model.specs.Seeing.{live, lastWrite, Live}
 use Rattle.model.specs.Steps.{newTxn, push, pushAll, pendingRows, newKey, writtenPayload, withPhase, prepared, installed}
 use Rattle.model.specs.Refusals.{liveCount, reservedBy, reserved}
 use Rattle.model.proofs.ListLaws.{pick-same}
-use Rattle.model.proofs.Move.{Live, live-test, Move, stay, did-begin, did-mark, did-capture, did-collect, did-rows, did-write, did-prepare, did-install, did-end, did-publish, did-abort}
+use Rattle.model.proofs.Move.{live-test, Move, stay, did-begin, did-mark, did-capture, did-collect, did-rows, did-write, did-prepare, did-install, did-end, did-publish, did-abort}
 use Rattle.model.proofs.Numbers.{Numbers, in-place}
 
 pub record Room (z : Sizes) (clock used : ℕ) (t : ℕ → Txn) : Type 0 where

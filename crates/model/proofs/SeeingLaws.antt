@@ -12,7 +12,8 @@ use Rattle.model.specs.Table.{cond-elim}
 use Rattle.model.specs.Store.{Sizes, Chains, Snapshot, IndexRead, ReadRecord, Write, Txn, Store, sameKey, bucketOf, keyIn}
 use Rattle.model.specs.Seeing.{visible, known, walk, firstVisible, versionOf, keyAt, pending, shownKey, matches, recordOf}
 use Rattle.model.specs.Steps.{hasRead, addRead, recorded, recording, recordAll, foundRows, pendingRows, keyBuckets}
-use Rattle.model.proofs.ListLaws.{and-l, and-r, or-cases, Among, among-left, among-right, among-last, some-which, which-some, pick-which, which-pick}
+use Rattle.model.specs.Lists.{Among}
+use Rattle.model.proofs.ListLaws.{and-l, and-r, or-cases, among-left, among-right, among-last, some-which, which-some, pick-which, which-pick}
 
 pub same-key : (a b : Option ℕ) → sameKey a b ≡ true → a ≡ b
 unfolding sameKey
@@ -71,6 +72,11 @@ match-version c x k r p m = same-key _ _ (rw p at m)
 pub version-match : (c : Chains) (x : Txn) (k r : ℕ) → pending (x .writes) r ≡ false → matches c x k r ≡ sameKey (keyAt c (versionOf c (x .snapshot) r)) (some k)
 unfolding matches shownKey
 version-match c x k r p = rw p
+
+-- an erasure matches no key: neither a last pending write that is one, nor a version that was erased
+pub erasure-matches-none : (c : Chains) (x : Txn) (k r : ℕ) → shownKey c x r ≡ none → matches c x k r ≡ false
+unfolding matches sameKey
+erasure-matches-none c x k r e = rw e
 
 -- the distinct pending rows
 pub which-pendingRows : (z : Sizes) (ws : List Write) (r : ℕ) → r < z .rows → pending ws r ≡ true → Among r (pendingRows z ws)

@@ -7,14 +7,13 @@ use mathlib.Core.List.{List, [], _∷_}
 use Prim.Native.Nat.{ℕ, _≤_}
 use native.Mathlib.Omega.{arith}
 use Rattle.model.specs.Table.{update, update-same, update-other}
-use Rattle.model.specs.Store.{Sizes, Chains, Txn, Store, rank}
-use Rattle.model.specs.Seeing.{seen, versionOf, keyAt}
+use Rattle.model.specs.Store.{Sizes, Chains, Txn, Store}
+use Rattle.model.specs.Seeing.{seen, versionOf, keyAt, Live}
 use Rattle.model.specs.Upstream.{creatorVisible, Event, snapshotRows}
-use Rattle.model.proofs.Move.{Live}
+use Rattle.model.specs.Holding.{Unpublished}
 use Rattle.model.proofs.Numbers.{Snapped}
 use Rattle.model.proofs.SeeingLaws.{keyAt-zero, keyAt-key}
 use Rattle.model.proofs.Walk.{Finds, nothing, here, down, zero-finds, version-finds}
-use Rattle.model.proofs.Holders.{Writes}
 use Rattle.model.proofs.Good.{Good}
 use Rattle.model.proofs.UpstreamLaws.{creator-seen}
 
@@ -23,10 +22,6 @@ pub data Traced (c : Chains) (r : ℕ) : List Event → ℕ → Type 0 where
   start : {p : ℕ} → p ≡ 0 → Traced c r [] p
   own : {e : Event} {older : List Event} {p : ℕ} → e .row ≡ r → 1 ≤ p → p ≤ c .used → c .xmin p ≡ e .creator → c .key p ≡ e .after → Traced c r older (c .next p) → Traced c r (e ∷ older) p
   other : {e : Event} {older : List Event} {p : ℕ} → e .row ≢ r → Traced c r older p → Traced c r (e ∷ older) p
-
--- x has installed row r and not published it
-abbrev pub Unpublished : Sizes → Txn → ℕ → Type 0
-Unpublished z x r = Live x × (5 ≤ rank (x .phase)) × Writes z x r
 
 -- the row's events lead down from its head, or, while it is unpublished, from the version under it
 pub data RowTraced (z : Sizes) (c : Chains) (t : ℕ → Txn) (es : List Event) (r : ℕ) : Type 0 where

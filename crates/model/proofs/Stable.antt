@@ -8,9 +8,8 @@ use native.Mathlib.Omega.{arith}
 use native.Mathlib.Decide.{ℕ-discrete}
 use Rattle.model.specs.Lists.{member}
 use Rattle.model.specs.Store.{Chains, Snapshot, Txn, rank}
-use Rattle.model.specs.Seeing.{seen, versionOf, keyAt}
+use Rattle.model.specs.Seeing.{seen, versionOf, keyAt, Live}
 use Rattle.model.proofs.ListLaws.{member-among, among-member}
-use Rattle.model.proofs.Move.{Live}
 use Rattle.model.proofs.Chained.{Chained}
 use Rattle.model.proofs.Numbers.{Numbers}
 use Rattle.model.proofs.SeeingLaws.{version-in}

@@ -7,12 +7,12 @@ use Prim.Native.Nat.{ℕ, _≤_, _<_}
 use native.Mathlib.Omega.{arith}
 use native.Mathlib.Decide.{ℕ-discrete}
 use Rattle.model.specs.Store.{Chains, Snapshot, IndexRead, Store, rank, sameKey, bucketOf}
-use Rattle.model.specs.Seeing.{seen, versionOf, keyAt, recordOf, shows, snapshotNow}
+use Rattle.model.specs.Seeing.{seen, versionOf, keyAt, recordOf, shows, snapshotNow, Live}
 use Rattle.model.specs.Verdict.{badRecord}
 use Rattle.model.specs.Steps.{readBuckets}
 use Rattle.model.specs.Refusals.{byAnother}
-use Rattle.model.proofs.ListLaws.{is-false, same-test, Among, among-map, map-pick}
-use Rattle.model.proofs.Move.{Live}
+use Rattle.model.specs.Lists.{Among}
+use Rattle.model.proofs.ListLaws.{is-false, same-test, among-map, map-pick}
 use Rattle.model.proofs.Numbers.{active-which}
 use Rattle.model.proofs.SeeingLaws.{same-key, key-same, keyAt-pos, read-bucket}
 use Rattle.model.proofs.Walk.{Finds, nothing, here, down, version-finds, finds-one, finds-shown, finds-open, finds-top, zero-finds}

@@ -9,17 +9,17 @@ use native.Mathlib.Omega.{arith}
 use native.Mathlib.Decide.{ℕ-discrete}
 use lib.Dec.{ltb}
 use borrow.Author.Tests.{ltb-true, lt-ltb, not-true}
-use Rattle.model.specs.Lists.{member}
+use Rattle.model.specs.Lists.{member, Among}
 use Rattle.model.specs.Table.{update, update-elim, update-same, update-other, updateAll-elim}
 use Rattle.model.specs.Store.{Sizes, Chains, Snapshot, Installed, Txn, Store, noTxn, fresh, rank, sameKey, bucketOf}
-use Rattle.model.specs.Seeing.{seen, keyAt}
+use Rattle.model.specs.Seeing.{seen, keyAt, Live}
 use Rattle.model.specs.Steps.{withPhase, newTxn, begun, pendingRows, keyBefore, newKey, keyBuckets, changedBuckets, installed, published}
-use Rattle.model.proofs.ListLaws.{and-l, and-r, is-false, Among, member-among, among-member, not-member, among-left, among-right, which-join}
-use Rattle.model.proofs.Move.{Live, Move, stay, did-begin, did-mark, did-capture, did-collect, did-rows, did-write, did-prepare, did-install, did-end, did-publish, did-abort}
+use Rattle.model.specs.Holding.{Writes}
+use Rattle.model.proofs.ListLaws.{and-l, and-r, is-false, member-among, among-member, not-member, among-left, among-right, which-join}
+use Rattle.model.proofs.Move.{Move, stay, did-begin, did-mark, did-capture, did-collect, did-rows, did-write, did-prepare, did-install, did-end, did-publish, did-abort}
 use Rattle.model.proofs.Chained.{Chained}
 use Rattle.model.proofs.Numbers.{Numbers, BelowAt, Kept, kept-free, active-which}
 use Rattle.model.proofs.SeeingLaws.{same-key, key-same, key-bucket}
-use Rattle.model.proofs.Holders.{Writes}
 use Rattle.model.proofs.Grown.{Grown}
 use Rattle.model.proofs.Written.{WrittenAt, old-or-new, keyAt-grown, installs}
 

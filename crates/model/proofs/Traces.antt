@@ -8,27 +8,29 @@ use native.Mathlib.Omega.{arith}
 use native.Mathlib.Decide.{ℕ-discrete}
 use lib.Dec.{eqb}
 use borrow.Author.Tests.{eqb-true, eqb-false}
-use Rattle.limits.specs.Limits.{mostLive, lastNumber}
-use Rattle.model.specs.Lists.{member}
+use Rattle.limits.specs.Limits.{lastNumber}
+use Rattle.model.specs.Lists.{member, Among, Rising}
 use Rattle.model.specs.Table.{update, update-same, update-other, update-elim}
 use Rattle.model.specs.Store.{Sizes, Chains, Installed, Txn, Store, noTxn, fresh, rank}
 use Rattle.model.specs.Steps.{withPhase, pendingRows, newKey, installed, published}
 use Rattle.model.specs.Upstream.{Event}
-use Rattle.model.specs.Refusals.{Step, begin, capture, collect, rows, put, erase, prepare, install, end, publish, validate, abort, placeOf, txnOf, liveCount}
+use Rattle.model.specs.Refusals.{Step, begin, capture, collect, rows, put, erase, prepare, install, end, publish, validate, abort, txnOf}
 use Rattle.model.specs.Machine.{at, actor, accepted, step, run, canOpen}
 use Rattle.model.specs.History.{eventOf, addEvents, stepEvents, historyOver, history}
-use Rattle.model.proofs.ListLaws.{Among, Rising, rising-above, pick-rising, member-among, among-member, first-free}
-use Rattle.model.proofs.Move.{Live, place-number}
+use Rattle.model.specs.Seeing.{Live}
+use Rattle.model.specs.Holding.{Writes, Unpublished}
+use Rattle.model.specs.Given.{number, Ready}
+use Rattle.model.proofs.ListLaws.{rising-above, pick-rising, member-among, among-member}
 use Rattle.model.proofs.Chained.{Chained}
 use Rattle.model.proofs.SeeingLaws.{keyAt-key}
-use Rattle.model.proofs.Holders.{Writes, one-claim}
+use Rattle.model.proofs.Holders.{one-claim}
 use Rattle.model.proofs.Grown.{Grown}
 use Rattle.model.proofs.Written.{Mine, installs}
 use Rattle.model.proofs.Good.{Good, good-run, opened-good}
-use Rattle.model.proofs.Conditions.{number, Ready, lives-number}
-use Rattle.model.proofs.Refused.{begin-0, capture-0, collect-0, rows-0, put-0, erase-0, prepare-0, install-0, end-0, publish-0, abort-0}
-use Rattle.model.proofs.Outcomes.{refused-store, done-does}
-use Rattle.model.proofs.Snapshots.{Traced, start, own, other, Unpublished, RowTraced, whole, waiting, TracedAt}
+use Rattle.model.proofs.Conditions.{lives-number}
+use Rattle.model.proofs.Refused.{capture-0, collect-0, rows-0, put-0, erase-0, prepare-0, install-0, end-0, publish-0, abort-0}
+use Rattle.model.proofs.Outcomes.{refused-store, done-does, free-place}
+use Rattle.model.proofs.Snapshots.{Traced, start, own, other, RowTraced, whole, waiting, TracedAt}
 
 -- events of other rows are passed over
 added-other : (s : Store) (x : Txn) (c : Chains) (rs : List ℕ) (older : List Event) (r p : ℕ) → (Among r rs → ⊥) → Traced c r older p → Traced c r (addEvents s x rs older) p
@@ -128,11 +130,6 @@ no-event s a es h done = elim (ℕ-discrete (number s a) 0) [
   | yes z ↦ rw (done-does s a z) (done z)
   | no d ↦ ⊎-elim (λ e. rw e h) (λ e. rw e (λ r. row-on (s .sizes) (s .chains) (s .txns) es r (at s (actor a)) _ refl refl (λ v. v) (λ v. v) (h r))) (refused-store s a d)
 ]
-
--- the place that begin takes is free
-free-place : (s : Store) → number s begin ≡ 0 → s .txns (at s 0) .number ≡ 0
-unfolding liveCount placeOf
-free-place s z = place-number s 0 (first-free (λ i. eqb (s .txns i .number) 0) 0 mostLive (begin-0 s .0 z .1 .0))
 
 -- one who is ready is live
 ready-live : (s : Store) (a : Step) → Ready s a → Live (txnOf s (actor a))

@@ -10,15 +10,14 @@ use native.Mathlib.Decide.{ℕ-discrete}
 use lib.Dec.{eqb, ltb, leb}
 use lib.ListN.{length, getD}
 use borrow.Author.Tests.{eqb-true, eq-eqb, ne-eqb, ltb-true, ltb-false, leb-true, leb-false}
-use Rattle.model.specs.Lists.{member, least}
+use Rattle.model.specs.Lists.{member, least, Among}
 use Rattle.model.specs.Table.{cond-elim}
 use Rattle.model.specs.Store.{Chains, Index, IndexRead, Snapshot, Write, ReadRecord, Txn, Store, sameKey}
-use Rattle.model.specs.Seeing.{seen, visible, known, walk, firstVisible, versionOf, keyAt, lastWriteFrom, lastWrite, pending, writtenKey, shownKey, matches}
+use Rattle.model.specs.Seeing.{seen, visible, known, walk, firstVisible, versionOf, keyAt, lastWriteFrom, lastWrite, pending, writtenKey, shownKey, matches, Live}
 use Rattle.model.specs.Verdict.{badRead, badRecord}
 use Rattle.model.specs.Steps.{recorded, recording}
-use Rattle.model.specs.Upstream.{creatorVisible, rowVisible, firstRow, lastOf, keyOf, selected, holdsKey, matchesRow, recordingOf, readConflict, readGood}
-use Rattle.model.proofs.ListLaws.{and-l, and-r, or-right, or-cases, same-test, Among}
-use Rattle.model.proofs.Move.{Live}
+use Rattle.model.specs.Upstream.{creatorVisible, rowVisible, firstRow, lastOf, keyOf, selected, holdsKey, matchesRow, recordingOf, readConflict, readGood, pointer}
+use Rattle.model.proofs.ListLaws.{and-l, and-r, or-right, or-cases, same-test}
 use Rattle.model.proofs.Numbers.{Snapped}
 use Rattle.model.proofs.SeeingLaws.{keyAt-zero, keyAt-key}
 use Rattle.model.proofs.Told.{which-seen}
@@ -105,11 +104,6 @@ own-open s g j p l a u e =
 -- on every version of a reached store upstream's `visible` is ours, for every live transaction
 pub visible-same : (s : Store) → Good s → (j p : ℕ) → Live (s .txns j) → 1 ≤ p → p ≤ s .chains .used → rowVisible (s .chains) (s .txns j) p ≡ visible (s .chains) (s .txns j .snapshot) p
 visible-same s g j p l a u = row-visible (s .txns j) (g .numbers .snapped j l) (s .chains) p (own-open s g j p l a u)
-
--- upstream answers a pointer or none, ours a pointer or 0
-unfoldable pub pointer : ℕ → Option ℕ
-pointer zero = none
-pointer (suc p) = some (suc p)
 
 some-pointer : (p : ℕ) → 1 ≤ p → some p ≡ pointer p
 unfolding pointer

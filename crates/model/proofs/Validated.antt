@@ -9,13 +9,14 @@ use borrow.Author.Tests.{eqb-true, not-false}
 use Rattle.limits.specs.Limits.{mostLive}
 use Rattle.model.specs.Table.{update-elim, update-field}
 use Rattle.model.specs.Store.{Sizes, Chains, Snapshot, ReadRecord, Collected, Prepared, Txn, Store, rank, keyIn}
-use Rattle.model.specs.Seeing.{versionOf, keyAt, pending, matches, recordOf, shows, active, activeNumbers, snapshotNow}
+use Rattle.model.specs.Seeing.{versionOf, keyAt, pending, matches, recordOf, shows, active, activeNumbers, snapshotNow, Live}
 use Rattle.model.specs.Verdict.{Clear, verdict}
 use Rattle.model.specs.Steps.{withPhase, readTxn, readDone, readBuckets, neededBuckets, prepared}
 use Rattle.model.specs.Refusals.{Step, rows, validate, prepare, txnOf, byAnother, checks}
 use Rattle.model.specs.Machine.{Rows, Judged, Done, at, accepted, step, run}
-use Rattle.model.proofs.ListLaws.{or-l, Among, among-left, none-each, which-pick, map-pick, pick-same}
-use Rattle.model.proofs.Move.{Live, passes, finds}
+use Rattle.model.specs.Lists.{Among}
+use Rattle.model.proofs.ListLaws.{or-l, among-left, none-each, which-pick, map-pick, pick-same}
+use Rattle.model.proofs.Move.{passes, finds}
 use Rattle.model.proofs.SeeingLaws.{key-same, version-match}
 use Rattle.model.proofs.Holders.{collected-is}
 use Rattle.model.proofs.Good.{Good, good-run, sizes-run}

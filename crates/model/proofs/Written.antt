@@ -12,14 +12,15 @@ use borrow.Author.Tests.{ltb-true, ltb-false}
 use Rattle.model.specs.Lists.{member}
 use Rattle.model.specs.Table.{update, update-elim, update-same, update-other}
 use Rattle.model.specs.Store.{Sizes, Chains, Installed, Ended, Txn, Store, noTxn, fresh, rank}
-use Rattle.model.specs.Seeing.{keyAt}
+use Rattle.model.specs.Seeing.{keyAt, Live}
 use Rattle.model.specs.Steps.{withPhase, pendingRows, oldKey, newKey, installed, published}
+use Rattle.model.specs.Holding.{Writes}
 use Rattle.model.proofs.ListLaws.{member-among, among-member, pick-rising}
-use Rattle.model.proofs.Move.{Live, Move, stay, did-begin, did-mark, did-capture, did-collect, did-rows, did-write, did-prepare, did-install, did-end, did-publish, did-abort}
+use Rattle.model.proofs.Move.{Move, stay, did-begin, did-mark, did-capture, did-collect, did-rows, did-write, did-prepare, did-install, did-end, did-publish, did-abort}
 use Rattle.model.proofs.Chained.{Chained}
 use Rattle.model.proofs.Numbers.{Numbers, BelowAt}
 use Rattle.model.proofs.SeeingLaws.{keyAt-zero, keyAt-key, keyAt-same}
-use Rattle.model.proofs.Holders.{Writes, HoldersAt, one-claim, posted-kept, repost-elim}
+use Rattle.model.proofs.Holders.{HoldersAt, one-claim, posted-kept, repost-elim}
 use Rattle.model.proofs.Grown.{Grown, grown}
 
 -- a row that x has installed and not published
@@ -112,7 +113,7 @@ keyAt-grown x rs c c′ gr p u = keyAt-same c′ c p (λ z. gr .key-old p u)
 
 pub installs : (s : Store) (i : ℕ) → Chained (s .chains) → Grown (s .txns i) (pendingRows (s .sizes) (s .txns i .writes)) (s .chains) (installed s i .chains)
 unfolding pendingRows
-installs s i ch = grown (s .txns i) 0 (pendingRows (s .sizes) (s .txns i .writes)) (s .chains) (ch .heads-in) (pick-rising _ 0 (s .sizes .rows))
+installs s i ch = grown (s .txns i) 0 (pendingRows (s .sizes) (s .txns i .writes)) (s .chains) (λ r m. ch .heads-in r) (pick-rising _ 0 (s .sizes .rows))
 
 module _ (s : Store) (i : ℕ) (ch : Chained (s .chains)) (n : Numbers (s .clock) (s .txns)) (h : HoldersAt s) (g : WrittenAt s) (l : Live (s .txns i)) (a : rank (s .txns i .phase) ≡ 4) where
   gr : Grown (s .txns i) (pendingRows (s .sizes) (s .txns i .writes)) (s .chains) (installed s i .chains)

@@ -9,6 +9,12 @@ pub mod History
 pub mod Refusals
 pub mod Shape
 pub mod Machine
+pub mod Holding
+pub mod Causes
+pub mod Given
+pub mod Effects
+pub mod Leaves
+pub mod Demands
 pub mod Log
 pub mod Report
 pub mod Replay

@@ -1,6 +1,8 @@
--- Lists of numbers and bounded tests, as every other definition uses them.
-use Prim.Native.Nat.{ℕ, zero, suc}
+-- Lists of numbers and bounded tests, as every other definition uses them; and the same as facts.
+use Prim.Native.Nat.{ℕ, zero, suc, _≤_}
+use mathlib.Core.Path.{_≡_}
 use mathlib.Core.Bool.{Bool, true, false, cond, _&&_, _||_}
+use mathlib.Core.Logic.{_⊎_}
 use mathlib.Core.List.{List, [], _∷_, _++_}
 use lib.Dec.{eqb, ltb}
 
@@ -43,3 +45,13 @@ module _ {A : Type 0} where
   unfoldable pub join : (A → List ℕ) → List A → List ℕ
   join f [] = []
   join f (x ∷ xs) = f x ++ join f xs
+
+  -- x is an entry of the list
+  abbrev pub Among : A → List A → Type 0
+  Among x [] = ⊥
+  Among x (y ∷ ys) = (x ≡ y) ⊎ Among x ys
+
+-- every number is at least k, and each is above the one before
+abbrev pub Rising : ℕ → List ℕ → Type 0
+Rising k [] = Unit {0}
+Rising k (r ∷ rs) = (k ≤ r) × Rising (suc r) rs

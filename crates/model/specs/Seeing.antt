@@ -1,5 +1,5 @@
 -- Seeing a row: what a snapshot sees of a chain, and when a row matches a key.
-use Prim.Native.Nat.{ℕ, zero, suc}
+use Prim.Native.Nat.{ℕ, zero, suc, _≤_}
 use mathlib.Core.Bool.{Bool, false, cond, not, _&&_, _||_}
 use mathlib.Core.Option.{Option, none, some}
 use mathlib.Core.List.{List, [], _∷_, map}
@@ -70,9 +70,12 @@ recordOf c s r = record { row = r; ptr = versionOf c s r; xmin = c .xmin (versio
 unfoldable pub shows : Chains → ℕ → Snapshot → ℕ → List ReadRecord
 shows c n s k = map (recordOf c s) (pick (λ r. sameKey (keyAt c (versionOf c s r)) (some k)) 0 n)
 
--- a live transaction, and an active one: live and not Ended
+-- a live transaction, as a test and as a fact, and an active one: live and not Ended
 abbrev pub live : Txn → Bool
 live x = not (eqb (x .number) 0)
+
+abbrev pub Live : Txn → Type 0
+Live x = 1 ≤ x .number
 
 abbrev pub active : Txn → Bool
 active x = live x && ltb (rank (x .phase)) 6

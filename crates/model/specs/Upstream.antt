@@ -28,6 +28,11 @@ unfoldable pub firstRow : Chains → Txn → ℕ → ℕ → Option ℕ
 firstRow c x zero p = none
 firstRow c x (suc steps) p = cond (known c p) (cond (rowVisible c x p) (some p) (firstRow c x steps (c .next p))) none
 
+-- upstream answers a pointer or none where ours is a pointer or 0
+unfoldable pub pointer : ℕ → Option ℕ
+pointer zero = none
+pointer (suc p) = some (suc p)
+
 -- last_write: among the first n writes, from the last one back
 unfoldable pub lastOf : List Write → ℕ → ℕ → Option Write
 lastOf ws r zero = none

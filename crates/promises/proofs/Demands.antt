@@ -11,7 +11,8 @@ use Rattle.model.specs.Verdict as judged
 use Rattle.model.specs.Refusals.{Step as Asked, rows, validate, txnOf}
 use Rattle.model.specs.Machine as machine
 use Rattle.model.specs.Machine.{lentAfter, step, run}
-use Rattle.model.proofs.Promises.{ExactAnswer, exact-answer, FinishedRead, finished-read, StandingRead, validated-read}
+use Rattle.model.specs.Demands.{ExactAnswer, FinishedRead, StandingRead}
+use Rattle.model.proofs.Promises.{exact-answer, finished-read, validated-read}
 use Rattle.protocol.specs.declared.Step.the-variants as ask
 use Rattle.protocol.specs.declared.Verdict.the-variants as verdict
 use Rattle.protocol.specs.declared.Answer.{Answer}

@@ -11,7 +11,7 @@ use borrow.Author.Tests.{ne-eqb, ltb-false}
 use lib.Dec.{eqb, ltb}
 use lib.ListN.{length, length-append, length-map}
 use Rattle.limits.specs.Limits.{mostWrites, mostRecords, mostRows}
-use Rattle.model.specs.Lists.{member, some-of}
+use Rattle.model.specs.Lists.{member, some-of, Among}
 use Rattle.model.specs.Store.{Txn, Store, rank, keyIn}
 use Rattle.model.specs.Store as model
 use Rattle.model.specs.Seeing.{versionOf, pending, matches}
@@ -20,7 +20,7 @@ use Rattle.model.specs.Steps.{foundRows, recorded, recording, recordAll, record
 use Rattle.model.specs.Refusals.{Refusal, WrongPhase, NoRoom, ManyRecords, refusalNumber, refusal}
 use Rattle.model.specs.Machine as machine
 use Rattle.model.specs.Machine.{lentAfter}
-use Rattle.model.proofs.ListLaws.{Among, pick-same}
+use Rattle.model.proofs.ListLaws.{pick-same}
 use Rattle.model.proofs.SeeingLaws.{keyAt-pos, match-version, version-in, found-which}
 use Rattle.protocol.specs.View.{told}
 use Rattle.tables.specs.Lists.{records, recordOf, startOf, writesOf, recordsOf}

@@ -12,13 +12,13 @@ use lib.Dec.{eqb, ltb, leb}
 use lib.ListN.{length, take, getD, length-map, length-take, List·getD-map}
 use borrow.Author.Tests.{eqb-true, ltb-true, leb-true, le-leb}
 use Rattle.limits.specs.Limits.{mostLive, mostActive, mostIndexReads, mostWrites, mostRows, lastNumber}
-use Rattle.model.specs.Lists.{pick, every, all-of}
+use Rattle.model.specs.Lists.{pick, every, all-of, Among}
 use Rattle.model.specs.Store as model
 use Rattle.model.specs.Seeing.{live}
 use Rattle.model.specs.Steps.{pendingRows}
 use Rattle.model.specs.Refusals.{liveCount, reservedBy, reserved}
 use Rattle.model.specs.Shape.{within, goodSizes, goodChains, goodCounts, goodRanges, goodHeads, goodTxn, distinctNumbers, rightShape}
-use Rattle.model.proofs.ListLaws.{Among, and-l, and-r, same-test, each-all, every-each}
+use Rattle.model.proofs.ListLaws.{and-l, and-r, same-test, each-all, every-each}
 use Rattle.model.proofs.Ranges.{good-sized}
 use Rattle.tables.specs.Fields.{headOf, xminOf, nextOf}
 use Rattle.tables.specs.Lists.{Kind, reads, writes, records, startOf, readOf, writeOf, recordOf, candidateOf, candidates, entryAt, listAt}

@@ -9,18 +9,19 @@ use native.Mathlib.Omega.{arith}
 use lib.Dec.{eqb}
 use lib.ListN.{length, length-append}
 use borrow.Author.Tests.{eqb-false, ne-eqb}
-use Rattle.model.specs.Lists.{some-of}
+use Rattle.model.specs.Lists.{some-of, Among}
 use Rattle.model.specs.Table.{update, update-same, update-elim, updateAll-elim, cond-elim}
 use Rattle.model.specs.Store.{Sizes, IndexRead, Txn, Store, noTxn, fresh}
 use Rattle.model.specs.Steps.{markedTxn, hasRead, addRead, capturedTxn, changedBuckets}
 use Rattle.model.specs.Refusals.{Step, Stale, Marked, capture, txnOf}
 use Rattle.model.specs.Machine.{isStale, at, accepted, step, run}
-use Rattle.model.proofs.ListLaws.{Among, or-l, or-r, among-right, among-last}
-use Rattle.model.proofs.Move.{Live, Move, stay, did-begin, did-mark, did-capture, did-collect, did-rows, did-write, did-prepare, did-install, did-end, did-publish, did-abort, run-inv}
+use Rattle.model.specs.Seeing.{Live}
+use Rattle.model.specs.Given.{_and_, number, Ready, Free, bucketFor, stampFor}
+use Rattle.model.proofs.ListLaws.{or-l, or-r, among-right, among-last}
+use Rattle.model.proofs.Move.{Move, stay, did-begin, did-mark, did-capture, did-collect, did-rows, did-write, did-prepare, did-install, did-end, did-publish, did-abort, run-inv}
 use Rattle.model.proofs.Numbers.{Numbers, numbers-move, numbers-fresh}
 use Rattle.model.proofs.SeeingLaws.{read-bucket}
-use Rattle.model.proofs.FirstTest.{_and_}
-use Rattle.model.proofs.Conditions.{number, Ready, Free, bucketFor, stampFor, lives-number}
+use Rattle.model.proofs.Conditions.{lives-number}
 use Rattle.model.proofs.Refused.{capture-8, capture-0}
 use Rattle.model.proofs.Outcomes.{unchanged, stale-marks, capture-marked, capture-stale, done-does}
 

@@ -8,14 +8,14 @@ use mathlib.Core.List.{List, [], _∷_}
 use native.Mathlib.Omega.{arith}
 use lib.Dec.{eqb, ltb}
 use borrow.Author.Tests.{lt-ltb, ltb-true}
-use Rattle.model.specs.Lists.{pick, all-of}
+use Rattle.model.specs.Lists.{pick, all-of, Among}
 use Rattle.model.specs.Store.{Sizes, Chains, Index, IndexRead, Txn, Store, fresh}
 use Rattle.model.specs.Seeing.{matches}
 use Rattle.model.specs.Verdict.{Bucket, verdict, badRead, judgeReads}
 use Rattle.model.specs.Upstream.{matchesRow, readsGood, indexReadConflict}
 use Rattle.model.specs.Refusals.{Step, rows, txnOf}
 use Rattle.model.specs.Machine.{Rows, at, step, run}
-use Rattle.model.proofs.ListLaws.{Among, and-l, and-r, and-both, pick-which, which-pick}
+use Rattle.model.proofs.ListLaws.{and-l, and-r, and-both, pick-which, which-pick}
 use Rattle.model.proofs.Unrefused.{refuses, reached}
 use Rattle.model.proofs.UpstreamLaws.{good-same, matches-same}
 use Rattle.model.proofs.Finished.{rows-done}

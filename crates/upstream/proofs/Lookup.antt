@@ -13,7 +13,8 @@ use Rattle.model.specs.Table.{cond-elim}
 use Rattle.model.specs.Store.{Chains, ReadRecord, Txn, Store, keyIn}
 use Rattle.model.specs.Seeing.{versionOf, pending, recordOf}
 use Rattle.model.specs.Steps.{foundRows, recorded, recording, recordAll, recordsAfter, readTxn}
-use Rattle.model.proofs.ListLaws.{Among, among-right, which-some}
+use Rattle.model.specs.Lists.{Among}
+use Rattle.model.proofs.ListLaws.{among-right, which-some}
 use Rattle.model.proofs.SeeingLaws.{keyAt-pos, version-in, match-version, recordAll-cases, found-which}
 
 -- `record_read`, whose result is upstream's `recording` (`recording-same` of the model's UpstreamLaws)

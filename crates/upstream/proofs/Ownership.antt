@@ -13,13 +13,15 @@ use Rattle.model.specs.Store.{Store, bucketIn, keyIn}
 use Rattle.model.specs.Steps.{release, neededBuckets}
 use Rattle.model.specs.Refusals.{Step, capture, collect, byAnother, txnOf}
 use Rattle.model.specs.Machine.{at, actor, accepted, step}
+use Rattle.model.specs.Seeing.{Live}
+use Rattle.model.specs.Given.{number, Lives, Free, ByAnother, bucketFor}
 use Rattle.model.proofs.ListLaws.{member-among, none-each}
-use Rattle.model.proofs.Move.{Live, Move, stay, did-begin, did-mark, did-capture, did-collect, did-rows, did-write, did-prepare, did-install, did-end, did-publish, did-abort, place-number, step-move}
+use Rattle.model.proofs.Move.{Move, stay, did-begin, did-mark, did-capture, did-collect, did-rows, did-write, did-prepare, did-install, did-end, did-publish, did-abort, place-number, step-move}
 use Rattle.model.proofs.Numbers.{Numbering, began, kept, numbering, in-place}
 use Rattle.model.proofs.Holders.{holding-is}
 use Rattle.model.proofs.Owned.{release-elim}
 use Rattle.model.proofs.Good.{Good, good-move}
-use Rattle.model.proofs.Conditions.{number, Lives, Free, ByAnother, bucketFor, lives-number}
+use Rattle.model.proofs.Conditions.{lives-number}
 use Rattle.model.proofs.Refused.{capture-0}
 use Rattle.model.proofs.Outcomes.{refused-store, done-does}
 

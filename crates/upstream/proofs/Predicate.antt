@@ -6,15 +6,15 @@ use mathlib.Core.Bool.{Bool, true, false, cond}
 use mathlib.Core.Logic.{_↔_, _≢_, _⊎_, inl, inr, ⊎-elim}
 use mathlib.Core.List.{List, [], _++_}
 use native.Mathlib.Omega.{arith}
-use Rattle.model.specs.Lists.{member}
+use Rattle.model.specs.Lists.{member, Among}
 use Rattle.model.specs.Table.{updateAll}
 use Rattle.model.specs.Store.{Chains, Index, IndexRead, Txn, Store, sameKey}
 use Rattle.model.specs.Verdict.{Verdict, Clear, Bucket, Row, Mark, verdictNumber, verdict}
 use Rattle.model.specs.Steps.{pendingRows, oldKey, keyBefore, newKey, keyBuckets, readBuckets, neededBuckets, changedBuckets}
 use Rattle.model.specs.Refusals.{publish, txnOf}
 use Rattle.model.specs.Machine.{accepted, step}
-use Rattle.model.proofs.ListLaws.{Among, among-left, among-right, among-cases, join-which, which-join, member-among, among-member}
-use Rattle.model.proofs.Conditions.{number}
+use Rattle.model.specs.Given.{number}
+use Rattle.model.proofs.ListLaws.{among-left, among-right, among-cases, join-which, which-join, member-among, among-member}
 use Rattle.model.proofs.Outcomes.{done-does}
 use Rattle.model.proofs.Verdicts.{verdict-0}
 

@@ -7,7 +7,7 @@ use mathlib.Core.Logic.{inl, inr}
 use native.Mathlib.Omega.{arith}
 use Rattle.model.specs.Store.{Sizes, Chains, Index, IndexRead, ReadRecord, Snapshot, Txn}
 use Rattle.model.specs.Verdict.{Verdict, badRead, badRecord, judgeReads, judgeRecords, verdict}
-use Rattle.model.proofs.ListLaws.{Among}
+use Rattle.model.specs.Lists.{Among}
 use Rattle.tables.specs.Fields.{versionWords, bucketWords, xminOf, xmaxOf, stampOf}
 use Rattle.tables.proofs.Parts.{part-field}
 use Rattle.protocol.specs.View.{verdictTold}

@@ -1,0 +1,29 @@
+-- What a transaction needs, as facts: buckets while Holding and from Prepared on, its pending rows from Prepared on.
+use Prim.Native.Nat.{ℕ, _≤_}
+use mathlib.Core.Path.{_≡_}
+use mathlib.Core.Logic.{_⊎_}
+use mathlib.Core.Option.{Option}
+use mathlib.Core.List.{List, _++_}
+use Rattle.model.specs.Lists.{join, Among}
+use Rattle.model.specs.Store.{Sizes, Holding, Txn, rank}
+use Rattle.model.specs.Seeing.{Live}
+use Rattle.model.specs.Steps.{pendingRows, newKey, keyBuckets, readBuckets}
+
+-- r is a pending row of x
+abbrev pub Writes : Sizes → Txn → ℕ → Type 0
+Writes z x r = Among r (pendingRows z (x .writes))
+
+-- the buckets of all index reads, and of the posted and the new key of every pending row
+unfoldable pub needs : Sizes → (ℕ → Option ℕ) → Txn → List ℕ
+needs z posted x = readBuckets x ++ join (λ r. keyBuckets z (posted r) ++ keyBuckets z (newKey x r)) (pendingRows z (x .writes))
+
+-- a bucket is wanted while Holding it, and from Prepared on if it is needed; a row from Prepared on if it is pending
+abbrev pub Wants : Sizes → (ℕ → Option ℕ) → Txn → ℕ → Type 0
+Wants z posted x b = ((k : ℕ) × (x .phase ≡ Holding b k)) ⊎ ((4 ≤ rank (x .phase)) × Among b (needs z posted x))
+
+abbrev pub Claims : Sizes → Txn → ℕ → Type 0
+Claims z x r = (4 ≤ rank (x .phase)) × Writes z x r
+
+-- x has installed row r and not published it
+abbrev pub Unpublished : Sizes → Txn → ℕ → Type 0
+Unpublished z x r = Live x × (5 ≤ rank (x .phase)) × Writes z x r
