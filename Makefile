@@ -4,7 +4,7 @@ LOGIC := $(lastword $(KIT))
 STEPS ?= 5000000
 SEED ?=
 
-.PHONY: help kit demo hosts soak bench test
+.PHONY: help kit demo hosts soak bench matched test
 
 help:
 	@echo 'make demo    prove, build and run the program replay_log on the worked example of document 01, and show its report'
@@ -12,6 +12,7 @@ help:
 	@echo 'make hosts   the host tests alone: the archive against a plain Rust twin, the C and Rust examples'
 	@echo 'make soak    the archive against the twin for STEPS steps (5000000) from SEED (the time)'
 	@echo 'make bench   the times of the archive and of the twin, and how they grow'
+	@echo 'make matched the same mistake in model, words and code, for each of matched/: none may be proved'
 	@echo 'make help    this list'
 
 # one clear line where the toolchain is missing or proves by another logic
@@ -34,6 +35,10 @@ soak: kit
 bench: kit
 	@archive=$$(hosts/native) && cd hosts/rust && TORUXENG_ARCHIVE=$$archive cargo run --offline --quiet --release -p bench
 
+matched: kit
+	@matched/try
+
 # one check more than there are processors: rt waits for the slowest of each batch
 test: kit
+	@docs/check
 	@RT_JOBS=$$(($$(nproc) + 1)) hosts/beside rt ci
