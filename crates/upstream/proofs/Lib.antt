@@ -1,4 +1,5 @@
 pub mod Ownership
+pub mod Distinct
 pub mod Capture
 pub mod Lookup
 pub mod Predicate
