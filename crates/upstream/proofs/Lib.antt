@@ -3,4 +3,7 @@ pub mod Distinct
 pub mod Capture
 pub mod Lookup
 pub mod Predicate
+pub mod Protocols
+pub mod Follows
+pub mod Histories
 pub mod Composition
