@@ -6,4 +6,5 @@ pub mod Predicate
 pub mod Protocols
 pub mod Follows
 pub mod Histories
+pub mod Runs
 pub mod Composition
