@@ -114,6 +114,15 @@ module _ (s : Store) (n : Numbers (s .clock) (s .txns)) (g : StampsStand s) wher
 stamps-run : (s : Store) → Numbers (s .clock) (s .txns) → StampsStand s → (more : List Step) → StampsStand (run s more)
 stamps-run s n g more = run-inv (λ v. Numbers (v .clock) (v .txns) × StampsStand v) (λ v v′ i h m. (numbers-move v v′ (h .0) m, stamps-move v (h .0) (h .1) v′ m)) s more (n, g) .1
 
+-- a stamp that differs from the captured one fails: such a capture is refused with 8
+pub changed-stamp : (z : Sizes) (clock : ℕ) (before : List Step) (t k : ℕ) → 1 ≤ clock → let s = run (fresh z clock) before in
+    Ready s (capture t k) → txnOf s t .marked ≡ false → Free (s .held .holder) t (bucketFor s k) → (r : IndexRead) → Among r (txnOf s t .reads) → r .bucket ≡ bucketFor s k → r .stamp ≢ stampFor s k → number s (capture t k) ≡ 8
+changed-stamp z clock before t k c w u f r m b d =
+    let s = run (fresh z clock) before in
+    let n = lives-number s t (w .1) in
+    let g = stamps-run (fresh z clock) (numbers-fresh z clock c) (λ j l q o. absurd o) before in
+    capture-8 s t k .1 (w, inr (u, (f, ⊎-elim (λ e. absurd (d (sym e ∙ ap (s .index .stamp) b))) (λ e. let q = ap (s .index .stamp) b in omega (arith, e, n, q)) (g (at s t) (omega (arith, n, w .1 .3)) r m))))
+
 same-read : (r : IndexRead) (b st : ℕ) → r .bucket ≡ b → r .stamp ≡ st → _≡_ {A = IndexRead} r (record { bucket = b; stamp = st })
 same-read r b st e f = rw (← e, ← f)
 

@@ -120,8 +120,8 @@ least-in n (x ∷ xs) l h = cond-elim (λ m. (1 ≤ least m xs) × (least m xs �
     (λ t. least-in n xs l (λ m q. h m (inr q)))
 
 -- `image_valid`: of every store that is reached
-image-of : (s : Store) → Good s → ImageValid s
-image-of s g = record {
+pub image-valid : (s : Store) → Good s → ImageValid s
+image-valid s g = record {
   heads = λ r l. at-all (s .chains .head r) (g .chained .heads-in r);
   nexts = λ p k. let f = g .chained .next-falls p (k .0) (k .1) in ⊎-elim inl (λ q. inr (q, f)) (at-all (s .chains .next p) (omega (arith, f)));
 }
@@ -131,7 +131,7 @@ image-of s g = record {
     at-all (suc p) l = inr (omega arith, l)
 
 -- `stored_snapshot_key`: what a live transaction sees of a row
-stored-key : (s : Store) → Good s → (j : ℕ) → Live (s .txns j) → (r : ℕ) → storedSnapshotKey (s .chains) (s .txns j) r ≡ keyAt (s .chains) (versionOf (s .chains) (s .txns j .snapshot) r)
+pub stored-key : (s : Store) → Good s → (j : ℕ) → Live (s .txns j) → (r : ℕ) → storedSnapshotKey (s .chains) (s .txns j) r ≡ keyAt (s .chains) (versionOf (s .chains) (s .txns j .snapshot) r)
 unfolding pointer
 stored-key s g j l r = ap (keyThere (s .chains)) (first-same s g j l (s .chains .head r)) ∙ there (versionOf (s .chains) (s .txns j .snapshot) r)
   where
@@ -184,7 +184,7 @@ module _ (z : Sizes) (clock : ℕ) (before : List Step) (o : canOpen z clock ≡
         let v = g .numbers .snapped j a in
         let w = least-in (now .txns j .number) (now .txns j .snapshot .active) a (beside .1 .active-pos j a) in
         record {
-          image = image-of now g;
+          image = image-valid now g;
           number-in = (a, omega (arith, v .xmax-is));
           xmin-in = (omega (arith, v .xmin-is, w .0), omega (arith, v .xmin-is, w .1));
           writes-in = g .ranges j .0 .writes-in;

@@ -17,8 +17,8 @@ use Rattle.model.specs.Machine.{at, actor, accepted, step, run}
 use Rattle.model.proofs.ListLaws.{member-among, none-each}
 use Rattle.model.proofs.Move.{Live, Move, stay, did-begin, did-mark, did-capture, did-collect, did-rows, did-write, did-prepare, did-install, did-end, did-publish, did-abort, place-number, step-move, run-inv}
 use Rattle.model.proofs.Numbers.{Numbering, began, kept, numbering, in-place}
-use Rattle.model.proofs.Holders.{holding-is}
-use Rattle.model.proofs.Owned.{release-elim}
+use Rattle.model.proofs.Holders.{Wants, holding-is, wants-busy}
+use Rattle.model.proofs.Owned.{has-none, release-elim}
 use Rattle.model.proofs.Good.{Good, good-move, good-run}
 use Rattle.model.proofs.Conditions.{number, Lives, Free, ByAnother, bucketFor, lives-number}
 use Rattle.model.proofs.Refused.{capture-0}
@@ -44,6 +44,15 @@ module _ (s : Store) (t k : ℕ) (e : number s (capture t k) ≡ 0) where
 
   pub framed : (b : ℕ) → b ≢ bucketFor s k → step s (capture t k) .store .held .holder b ≡ s .held .holder b
   framed b d = rw after-capture (update-other (s .held .holder) (bucketFor s k) t b d)
+
+-- in a reached store the bucket was free: one who is Open holds nothing
+pub was-free : (s : Store) → Good s → (t k : ℕ) → number s (capture t k) ≡ 0 → s .held .holder (bucketFor s k) ≡ 0
+was-free s g t k e =
+    let w = capture-0 s t k .0 e in
+    let n = lives-number s t (w .0 .1) in
+    let busy = wants-busy (s .sizes) (s .index .posted) in
+    let none = has-none (Wants (s .sizes) (s .index .posted)) busy (s .held .holder) (s .clock) (s .txns) (g .numbers) (g .holders .buckets) (at s t) (bucketFor s k) (omega (arith, n, w .0 .1 .3)) (λ v. omega (arith, busy (txnOf s t) (bucketFor s k) v, w .0 .2)) in
+    ⊎-elim (λ z. z) (λ f. absurd (none (f ∙ sym n))) (w .1 .1 .0)
 
 -- a refused step takes and frees nothing
 pub refused-holds : (s : Store) (a : Step) → number s a ≢ 0 → step s a .store .held ≡ s .held
@@ -131,6 +140,9 @@ clock-grows s s′ m = go (numbering s s′ m)
     go : Numbering s s′ → s .clock ≤ s′ .clock
     go (began i e p q u) = rw e (omega arith)
     go (kept k c) = c
+
+pub clock-rises : (s : Store) (more : List Step) → s .clock ≤ run s more .clock
+clock-rises s more = run-inv (λ v. s .clock ≤ v .clock) (λ v v′ i d m. omega (arith, clock-grows v v′ m)) s more (omega arith)
 
 abbrev Dead : ℕ → Store → Type 0
 Dead n s = Good s × (n < s .clock) × ((j : ℕ) → s .txns j .number ≢ n)
