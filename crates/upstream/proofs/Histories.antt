@@ -4,6 +4,7 @@ use Prim.Native.Nat.{ℕ, zero, suc, _≤_, _<_}
 use mathlib.Core.Path.{_≡_, refl, sym, ap, _∙_}
 use mathlib.Core.Bool.{Bool, true, false, cond}
 use mathlib.Core.Logic.{_⊎_, inl, inr, ⊎-elim}
+use mathlib.Core.Option.{some}
 use mathlib.Core.List.{List, [], _∷_}
 use native.Mathlib.Omega.{arith}
 use lib.Dec.{eqb, ltb}
@@ -13,7 +14,7 @@ use Rattle.model.specs.Lists.{member, least}
 use Rattle.model.specs.Table.{cond-elim}
 use Rattle.model.specs.Store.{Sizes, Txn, Store, fresh, sameKey, bucketOf}
 use Rattle.model.specs.Seeing.{versionOf, keyAt}
-use Rattle.model.specs.Steps.{pendingRows, keyBuckets}
+use Rattle.model.specs.Steps.{pendingRows, newKey, keyBuckets}
 use Rattle.model.specs.Upstream.{Event, eventBuckets, stampAt}
 use Rattle.model.specs.History.{eventOf, addEvents, stepEvents, historyOver, history, changing}
 use Rattle.model.specs.Refusals.{Step, begin, capture, collect, rows, put, erase, prepare, install, end, publish, validate, abort, txnOf}
@@ -21,10 +22,12 @@ use Rattle.model.specs.Machine.{step, run, canOpen}
 use Rattle.model.proofs.ListLaws.{Among, among-left, among-right, or-cases, member-among, among-member}
 use Rattle.model.proofs.Move.{Live}
 use Rattle.model.proofs.SeeingLaws.{same-key, keyAt-zero, keyAt-key, key-bucket}
+use Rattle.model.proofs.Holders.{needs-old, needs-new}
 use Rattle.model.proofs.Good.{Good, good-run, opened-good}
 use Rattle.model.proofs.Conditions.{number}
 use Rattle.model.proofs.UpstreamLaws.{pointer, first-same}
-use Rattle.model.proofs.Promises.{kept-history}
+use Rattle.model.proofs.Snapshots.{Unpublished}
+use Rattle.model.proofs.Promises.{kept-held, kept-history}
 use Rattle.upstream.specs.Clauses.{affects, GuardedStampHistory, EventChronology, keyThere, storedSnapshotKey, MapsRow}
 use Rattle.upstream.specs.Protocol.{Action, protocolAfter, ProtocolValid, stepActions, actionsOver, actions}
 use Rattle.upstream.specs.Valid.{Known, ImageValid, TransactionValid, HistoryKept, HistoryValid, NoneWaiting}
@@ -168,6 +171,10 @@ module _ (z : Sizes) (clock : ℕ) (before : List Step) (o : canOpen z clock ≡
   -- `protocol_valid`
   pub protocol-is-valid : ProtocolValid (protocolAfter clock done)
   protocol-is-valid = protocol-valid clock done (beside .0)
+
+  -- who has installed a row and not published it holds the buckets of both its keys, so that nobody captures them meanwhile
+  pub waiting-held : (w r k : ℕ) → Unpublished (now .sizes) (now .txns w) r → (now .index .posted r ≡ some k) ⊎ (newKey (now .txns w) r ≡ some k) → now .held .holder (bucketOf (now .sizes) k) ≡ now .txns w .number
+  waiting-held w r k u e = kept-held z clock before o l .holds w _ (inr (omega (arith, u .1), ⊎-elim (needs-old (now .sizes) (now .index .posted) (now .txns w) r k (u .2)) (needs-new (now .sizes) (now .index .posted) (now .txns w) r k (u .2)) e))
 
   module _ (j : ℕ) (a : Live (now .txns j)) where
     -- `event_chronology`: of every event and every live transaction

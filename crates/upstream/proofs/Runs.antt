@@ -46,10 +46,10 @@ waiting-keys : (storedSnapshotKey (waits .chains) (txnOf waits 2) 2 ≡ some 6) 
 unfolding computes creatorVisible rowVisible firstRow snapshotRows addEvents stepEvents historyOver
 waiting-keys = (refl, refl)
 
--- `history_maps_snapshot` is false there: the store could be opened, transaction 2 is live, and row 2 is one of its rows
-pub unmapped : (canOpen sizes 1 ≡ true) × (txnOf waits 2 .number ≡ 2) × (HistoryMapsSnapshot waits (txnOf waits 2) (history (fresh sizes 1) waiting) → ⊥)
+-- `history_maps_snapshot` is false there: the store could be opened, transaction 2 is live, and 1 still holds the bucket of key 6
+pub unmapped : (canOpen sizes 1 ≡ true) × (txnOf waits 2 .number ≡ 2) × (waits .held .holder 2 ≡ 1) × (HistoryMapsSnapshot waits (txnOf waits 2) (history (fresh sizes 1) waiting) → ⊥)
 unfolding computes
-unmapped = (refl, refl, λ h. let e = h 2 (omega arith) in let z : _≡_ {A = ℕ} 0 1 = cc (waiting-keys .0, waiting-keys .1) in omega arith)
+unmapped = (refl, refl, refl, λ h. let e = h 2 (omega arith) in let z : _≡_ {A = ℕ} 0 1 = cc (waiting-keys .0, waiting-keys .1) in omega arith)
 
 -- transaction 1 publishes key 6 in row 2, and 3 begins; it captures the key, while 4 writes a key of the same bucket; it collects and reads; then 4 publishes
 abbrev pub s₀ : Store
