@@ -5,15 +5,15 @@ use mathlib.Core.Path.{_≡_, refl}
 use mathlib.Core.Bool.{true, false}
 use mathlib.Core.Option.{none, some}
 use mathlib.Core.List.{List, [], _∷_}
-use mathlib.Core.Logic.{_≢_}
 use native.Mathlib.Omega.{arith}
 use lib.Dec.{eqb, leb}
 use borrow.Author.Tests.{eq-eqb, le-leb}
 use Rattle.limits.specs.Limits.{mostLive}
-use Rattle.model.specs.Lists.{member, pick}
-use Rattle.model.specs.Store.{Sizes, Store, fresh, rank}
+use Rattle.model.specs.Lists.{pick}
+use Rattle.model.specs.Store.{Sizes, Ended, Store, fresh, rank}
+use Rattle.model.specs.Seeing.{pending}
 use Rattle.model.specs.Verdict.{badRead}
-use Rattle.model.specs.Steps.{changedBuckets}
+use Rattle.model.specs.Steps.{foundRows, recordsAfter, changedBuckets}
 use Rattle.model.specs.Upstream.{creatorVisible, rowVisible, firstRow, snapshotRows}
 use Rattle.model.specs.History.{addEvents, stepEvents, historyOver, history, changing}
 use Rattle.model.specs.Refusals.{Step, begin, capture, collect, rows, put, prepare, install, end, publish, txnOf}
@@ -46,10 +46,10 @@ waiting-keys : (storedSnapshotKey (waits .chains) (txnOf waits 2) 2 ≡ some 6) 
 unfolding computes creatorVisible rowVisible firstRow snapshotRows addEvents stepEvents historyOver
 waiting-keys = (refl, refl)
 
--- `history_maps_snapshot` is false there: the store could be opened, transaction 2 is live, and 1 still holds the bucket of key 6
-pub unmapped : (canOpen sizes 1 ≡ true) × (txnOf waits 2 .number ≡ 2) × (waits .held .holder 2 ≡ 1) × (HistoryMapsSnapshot waits (txnOf waits 2) (history (fresh sizes 1) waiting) → ⊥)
+-- `history_maps_snapshot` is false there: the store could be opened, transaction 2 is live, and 1, which has Ended, still holds the bucket of key 6
+pub unmapped : (canOpen sizes 1 ≡ true) × (txnOf waits 2 .number ≡ 2) × (txnOf waits 1 .phase ≡ Ended) × (waits .held .holder 2 ≡ 1) × (HistoryMapsSnapshot waits (txnOf waits 2) (history (fresh sizes 1) waiting) → ⊥)
 unfolding computes
-unmapped = (refl, refl, refl, λ h. let e = h 2 (omega arith) in let z : _≡_ {A = ℕ} 0 1 = cc (waiting-keys .0, waiting-keys .1) in omega arith)
+unmapped = (refl, refl, refl, refl, λ h. let e = h 2 (omega arith) in let z : _≡_ {A = ℕ} 0 1 = cc (waiting-keys .0, waiting-keys .1) in omega arith)
 
 -- transaction 1 publishes key 6 in row 2, and 3 begins; it captures the key, while 4 writes a key of the same bucket; it collects and reads; then 4 publishes
 abbrev pub s₀ : Store
@@ -86,9 +86,9 @@ unfolding run
 whole-run = refl
 
 -- Ownership: a capture that is done, a bucket that is held, one that is refused to another, steps of others, a collect that is done
-pub ownership-met : (number s₀ (capture 3 6) ≡ 0) × (s₁ .held .holder 2 ≡ 3) × (number s₁ (capture 4 6) ≢ 0) × Others 3 others × (number s₂ (collect 3) ≡ 0)
+pub ownership-met : (number s₀ (capture 3 6) ≡ 0) × (s₁ .held .holder 2 ≡ 3) × Others 3 others × (number s₂ (capture 4 6) ≡ 7) × (number s₂ (collect 3) ≡ 0)
 unfolding computes
-ownership-met = (refl, refl, (λ e. omega (arith, e)), ((λ e. omega (arith, e)), ((λ e. omega (arith, e)), ((λ e. omega (arith, e)), tt))), refl)
+ownership-met = (refl, refl, ((λ e. omega (arith, e)), ((λ e. omega (arith, e)), ((λ e. omega (arith, e)), tt))), refl, refl)
 
 -- Capture: one that is refused for its stamp
 pub capture-met : number s₆ (capture 3 6) ≡ 8
@@ -100,10 +100,16 @@ pub two-reads : run (fresh sizes 1) (begin ∷ capture 1 6 ∷ collect 1 ∷ row
 unfolding computes
 two-reads = refl
 
--- Predicate: a publish that is done and changes a bucket, which a read that is not over has captured
-pub publish-met : (number s₅ (publish 4) ≡ 0) × (member 2 (changedBuckets s₅ (txnOf s₅ 4)) ≡ true) × (txnOf s₆ 3 .reads ≡ record { bucket = 2; stamp = 2 } ∷ []) × (s₆ .index .stamp 2 ≡ 5) × (txnOf s₆ 3 .number ≡ 3)
+-- Lookup: a read that records a version, and one whose only row has a pending write
+pub lookup-met : let own = run (fresh sizes 1) (begin ∷ put 1 2 6 10 ∷ capture 1 6 ∷ collect 1 ∷ []) in
+    (recordsAfter s₃ (txnOf s₃ 3) ≡ record { row = 2; ptr = 1; xmin = 1 } ∷ []) × (foundRows own (txnOf own 1) ≡ 2 ∷ []) × (pending (txnOf own 1 .writes) 2 ≡ true)
 unfolding computes
-publish-met = (refl, refl, refl, refl, refl)
+lookup-met = (refl, refl, refl)
+
+-- Predicate: a publish that is done, changes one bucket, which a live transaction has read, and leaves another
+pub publish-met : (number s₅ (publish 4) ≡ 0) × (changedBuckets s₅ (txnOf s₅ 4) ≡ 2 ∷ []) × (s₅ .index .stamp 2 ≡ 2) × (s₆ .index .stamp 2 ≡ 5) × (txnOf s₆ 3 .reads ≡ record { bucket = 2; stamp = 2 } ∷ []) × (txnOf s₆ 3 .number ≡ 3)
+unfolding computes
+publish-met = (refl, refl, refl, refl, refl, refl)
 
 -- Composition: rows that are answered, and an unmarked transaction whose one index read is bad
 pub composition-met : (step s₃ (rows 3 4) .answer ≡ Rows (2 ∷ [])) × (txnOf s₆ 3 .marked ≡ false) × (badRead (s₆ .index) 3 (record { bucket = 2; stamp = 2 }) ≡ true)

@@ -12,10 +12,11 @@ use Rattle.model.specs.Refusals.{Step}
 use Rattle.model.specs.Machine.{actor}
 use Rattle.model.proofs.ListLaws.{Among}
 
--- unique: no two index reads of one bucket (there is one index); past the end stands no read
+-- what stands past the end of a list of index reads
 abbrev pub noRead : IndexRead
 noRead = record { bucket = 0; stamp = 0 }
 
+-- unique: no two index reads of one bucket (there is one index)
 abbrev pub UniqueReads : List IndexRead → Type 0
 UniqueReads rs = (i j : ℕ) → i < j → j < length rs → getD rs i noRead .bucket ≢ getD rs j noRead .bucket
 
@@ -43,17 +44,19 @@ GuardedStampHistory z stamps (e ∷ older) = ((b : ℕ) → Among b (eventBucket
 abbrev pub EventChronology : Txn → Event → Type 0
 EventChronology x e = (e .creator < e .stamp) × (Among (e .creator) (x .snapshot .active) → x .number < e .stamp)
 
--- stored_snapshot_key: the key of the first visible version, none where there is none
+-- the key at a pointer that was found, none where none was
 abbrev pub keyThere : Chains → Option ℕ → Option ℕ
 keyThere c none = none
 keyThere c (some p) = c .key p
 
+-- stored_snapshot_key: the key of the first visible version
 abbrev pub storedSnapshotKey : Chains → Txn → ℕ → Option ℕ
 storedSnapshotKey c x r = keyThere c (firstRow c x (c .head r) (c .head r))
 
--- history_maps_snapshot, of one row and of all: what x sees of it is what the events that it sees leave
+-- what x sees of the row is what the events that it sees leave there
 abbrev pub MapsRow : Store → Txn → List Event → ℕ → Type 0
 MapsRow s x es r = storedSnapshotKey (s .chains) x r ≡ snapshotRows (λ q. none) es x r
 
+-- history_maps_snapshot: so of every row of the store
 abbrev pub HistoryMapsSnapshot : Store → Txn → List Event → Type 0
 HistoryMapsSnapshot s x es = (r : ℕ) → r < s .sizes .rows → MapsRow s x es r

@@ -19,6 +19,7 @@ pub record Protocol : Type 0 where
   pub published : ℕ → Option ℕ
   pub observed : ℕ → Option (ℕ → Bool)
 
+-- what happens to it; the numbers are a transaction's, and a stamp
 pub data Action : Type 0 where
   Start : ℕ → Action
   End : ℕ → Action
@@ -29,24 +30,26 @@ pub data Action : Type 0 where
 abbrev pub protocolInitial : ℕ → Protocol
 protocolInitial clock = record { clock = clock; active = λ n. false; ended = λ n. false; published = λ n. none; observed = λ n. none }
 
--- protocol_step: what an action asks for, and what it leaves
+-- protocol_step: what an action asks for
 abbrev pub Allowed : Protocol → Action → Type 0
 Allowed p (Start n) = (p .clock ≤ n) × (n < lastNumber)
 Allowed p (End n) = p .active n ≡ true
 Allowed p (Snapshot n) = p .active n ≡ true
 Allowed p (Publish n stamp) = (p .ended n ≡ true) × (p .published n ≡ none) × (p .clock ≤ stamp) × (stamp < lastNumber)
 
+-- protocol_step: what it leaves
 abbrev pub afterAction : Protocol → Action → Protocol
 afterAction p (Start n) = record { clock = suc n; active = update (p .active) n true; ended = p .ended; published = p .published; observed = p .observed }
 afterAction p (End n) = record { clock = p .clock; active = update (p .active) n false; ended = update (p .ended) n true; published = p .published; observed = p .observed }
 afterAction p (Snapshot n) = record { clock = p .clock; active = p .active; ended = p .ended; published = p .published; observed = update (p .observed) n (some (update (p .active) n false)) }
 afterAction p (Publish n stamp) = record { clock = suc stamp; active = p .active; ended = p .ended; published = update (p .published) n (some stamp); observed = p .observed }
 
--- protocol_history: the states from an initial clock, and that each action was allowed where it was taken
+-- the state after actions from an initial clock
 abbrev pub protocolAfter : ℕ → List Action → Protocol
 protocolAfter clock [] = protocolInitial clock
 protocolAfter clock (a ∷ older) = afterAction (protocolAfter clock older) a
 
+-- protocol_history: each action was allowed where it was taken
 abbrev pub ProtocolHistory : ℕ → List Action → Type 0
 ProtocolHistory clock [] = 1 ≤ clock
 ProtocolHistory clock (a ∷ older) = Allowed (protocolAfter clock older) a × ProtocolHistory clock older
@@ -76,13 +79,15 @@ actionsOf s (publish t) older = Publish t (s .clock) ∷ older
 actionsOf s (validate t) older = older
 actionsOf s (abort t) older = End t ∷ older
 
+-- a refused step adds nothing
 unfoldable pub stepActions : Store → Step → List Action → List Action
 stepActions s a older = cond (eqb (answerNumber (step s a .answer)) 0) (actionsOf s a older) older
 
--- the actions of a run, over those that were there
+-- the same over those that were there
 unfoldable pub actionsOver : List Action → Store → List Step → List Action
 actionsOver older s [] = older
 actionsOver older s (a ∷ more) = actionsOver (stepActions s a older) (step s a .store) more
 
+-- the actions of a run
 abbrev pub actions : Store → List Step → List Action
 actions s steps = actionsOver [] s steps
