@@ -6,5 +6,6 @@ pub mod Predicate
 pub mod Protocols
 pub mod Follows
 pub mod Histories
+pub mod Mapped
 pub mod Runs
 pub mod Composition

@@ -10,7 +10,7 @@ use lib.Dec.{eqb, leb}
 use borrow.Author.Tests.{eq-eqb, le-leb}
 use Rattle.limits.specs.Limits.{mostLive}
 use Rattle.model.specs.Lists.{pick}
-use Rattle.model.specs.Store.{Sizes, Ended, Store, fresh, rank}
+use Rattle.model.specs.Store.{Sizes, Holding, Ended, Store, fresh, rank, bucketOf}
 use Rattle.model.specs.Seeing.{pending}
 use Rattle.model.specs.Verdict.{badRead}
 use Rattle.model.specs.Steps.{foundRows, recordsAfter, changedBuckets}
@@ -89,6 +89,11 @@ whole-run = refl
 pub ownership-met : (number s₀ (capture 3 6) ≡ 0) × (s₁ .held .holder 2 ≡ 3) × Others 3 others × (number s₂ (capture 4 6) ≡ 7) × (number s₂ (collect 3) ≡ 0)
 unfolding computes
 ownership-met = (refl, refl, ((λ e. omega (arith, e)), ((λ e. omega (arith, e)), ((λ e. omega (arith, e)), tt))), refl, refl)
+
+-- Mapped: a transaction that holds the bucket of a key, and sees a row with it
+pub holding-met : (s₁ .txns 0 .phase ≡ Holding (bucketOf sizes 6) 6) × (storedSnapshotKey (s₁ .chains) (s₁ .txns 0) 2 ≡ some 6)
+unfolding computes creatorVisible rowVisible firstRow
+holding-met = (refl, refl)
 
 -- Capture: one that is refused for its stamp
 pub capture-met : number s₆ (capture 3 6) ≡ 8
