@@ -200,7 +200,7 @@ module _ (clock : ℕ) (s : Store) (es : List Event) (acts : List Action) (g : G
   refused-beside : (a : Step) → number s a ≢ 0 → Beside clock (step s a .store) es acts
   refused-beside a d = ⊎-elim (λ e. rw e h) (λ e. rw e (calm _ (calm-set (s .txns) (at s (actor a)) _ refl refl (λ q. q) (λ q. q)))) (refused-store s a d)
 
-  -- one who is ready is live, and early where its phase is
+  -- one who is ready is live
   alive : (a : Step) → Ready s a → Live (txnOf s (actor a))
   alive a r = omega (arith, lives-number s (actor a) (r .1), r .1 .3)
 
