@@ -1,33 +1,39 @@
 -- Capture: `capture_dependencies` with the one bucket of a key, clause by clause.
 -- Assumes nothing.
-use Prim.Native.Nat.{ℕ, _+_, _≤_, _<_}
+use Prim.Native.Nat.{ℕ, zero, suc, _+_, _≤_, _<_}
 use mathlib.Core.Path.{_≡_, refl, sym, ap, subst, _∙_}
 use mathlib.Core.Bool.{Bool, true, false, true≢false}
 use mathlib.Core.Logic.{_≢_, _⊎_, inl, inr, ⊎-elim}
 use mathlib.Core.List.{List, [], _∷_, _++_, append-nil}
 use native.Mathlib.Omega.{arith}
-use lib.Dec.{eqb}
-use lib.ListN.{length, length-append}
-use borrow.Author.Tests.{eqb-false, ne-eqb}
-use Rattle.model.specs.Lists.{some-of, Among}
+use lib.ListN.{length, length-append, getD}
 use Rattle.model.specs.Table.{update, update-same, update-elim, updateAll-elim, cond-elim}
 use Rattle.model.specs.Store.{Sizes, IndexRead, Txn, Store, noTxn, fresh}
 use Rattle.model.specs.Steps.{markedTxn, hasRead, addRead, capturedTxn, changedBuckets}
 use Rattle.model.specs.Refusals.{Step, Stale, Marked, capture, txnOf}
 use Rattle.model.specs.Machine.{isStale, at, accepted, step, run}
+use Rattle.model.specs.Lists.{Among}
 use Rattle.model.specs.Seeing.{Live}
 use Rattle.model.specs.Given.{_and_, number, Ready, Free, bucketFor, stampFor}
-use Rattle.model.proofs.ListLaws.{or-l, or-r, among-right, among-last}
+use Rattle.model.specs.Demands.{Distinct}
+use Rattle.model.proofs.Distinct.{distinct-opened}
+use Rattle.model.proofs.ListLaws.{among-right, among-last}
 use Rattle.model.proofs.Move.{Move, stay, did-begin, did-mark, did-capture, did-collect, did-rows, did-write, did-prepare, did-install, did-end, did-publish, did-abort, run-inv}
 use Rattle.model.proofs.Numbers.{Numbers, numbers-move, numbers-fresh}
-use Rattle.model.proofs.SeeingLaws.{read-bucket}
+use Rattle.model.proofs.SeeingLaws.{read-bucket, bucket-read}
 use Rattle.model.proofs.Conditions.{lives-number}
 use Rattle.model.proofs.Refused.{capture-8, capture-0}
 use Rattle.model.proofs.Outcomes.{unchanged, stale-marks, capture-marked, capture-stale, done-does}
+use Rattle.upstream.specs.Clauses.{noRead, UniqueReads}
 
 -- the index read that a capture of the key takes
 abbrev pub readNow : Store → ℕ → IndexRead
 readNow s k = record { bucket = bucketFor s k; stamp = stampFor s k }
+
+at-among : (rs : List IndexRead) (j : ℕ) → j < length rs → Among (getD rs j noRead) rs
+at-among [] j l = absurd (omega arith)
+at-among (r ∷ rs) zero l = inl refl
+at-among (r ∷ rs) (suc j) l = inr (at-among rs j (omega arith))
 
 module _ (rs : List IndexRead) (b stamp : ℕ) where
   abbrev taken : IndexRead
@@ -48,26 +54,17 @@ module _ (rs : List IndexRead) (b stamp : ℕ) where
   unfolding addRead
   at-most-one = cond-elim (λ qs. length qs ≤ length rs + 1) (hasRead rs b) rs (rs ++ (taken ∷ [])) (λ e. omega arith) (λ e. omega (arith, length-append rs (taken ∷ [])))
 
--- `unique`: no two index reads of one bucket
-unfoldable pub Unique : List IndexRead → Type 0
-Unique [] = Unit {0}
-Unique (r ∷ rs) = (hasRead rs (r .bucket) ≡ false) × Unique rs
+-- `unique`: in every reached store, before and after a capture, no two index reads of a transaction are of one bucket
+unique-of : (rs : List IndexRead) → Distinct rs → UniqueReads rs
+unfolding Distinct
+unique-of [] u i j l h = absurd (omega arith)
+unique-of (r ∷ rs) u zero zero l h = absurd (omega arith)
+unique-of (r ∷ rs) u zero (suc j) l h = λ e. true≢false (sym (bucket-read rs (r .bucket) (getD rs j noRead) (at-among rs j (omega arith)) (sym e)) ∙ u .0)
+unique-of (r ∷ rs) u (suc i) zero l h = absurd (omega arith)
+unique-of (r ∷ rs) u (suc i) (suc j) l h = unique-of rs (u .1) i j (omega arith) (omega arith)
 
-has-last : (rs : List IndexRead) (q : IndexRead) (b : ℕ) → hasRead rs b ≡ false → eqb (q .bucket) b ≡ false → hasRead (rs ++ (q ∷ [])) b ≡ false
-unfolding hasRead some-of
-has-last [] q b e f = rw f
-has-last (r ∷ rs) q b e f = rw (or-l (eqb (r .bucket) b) (hasRead rs b) e) (has-last rs q b (or-r (eqb (r .bucket) b) (hasRead rs b) e) f)
-
-unique-last : (rs : List IndexRead) (q : IndexRead) → hasRead rs (q .bucket) ≡ false → Unique rs → Unique (rs ++ (q ∷ []))
-unfolding Unique hasRead some-of
-unique-last [] q e u = (refl, u)
-unique-last (r ∷ rs) q e u =
-    let d = eqb-false (r .bucket) (q .bucket) (or-l (eqb (r .bucket) (q .bucket)) (hasRead rs (q .bucket)) e) in
-    (has-last rs q (r .bucket) (u .0) (ne-eqb (q .bucket) (r .bucket) (λ f. d (sym f))), unique-last rs q (or-r (eqb (r .bucket) (q .bucket)) (hasRead rs (q .bucket)) e) (u .1))
-
-pub unique-kept : (rs : List IndexRead) (b stamp : ℕ) → Unique rs → Unique (addRead rs b stamp)
-unfolding addRead
-unique-kept rs b stamp u = cond-elim Unique (hasRead rs b) rs (rs ++ (taken rs b stamp ∷ [])) (λ e. u) (λ e. unique-last rs (taken rs b stamp) e u)
+pub distinct-reads : (z : Sizes) (clock : ℕ) (before : List Step) (j : ℕ) → UniqueReads (run (fresh z clock) before .txns j .reads)
+distinct-reads z clock before j = unique-of _ (distinct-opened z clock before j)
 
 -- number and mark are as they were, and the reads are `addRead`
 module _ (s : Store) (t k : ℕ) (e : number s (capture t k) ≡ 0) where
@@ -119,6 +116,15 @@ module _ (s : Store) (n : Numbers (s .clock) (s .txns)) (g : StampsStand s) wher
 -- both invariants together, through any sequence of steps
 stamps-run : (s : Store) → Numbers (s .clock) (s .txns) → StampsStand s → (more : List Step) → StampsStand (run s more)
 stamps-run s n g more = run-inv (λ v. Numbers (v .clock) (v .txns) × StampsStand v) (λ v v′ i h m. (numbers-move v v′ (h .0) m, stamps-move v (h .0) (h .1) v′ m)) s more (n, g) .1
+
+-- a stamp that differs from the captured one fails: such a capture is refused with 8
+pub changed-stamp : (z : Sizes) (clock : ℕ) (before : List Step) (t k : ℕ) → 1 ≤ clock → let s = run (fresh z clock) before in
+    Ready s (capture t k) → txnOf s t .marked ≡ false → Free (s .held .holder) t (bucketFor s k) → (r : IndexRead) → Among r (txnOf s t .reads) → r .bucket ≡ bucketFor s k → r .stamp ≢ stampFor s k → number s (capture t k) ≡ 8
+changed-stamp z clock before t k c w u f r m b d =
+    let s = run (fresh z clock) before in
+    let n = lives-number s t (w .1) in
+    let g = stamps-run (fresh z clock) (numbers-fresh z clock c) (λ j l q o. absurd o) before in
+    capture-8 s t k .1 (w, inr (u, (f, ⊎-elim (λ e. absurd (d (sym e ∙ ap (s .index .stamp) b))) (λ e. let q = ap (s .index .stamp) b in omega (arith, e, n, q)) (g (at s t) (omega (arith, n, w .1 .3)) r m))))
 
 same-read : (r : IndexRead) (b st : ℕ) → r .bucket ≡ b → r .stamp ≡ st → _≡_ {A = IndexRead} r (record { bucket = b; stamp = st })
 same-read r b st e f = rw (← e, ← f)

@@ -2,4 +2,9 @@ pub mod Ownership
 pub mod Capture
 pub mod Lookup
 pub mod Predicate
+pub mod Protocols
+pub mod Follows
+pub mod Histories
+pub mod Mapped
+pub mod Runs
 pub mod Composition

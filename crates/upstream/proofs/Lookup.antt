@@ -44,6 +44,12 @@ module _ (c : Chains) (x : Txn) where
       (λ e. read-extends rs found)
       (λ e. let a = records-extend rs (recordOf c (x .snapshot) r) in let b = read-extends (recording rs (recordOf c (x .snapshot) r)) found in (a .0 ++ b .0, b .1 ∙ (ap (_++ b .0) (a .1) ∙ append-assoc rs (a .0) (b .0))))
 
+  -- rows with a pending write record nothing
+  pub nothing-recorded : (rs : List ReadRecord) (found : List ℕ) → ((r : ℕ) → Among r found → pending (x .writes) r ≡ true) → recordAll c x rs found ≡ rs
+  unfolding recordAll
+  nothing-recorded rs [] h = refl
+  nothing-recorded rs (r ∷ found) h = rw (h r (inl refl)) (nothing-recorded rs found (λ q m. h q (inr m)))
+
 -- `observed_record`: of a row of the store, at the version that the transaction sees, with its xmin
 pub record Observed (s : Store) (x : Txn) (q : ReadRecord) : Type 0 where
   pub row-in : q .row < s .sizes .rows

@@ -33,19 +33,21 @@ lock-keys s x b = (
     keysOf : ℕ → List ℕ
     keysOf r = keyBuckets (s .sizes) (oldKey (s .chains) r) ++ keyBuckets (s .sizes) (newKey x r)
 
--- `change_keys`, as document 01 has them: the buckets of both keys of a pending row whose key changes
-pub change-keys : (s : Store) (x : Txn) (b : ℕ) → Among b (changedBuckets s x)
-    → (r : ℕ) × Among r (pendingRows (s .sizes) (x .writes)) × (sameKey (keyBefore (s .chains) r) (newKey x r) ≡ false) × (Among b (keyBuckets (s .sizes) (keyBefore (s .chains) r)) ⊎ Among b (keyBuckets (s .sizes) (newKey x r)))
-unfolding changedBuckets
-change-keys s x b m =
-    let w = join-which _ (pendingRows (s .sizes) (x .writes)) b m in
-    let q = changed (w .0) (sameKey (keyBefore (s .chains) (w .0)) (newKey x (w .0))) refl (w .2) in
-    (w .0, w .1, q .0, q .1)
-  where
-    changed : (r : ℕ) (same : Bool) → sameKey (keyBefore (s .chains) r) (newKey x r) ≡ same → Among b (cond same [] (keyBuckets (s .sizes) (keyBefore (s .chains) r) ++ keyBuckets (s .sizes) (newKey x r)))
-        → (sameKey (keyBefore (s .chains) r) (newKey x r) ≡ false) × (Among b (keyBuckets (s .sizes) (keyBefore (s .chains) r)) ⊎ Among b (keyBuckets (s .sizes) (newKey x r)))
-    changed r true e j = absurd j
-    changed r false e j = (e, among-cases b (keyBuckets (s .sizes) (keyBefore (s .chains) r)) _ j)
+-- `change_keys`, as document 01 has them: the buckets of both keys of a pending row whose key changes, and no others
+module _ (s : Store) (x : Txn) (b : ℕ) where
+  abbrev pub ChangedAt : ℕ → Type 0
+  ChangedAt r = (sameKey (keyBefore (s .chains) r) (newKey x r) ≡ false) × (Among b (keyBuckets (s .sizes) (keyBefore (s .chains) r)) ⊎ Among b (keyBuckets (s .sizes) (newKey x r)))
+
+  changed-at : (r : ℕ) (same : Bool) → sameKey (keyBefore (s .chains) r) (newKey x r) ≡ same → Among b (cond same [] (keyBuckets (s .sizes) (keyBefore (s .chains) r) ++ keyBuckets (s .sizes) (newKey x r))) → ChangedAt r
+  changed-at r true e j = absurd j
+  changed-at r false e j = (e, among-cases b (keyBuckets (s .sizes) (keyBefore (s .chains) r)) _ j)
+
+  pub change-keys : Among b (changedBuckets s x) ↔ ((r : ℕ) × Among r (pendingRows (s .sizes) (x .writes)) × ChangedAt r)
+  unfolding changedBuckets
+  change-keys = (
+    λ m. let w = join-which _ (pendingRows (s .sizes) (x .writes)) b m in (w .0, w .1, changed-at (w .0) (sameKey (keyBefore (s .chains) (w .0)) (newKey x (w .0))) refl (w .2)),
+    λ w. which-join _ (pendingRows (s .sizes) (x .writes)) b (w .0) (w .1) (rw (w .2 .0) (⊎-elim (among-left b (keyBuckets (s .sizes) (keyBefore (s .chains) (w .0))) _) (among-right b (keyBuckets (s .sizes) (keyBefore (s .chains) (w .0))) _) (w .2 .1))),
+  )
 
 -- `publish_index_stamps`: one stamp is taken from the clock; the changed buckets get it and no others (`stamp_relation`)
 module _ (s : Store) (t : ℕ) (e : number s (publish t) ≡ 0) where

@@ -1,1 +1,1 @@
-// Upstream's clauses that follow from document 01's steps by a short argument, each as a fact (proofs/): no code.
+// Upstream's clauses as facts of the model (proofs/), over upstream's own definitions (specs/): no code.
