@@ -3,3 +3,4 @@ pub mod Known
 pub mod Decoding
 pub mod Reading
 pub mod Exact
+pub mod Samples

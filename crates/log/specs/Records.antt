@@ -3,10 +3,13 @@ use Prim.Native.Nat.{ℕ, _+_}
 use mathlib.Core.Option.{Option, none, some}
 use mathlib.Core.List.{List}
 use lib.ListN.{drop, getD}
+use denote.Ref.{RefT}
 use Rattle.protocol.specs.declared.Step.{Step}
 use Rattle.log.specs.declared.Command.{Command}
 use Rattle.log.specs.declared.Command.the-variants.{Open, Ask, Malformed}
 use Rattle.log.specs.declared.Decoded.{Decoded}
+use Rattle.log.specs.declared.Reader.{Reader}
+use Rattle.log.specs.declared.Taken.{Taken}
 use Rattle.model.specs.Refusals as model
 use Rattle.model.specs.Log as bytes
 use Rattle.protocol.specs.declared.Step.the-variants as ask
@@ -43,6 +46,14 @@ decodedAs log at (some c) = record { command = commandTold (c .0); next = at + 2
 -- the record at a place of the log
 unfoldable pub decodedOf : List ℕ → ℕ → Decoded
 decodedOf log at = decodedAs log at (bytes.readRecord (drop at log))
+
+-- a reader of these bytes that stands at this place
+abbrev pub readerAt : RefT (List ℕ) → ℕ → Reader
+readerAt log at = record { log = log; at = at }
+
+-- what a reader takes: the command of the record at its place, and the reader moved past that record
+abbrev pub takenBy : Reader → Taken
+takenBy r = record { command = decodedOf (r .log .now) (r .at) .command; reader = readerAt (r .log) (decodedOf (r .log .now) (r .at) .next) }
 
 -- 2 for the kind, and its fields; for an unknown kind a length that two bytes cannot say
 abbrev pub lengthWith : Option (List ℕ) → ℕ

@@ -4,7 +4,7 @@ ghost use mathlib.Core.Path.{_≡_};
 ghost use Prim.Native.Nat.{_+_, _≤_, _<_};
 ghost use lib.ListN.{length, take, drop};
 ghost use Rattle.model.specs.Log.{number};
-ghost use Rattle.log.specs.Records.{lengthOf, askedOf, commandIn, malformedAt, decodedOf};
+ghost use Rattle.log.specs.Records.{lengthOf, askedOf, commandIn, malformedAt, decodedOf, readerAt, takenBy};
 
 // What a record asks for: a store of these sizes with this clock, or a step of the store; or it cannot be read.
 pub enum Command {
@@ -136,7 +136,7 @@ fn malformed(at: usize) -> Decoded
 }
 
 // The record at a place of the log. One that is malformed leaves the place where it was.
-pub fn record_at(log: &[u8], at: usize) -> Decoded
+fn record_at(log: &[u8], at: usize) -> Decoded
     ensures { λ r. ⌜ r ≡ decodedOf (now (log .entry)) at ⌝ }
 {
     let n = log.len();
@@ -167,32 +167,42 @@ pub struct Reader<'a> {
     pub at: usize,
 }
 
+// What a reader's record asks for, and the reader moved past that record.
+pub struct Taken<'a> {
+    pub command: Command,
+    pub reader: Reader<'a>,
+}
+
 impl<'a> Reader<'a> {
     // A reader of these bytes that stands at this place.
     pub fn new(log: &'a [u8], at: usize) -> Reader<'a>
-        ensures { λ r. ⌜ (r .log ≡ log .entry) × (r .at ≡ at) ⌝ }
+        ensures { λ r. ⌜ r ≡ readerAt (log .entry) at ⌝ }
     {
         Reader { log, at }
     }
 
-    // The record at its place.
-    pub fn next(self) -> Decoded
-        ensures { λ d. ⌜ d ≡ decodedOf (now (self .entry .log)) (self .entry .at) ⌝ }
+    // The record at its place: the reader goes in, and comes back moved past it.
+    pub fn next(self) -> Taken<'a>
+        ensures { λ t. ⌜ t ≡ takenBy (self .entry) ⌝ }
     {
-        record_at(self.log, self.at)
-    }
-
-    // The same bytes, from another place on.
-    pub fn moved(self, at: usize) -> Reader<'a>
-        ensures { λ r. ⌜ (r .log ≡ self .entry .log) × (r .at ≡ at) ⌝ }
-    {
-        Reader { log: self.log, at }
+        let d = record_at(self.log, self.at);
+        Taken {
+            command: d.command,
+            reader: Reader {
+                log: self.log,
+                at: d.next,
+            },
+        }
     }
 }
 
-// The record that a reader gives at a place of the log.
+// The record that a reader takes at a place of the log, and where it stands then.
 pub fn read_at(log: &[u8], at: usize) -> Decoded
     ensures { λ d. ⌜ d ≡ decodedOf (now (log .entry)) at ⌝ }
 {
-    Reader::new(log, at).next()
+    let taken = Reader::new(log, at).next();
+    Decoded {
+        command: taken.command,
+        next: taken.reader.at,
+    }
 }

@@ -5,3 +5,4 @@ pub mod Zeroes
 pub mod Beside
 pub mod First
 pub mod Statuses
+pub mod Samples

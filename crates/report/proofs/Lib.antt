@@ -1,1 +1,3 @@
 pub mod Answers
+pub mod Samples
+pub mod Told
