@@ -22,7 +22,7 @@ use Rattle.protocol.specs.View.{asked, told}
 use Rattle.record.specs.Methods.{idleOf}
 use Rattle.places.specs.Places.{wantedOf, isBegin, missesOf}
 use Rattle.steps.specs.Steps.{Moved, doneBy, stepOf}
-use Rattle.steps.specs.Words.{Words, view, txnAt, othersIn, placeFor, movedBy, wordsAfter, Sized}
+use Rattle.steps.specs.Words.{Words, view, txnAt, othersIn, placeFor, movedBy, Sized}
 use Rattle.bridge.proofs.Places.{default-any, standing, there, nowhere, place-in, not-there}
 use Rattle.bridge.proofs.Placed.{after, unmoved, unmoved-same}
 

@@ -89,6 +89,9 @@ module _ (rows versions buckets lists : List ℕ) (z : Sizes) (e : tablesLent ro
   pub buckets-lent : 2 * z .buckets ≤ length buckets
   buckets-lent = leb-true _ _ (and-r (leb (4 * z .rows) (length rows) && leb (6 * suc (z .versions)) (length versions)) (leb (2 * z .buckets) (length buckets)) three)
 
+  pub lists-lent : 4352 ≤ length lists
+  lists-lent = leb-true 4352 (length lists) (and-r (leb (4 * z .rows) (length rows) && leb (6 * suc (z .versions)) (length versions) && leb (2 * z .buckets) (length buckets)) (leb 4352 (length lists)) e)
+
 -- an empty list that was lent comes back empty
 pub lent-none : (r : Turned) (rows versions buckets lists found : List ℕ) (x : Left) → length found ≡ 0 → left r rows versions buckets lists found ≡ x → left r rows versions buckets lists [] ≡ x
 lent-none r rows versions buckets lists [] x n e = e
