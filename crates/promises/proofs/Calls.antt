@@ -35,7 +35,7 @@ use Rattle.shape.specs.Shape.{tablesLent, inPlace, allInPlace, tablesFit, shape
 use Rattle.turns.specs.Turns.{turnedBy, wordsTurned, turnOf}
 use Rattle.turns.proofs.Laws.{rows-lent, versions-lent, buckets-lent, lists-lent}
 use Rattle.promises.specs.Calls.{Call, roomWithin, asking, lending, called, calls, stepsOf, Typed, CalledAs, AnyCall}
-use Rattle.promises.proofs.Turning.{turn-same}
+use Rattle.promises.proofs.Turned.{turn-same}
 
 -- ---- the room that a call asks for
 

@@ -1,6 +1,6 @@
 pub mod Opened
 pub mod Refusing
 pub mod Sweeping
-pub mod Turning
+pub mod Turned
 pub mod Calls
 pub mod Demands
