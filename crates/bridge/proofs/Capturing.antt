@@ -19,7 +19,6 @@ use Rattle.model.specs.Lists.{member, some-of}
 use Rattle.model.specs.Steps.{hasRead, addRead}
 use Rattle.model.specs.Refusals.{Refusal, WrongPhase, Marked, Taken, Stale, ManyReads, byAnother, checks, refusal, inPhase, txnOf}
 use Rattle.model.specs.Machine.{accepted, afterRefusal, carried}
-use Rattle.model.proofs.Good.{Good}
 use Rattle.model.proofs.Ranges.{good-sized, bucket-in}
 use Rattle.protocol.specs.declared.Step.the-variants as ask
 use Rattle.protocol.specs.declared.Answer.the-variants as tell
@@ -43,6 +42,7 @@ use Rattle.record.specs.declared.Phase.the-variants as phase
 use Rattle.record.specs.declared.Transaction.{Transaction}
 use Rattle.steps.specs.Steps.{inBuckets}
 use Rattle.steps.specs.Words.{Words, sizesView, view, txnAt, SizedTxn, Sized}
+use Rattle.bridge.proofs.Shaped.{Shaped}
 use Rattle.bridge.proofs.Places.{standing, sized-at}
 use Rattle.bridge.proofs.Placed.{slot-view, txns-set, sized-set}
 use Rattle.bridge.proofs.Same.{same-store, SameAt, Same, refused-same, by-place}
@@ -103,7 +103,7 @@ module _ (w : Words) (z : Sized w) (b v : ℕ) (h : b < w .sizes .buckets) where
   pub stamps-kept : _≡_ {A = model.Index} (record { stamp = stampOf (bucketsPart (sizesView (w .sizes)) (setHolder (w .tables .buckets) b v)); posted = view w .index .posted }) (view w .index)
   stamps-kept = rw (part-other 2 1 (w .sizes .buckets) (w .tables .buckets) b v 0 (omega arith) (omega arith) (omega arith))
 
-module _ (w : Words) (z : Sized w) (g : Good (view w)) (n k : ℕ) (l : standing w n < mostLive) where
+module _ (w : Words) (z : Sized w) (g : Shaped w) (n k : ℕ) (l : standing w n < mostLive) where
   pub key-in : bucketOf (view w .sizes) k < w .sizes .buckets
   key-in = bucket-in (view w .sizes) (good-sized (view w .sizes) (g .sizes)) k
 
@@ -187,6 +187,6 @@ module _ (w : Words) (z : Sized w) (g : Good (view w)) (n k : ℕ) (l : standing
       (not (ltb (view w .index .stamp b) (t .number))) (tooMany (readPrefix xs (t .slot) (t .«reads_n») b) (t .«reads_n»)) refl)
 
 -- the key's bucket is taken
-pub capture-same : (w : Words) → Sized w → Good (view w) → (n k : ℕ) → Same w (ask.Capture n k)
+pub capture-same : (w : Words) → Sized w → Shaped w → (n k : ℕ) → Same w (ask.Capture n k)
 unfolding checks bucketOf
 capture-same w z g n k = by-place w z (ask.Capture n k) refl (inPhase (view w) n 1) (captureChecks (view w) n k) refl (λ l d e. captured-place w z g n k l)

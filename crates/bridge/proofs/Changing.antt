@@ -13,13 +13,14 @@ use Rattle.model.specs.Table.{cond-elim}
 use Rattle.model.specs.Steps.{keyBefore, newKey, keyBuckets, readBuckets, changedBuckets, pendingRows}
 use Rattle.model.specs.Holding.{needs, Wants}
 use Rattle.model.proofs.ListLaws.{among-left, among-right, among-cases, join-which, which-join, join-same}
-use Rattle.model.proofs.Good.{Good}
+use Rattle.model.proofs.Good.{Good, right-shape}
 use Rattle.tables.specs.Fields as fields
 use Rattle.tables.proofs.Parts.{part-field}
 use Rattle.record.specs.View.{phaseView}
 use Rattle.holders.specs.Keys.{keyOf, oldKeyOf, newKeyOf}
 use Rattle.holders.specs.Needs.{readsNeed, rowsWritten, writeNeeds, writeChanges}
 use Rattle.steps.specs.Words.{Words, view, txnAt, Sized}
+use Rattle.bridge.proofs.Shaped.{Shaped, shaped}
 use Rattle.bridge.proofs.Places.{sized-at}
 use Rattle.bridge.proofs.Judging.{reads-need, needs-length, read-in}
 use Rattle.bridge.proofs.Tabled.{InRange}
@@ -44,18 +45,18 @@ rowsOf w p = rowsWritten (w .tables .lists) (txnAt w p .slot) (txnAt w p .«writ
 abbrev pub listedAfter : Words → ℕ → List ℕ
 listedAfter w p = readsNeed (w .tables .lists) (txnAt w p .slot) (txnAt w p .«reads_n») ++ join (rowNeeds w p) (rowsOf w p)
 
-module _ (w : Words) (z : Sized w) (g : Good (view w)) (p : ℕ) (l : 1 ≤ txnAt w p .number) (k : 5 ≤ rank (phaseView (txnAt w p .phase))) where
+module _ (w : Words) (z : Sized w) (g : Shaped w) (p : ℕ) (l : 1 ≤ txnAt w p .number) (k : 5 ≤ rank (phaseView (txnAt w p .phase))) where
   -- the key behind the head
   before-same : (r : ℕ) → Among r (rowsOf w p) → keyOf (oldKeyOf (w .tables .rows) (w .tables .versions) true r) ≡ keyBefore (view w .chains) r
   unfolding oldKeyOf
   before-same r m =
-      let h = row-in w z g p r m in
-      let mine = g .written .mine p r l k (row-pending w z g p r m) in
+      let h = row-in w z g p l r m in
+      let some-head = g .in-store p l .headed k r (row-pending w z g p l r m) in
       let c = view w .chains in
       let q = c .head r in
-      let u = g .chained .heads-in r in
+      let u = g .heads-in r in
       let next : fields.nextOf (w .tables .versions) q ≡ c .next q = sym (part-field 6 2 (suc (w .sizes .versions)) (w .tables .versions) q (omega arith) (used-in w z g q u)) in
-      rw (head-same w z g r h, next) (version-key w z g (c .next q) (omega (arith, g .chained .next-falls q (mine .head-pos) u)))
+      rw (head-same w z g r h, next) (version-key w z g (c .next q) (omega (arith, g .next-falls q some-head u)))
 
   after-needs : (r : ℕ) → Among r (rowsOf w p) → rowNeeds w p r ≡ keyBuckets (view w .sizes) (keyBefore (view w .chains) r) ++ keyBuckets (view w .sizes) (newKey (view w .txns p) r)
   unfolding writeNeeds
@@ -72,11 +73,15 @@ module _ (w : Words) (z : Sized w) (g : Good (view w)) (p : ℕ) (l : 1 ≤ txnA
   -- the stamped buckets are those that changed
   pub changed-to : (b : ℕ) → Among b (join (rowChanges w p) (rowsOf w p)) → Among b (changedBuckets (view w) (view w .txns p))
   unfolding changedBuckets
-  changed-to b m = join-to _ (rowsOf w p) _ b (λ r a. row-pending w z g p r a) (rw (join-same (rowChanges w p) _ (rowsOf w p) after-changes) at m)
+  changed-to b m = join-to _ (rowsOf w p) _ b (λ r a. row-pending w z g p l r a) (rw (join-same (rowChanges w p) _ (rowsOf w p) after-changes) at m)
 
   pub changed-back : (b : ℕ) → Among b (changedBuckets (view w) (view w .txns p)) → Among b (join (rowChanges w p) (rowsOf w p))
   unfolding changedBuckets
   changed-back b m = rw (join-same (rowChanges w p) _ (rowsOf w p) after-changes) (join-to _ _ (rowsOf w p) b (λ r a. pending-row w z g p r a) m)
+
+module _ (w : Words) (z : Sized w) (g : Good (view w)) (p : ℕ) (l : 1 ≤ txnAt w p .number) (k : 5 ≤ rank (phaseView (txnAt w p .phase))) where
+  abbrev sh : Shaped w
+  sh = shaped w z (right-shape (view w) g)
 
   -- all that the number holds is listed
   pub held-listed : (b : ℕ) → view w .held .holder b ≡ txnAt w p .number → Among b (bucketIn (phaseView (txnAt w p .phase)) ∷ listedAfter w p)
@@ -85,8 +90,8 @@ module _ (w : Words) (z : Sized w) (g : Good (view w)) (p : ℕ) (l : 1 ≤ txnA
     where
       rows-listed : Among b (join (λ r. keyBuckets (view w .sizes) (view w .index .posted r) ++ keyBuckets (view w .sizes) (newKey (view w .txns p) r)) (pendingRows (view w .sizes) (view w .txns p .writes))) → Among b (join (rowNeeds w p) (rowsOf w p))
       rows-listed m = rw (join-same (rowNeeds w p) (λ r. keyBuckets (view w .sizes) (view w .index .posted r) ++ keyBuckets (view w .sizes) (newKey (view w .txns p) r)) (rowsOf w p)
-          (λ r a. rw (← g .written .mine p r l k (row-pending w z g p r a) .before) (after-needs r a)))
-          (join-to (λ r. keyBuckets (view w .sizes) (view w .index .posted r) ++ keyBuckets (view w .sizes) (newKey (view w .txns p) r)) (pendingRows (view w .sizes) (view w .txns p .writes)) (rowsOf w p) b (λ r a. pending-row w z g p r a) m)
+          (λ r a. rw (← g .written .mine p r l k (row-pending w z sh p l r a) .before) (after-needs w z sh p l k r a)))
+          (join-to (λ r. keyBuckets (view w .sizes) (view w .index .posted r) ++ keyBuckets (view w .sizes) (newKey (view w .txns p) r)) (pendingRows (view w .sizes) (view w .txns p .writes)) (rowsOf w p) b (λ r a. pending-row w z sh p r a) m)
 
       wanted : Wants (view w .sizes) (view w .index .posted) (view w .txns p) b → Among b (bucketIn (phaseView (txnAt w p .phase)) ∷ listedAfter w p)
       wanted (inl h) = inl (sym (ap bucketIn (h .1)))
@@ -98,8 +103,8 @@ module _ (w : Words) (z : Sized w) (g : Good (view w)) (p : ℕ) (l : 1 ≤ txnA
       by : (j : ℕ) × (view w .held .holder b ≡ view w .txns j .number) × Wants (view w .sizes) (view w .index .posted) (view w .txns j) b → Among b (bucketIn (phaseView (txnAt w p .phase)) ∷ listedAfter w p)
       by o = wanted (rw (g .numbers .distinct p (o .0) l (sym e ∙ o .1)) (o .2))
 
-module _ (w : Words) (z : Sized w) (g : Good (view w)) (p : ℕ) where
-  -- the lists fit in the words for them, and are in range
+module _ (w : Words) (z : Sized w) (p : ℕ) where
+  -- the lists fit in the words for them
   pub after-few : length (listedAfter w p) ≤ 48
   after-few =
       let s = sized-at w z p in
@@ -107,28 +112,30 @@ module _ (w : Words) (z : Sized w) (g : Good (view w)) (p : ℕ) where
         arith,
         s .reads,
         s .writes,
-        writes-few w z g p,
+        writes-few w p,
         needs-length (w .tables .lists) (txnAt w p),
         join-few (rowNeeds w p) (rowsOf w p) (λ r. needs-few (w .tables .rows) (w .tables .versions) (w .tables .lists) (w .sizes .buckets) true (txnAt w p .slot) (txnAt w p .«writes_n») r),
       ))
-
-  needs-range : (r : ℕ) → InRange (w .sizes .buckets) (rowNeeds w p r)
-  needs-range r = needs-in (w .tables .rows) (w .tables .versions) (w .tables .lists) (w .sizes .buckets) true (txnAt w p .slot) (txnAt w p .«writes_n») r (count-pos w z g p)
-
-  pub after-in : InRange (w .sizes .buckets) (listedAfter w p)
-  after-in b m = ⊎-elim (λ a. read-in w z g p b a) (λ a. let o = join-which (rowNeeds w p) (rowsOf w p) b a in needs-range (o .0) b (o .2)) (among-cases b (readsNeed (w .tables .lists) (txnAt w p .slot) (txnAt w p .«reads_n»)) (join (rowNeeds w p) (rowsOf w p)) m)
 
   change-few : (r : ℕ) → length (rowChanges w p r) ≤ 2
   unfolding writeChanges
   change-few r = cond-elim (λ (bs : List ℕ). length bs ≤ 2) (sameKey (keyOf (oldKeyOf (w .tables .rows) (w .tables .versions) true r)) (keyOf (newKeyOf (w .tables .lists) (txnAt w p .slot) (txnAt w p .«writes_n») r))) [] (rowNeeds w p r) (λ t. omega arith)
       (λ t. needs-few (w .tables .rows) (w .tables .versions) (w .tables .lists) (w .sizes .buckets) true (txnAt w p .slot) (txnAt w p .«writes_n») r)
 
+  pub changes-few : length (join (rowChanges w p) (rowsOf w p)) ≤ 48
+  changes-few = omega (arith, join-few (rowChanges w p) (rowsOf w p) change-few, writes-few w p, sized-at w z p .writes)
+
+module _ (w : Words) (z : Sized w) (g : Shaped w) (p : ℕ) where
+  -- and are in range
+  needs-range : (r : ℕ) → InRange (w .sizes .buckets) (rowNeeds w p r)
+  needs-range r = needs-in (w .tables .rows) (w .tables .versions) (w .tables .lists) (w .sizes .buckets) true (txnAt w p .slot) (txnAt w p .«writes_n») r (count-pos w g)
+
+  pub after-in : 1 ≤ txnAt w p .number → InRange (w .sizes .buckets) (listedAfter w p)
+  after-in l b m = ⊎-elim (λ a. read-in w z g p l b a) (λ a. let o = join-which (rowNeeds w p) (rowsOf w p) b a in needs-range (o .0) b (o .2)) (among-cases b (readsNeed (w .tables .lists) (txnAt w p .slot) (txnAt w p .«reads_n»)) (join (rowNeeds w p) (rowsOf w p)) m)
+
   change-in : (r : ℕ) → InRange (w .sizes .buckets) (rowChanges w p r)
   unfolding writeChanges
   change-in r = cond-elim (λ (bs : List ℕ). InRange (w .sizes .buckets) bs) (sameKey (keyOf (oldKeyOf (w .tables .rows) (w .tables .versions) true r)) (keyOf (newKeyOf (w .tables .lists) (txnAt w p .slot) (txnAt w p .«writes_n») r))) [] (rowNeeds w p r) (λ t i m. absurd m) (λ t. needs-range r)
-
-  pub changes-few : length (join (rowChanges w p) (rowsOf w p)) ≤ 48
-  changes-few = omega (arith, join-few (rowChanges w p) (rowsOf w p) change-few, writes-few w z g p, sized-at w z p .writes)
 
   pub changes-in : InRange (w .sizes .buckets) (join (rowChanges w p) (rowsOf w p))
   changes-in b m = let o = join-which (rowChanges w p) (rowsOf w p) b m in change-in (o .0) b (o .2)

@@ -19,7 +19,6 @@ use Rattle.model.specs.Steps.{postedRows}
 use Rattle.model.specs.Refusals.{WrongPhase, checks, refusal, inPhase}
 use Rattle.model.specs.Machine.{accepted, afterRefusal, carried}
 use Rattle.model.proofs.ListLaws.{pick-same, pick-few}
-use Rattle.model.proofs.Good.{Good}
 use Rattle.model.proofs.Ranges.{good-sized}
 use Rattle.protocol.specs.declared.Step.the-variants as ask
 use Rattle.protocol.specs.View.{asked}
@@ -36,7 +35,8 @@ use Rattle.record.specs.declared.Phase.the-variants as phase
 use Rattle.record.specs.declared.Transaction.{Transaction}
 use Rattle.steps.specs.Steps.{inBuckets}
 use Rattle.steps.specs.Words.{Words, view, txnAt, SizedTxn, Sized}
-use Rattle.bridge.proofs.Places.{standing, sized-at}
+use Rattle.bridge.proofs.Shaped.{Shaped}
+use Rattle.bridge.proofs.Places.{standing, live-at, sized-at}
 use Rattle.bridge.proofs.Placed.{slot-view, txns-set, sized-set}
 use Rattle.bridge.proofs.Same.{same-store, SameAt, Same, refused-same, by-place}
 use Rattle.bridge.proofs.Capturing.{holder-set, stamps-kept}
@@ -83,7 +83,7 @@ posted-test posted key k = by (eqb posted 0)
     by true = refl
     by false = refl
 
-module _ (w : Words) (z : Sized w) (g : Good (view w)) where
+module _ (w : Words) (z : Sized w) (g : Shaped w) where
   pub posted-same : (k : ℕ) → postedUpTo (w .tables .rows) k (w .sizes .rows) ≡ postedRows (view w) k
   unfolding postedRows
   posted-same k =
@@ -97,7 +97,7 @@ module _ (w : Words) (z : Sized w) (g : Good (view w)) where
   unfolding postedRows
   posted-few k = omega (arith, pick-few (λ r. sameKey (view w .index .posted r) (some k)) 0 (w .sizes .rows), good-sized (view w .sizes) (g .sizes) .rows-most)
 
-  collected-at : (n : ℕ) → standing w n < mostLive → (b : Bool)
+  collected-at : (n : ℕ) → standing w n < mostLive → 1 ≤ txnAt w (standing w n) .number → (b : Bool)
       → SameAt w (standing w n)
       (inBuckets
       (cond b (left (refusedOf (txnAt w (standing w n)) 5) (w .tables .buckets) (w .tables .lists))
@@ -105,8 +105,8 @@ module _ (w : Words) (z : Sized w) (g : Good (view w)) where
       (w .clock) (w .used) (w .tables))
       (carried (view w) (asked (ask.Collect n)) (cond b (some WrongPhase) none))
   unfolding carried accepted afterRefusal
-  collected-at n l true = refused-same w z (standing w n) WrongPhase
-  collected-at n l false =
+  collected-at n l a true = refused-same w z (standing w n) WrongPhase
+  collected-at n l a false =
       let q = standing w n in
       let s = sized-at w z q in
       let o = s .slot in
@@ -114,7 +114,7 @@ module _ (w : Words) (z : Sized w) (g : Good (view w)) where
       let rs = postedRows (view w) (keyIn ph) in
       let few = posted-few (keyIn ph) in
       record {
-        store = same-store _ _ refl refl refl (stamps-kept w z (bucketIn ph) 0 (g .ranges q .1)) (holder-set w z (bucketIn ph) 0 (g .ranges q .1))
+        store = same-store _ _ refl refl refl (stamps-kept w z (bucketIn ph) 0 (g .in-store q a .bucket-in)) (holder-set w z (bucketIn ph) 0 (g .in-store q a .bucket-in))
             (txns-set w z q l _ _ (λ j d. slot-view (w .tables .lists) q j _ rs (txnAt w j) (sized-at w z j) (omega arith) (omega arith) d)
             ∙ ap (λ (y : model.Txn). update (view w .txns) q y) (collected-view (w .tables .lists) q (txnAt w q) rs (keyIn ph) s l few (z .lists)));
         answer = refl;
@@ -126,4 +126,4 @@ module _ (w : Words) (z : Sized w) (g : Good (view w)) where
   pub collect-same : (n : ℕ) → Same w (ask.Collect n)
   unfolding checks refusal collectOf
   collect-same n = by-place w z (ask.Collect n) refl (inPhase (view w) n 2) [] refl
-      (λ l d e. rw (posted-same (keyIn (phaseView (txnAt w (standing w n) .phase)))) (collected-at n l (not (eqb (model.rank (phaseView (txnAt w (standing w n) .phase))) 2))))
+      (λ l d e. rw (posted-same (keyIn (phaseView (txnAt w (standing w n) .phase)))) (collected-at n l (live-at w n d e) (not (eqb (model.rank (phaseView (txnAt w (standing w n) .phase))) 2))))

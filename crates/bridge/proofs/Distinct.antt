@@ -16,7 +16,6 @@ use Rattle.model.specs.Steps.{pendingRows}
 use Rattle.model.specs.Seeing.{pending}
 use Rattle.model.specs.Lists.{Among, Rising}
 use Rattle.model.proofs.ListLaws.{pick-rising, same-test, or-cases, or-left, or-right}
-use Rattle.model.proofs.Good.{Good}
 use Rattle.model.proofs.Ranges.{good-sized}
 use Rattle.buckets.specs.Buckets.{bucketsOf, laid, canonicalOf}
 use Rattle.buckets.specs.Upstream.{inRange}
@@ -28,6 +27,7 @@ use Rattle.record.specs.View.{writeView}
 use Rattle.holders.specs.Needs.{rowsWritten}
 use Rattle.install.specs.Install.{rowsListed, pendingInto}
 use Rattle.steps.specs.Words.{Words, view, txnAt, Sized}
+use Rattle.bridge.proofs.Shaped.{Shaped}
 use Rattle.bridge.proofs.Places.{sized-at}
 use Rattle.bridge.proofs.Listing.{listed-all}
 use Rattle.bridge.proofs.Needing.{written-pending, pending-written, row-in}
@@ -75,14 +75,14 @@ module _ (xs : List ℕ) (s n : ℕ) (z : model.Sizes) (below : (r : ℕ) → Am
       let rs = rowsWritten xs s n in
       rw (listed-all 16 rs few, canonical-fine rs (replicate mostWrites 0) (λ i h. omega (arith, below (getD rs i 0) (entry-among rs i h))) few, sorted-pending)
 
-module _ (w : Words) (z : Sized w) (g : Good (view w)) (p : ℕ) where
+module _ (w : Words) (z : Sized w) (g : Shaped w) (p : ℕ) (l : 1 ≤ txnAt w p .number) where
   pub rows-sorted : bucketsOf (rowsWritten (w .tables .lists) (txnAt w p .slot) (txnAt w p .«writes_n»)) ≡ pendingRows (view w .sizes) (view w .txns p .writes)
-  rows-sorted = sorted-pending (w .tables .lists) (txnAt w p .slot) (txnAt w p .«writes_n») (view w .sizes) (row-in w z g p)
+  rows-sorted = sorted-pending (w .tables .lists) (txnAt w p .slot) (txnAt w p .«writes_n») (view w .sizes) (row-in w z g p l)
 
   -- the list that install goes through, and how many they are
   pub pending-into : pendingInto (w .tables .lists) (txnAt w p .slot) (txnAt w p .«writes_n») (replicate mostWrites 0)
       ≡ record { out = laid (pendingRows (view w .sizes) (view w .txns p .writes)) (replicate mostWrites 0); n = length (pendingRows (view w .sizes) (view w .txns p .writes)) }
-  pending-into = listed-pending (w .tables .lists) (txnAt w p .slot) (txnAt w p .«writes_n») (view w .sizes) (row-in w z g p) (omega (arith, good-sized (view w .sizes) (g .sizes) .rows-most)) (omega (arith, writes-few w z g p, sized-at w z p .writes))
+  pending-into = listed-pending (w .tables .lists) (txnAt w p .slot) (txnAt w p .«writes_n») (view w .sizes) (row-in w z g p l) (omega (arith, good-sized (view w .sizes) (g .sizes) .rows-most)) (omega (arith, writes-few w p, sized-at w z p .writes))
 
   pub pending-front : take (pendingInto (w .tables .lists) (txnAt w p .slot) (txnAt w p .«writes_n») (replicate mostWrites 0) .n) (pendingInto (w .tables .lists) (txnAt w p .slot) (txnAt w p .«writes_n») (replicate mostWrites 0) .out)
       ≡ pendingRows (view w .sizes) (view w .txns p .writes)

@@ -16,7 +16,6 @@ use Rattle.model.specs.Store as model
 use Rattle.model.specs.Steps.{foundRows, recordsAfter}
 use Rattle.model.specs.Refusals.{WrongPhase, NoRoom, ManyRecords, checks, refusal, inPhase, txnOf}
 use Rattle.model.specs.Machine.{accepted, afterRefusal, carried}
-use Rattle.model.proofs.Good.{Good}
 use Rattle.model.proofs.Ranges.{good-sized}
 use Rattle.protocol.specs.declared.Step.the-variants as ask
 use Rattle.protocol.specs.View.{asked}
@@ -30,19 +29,20 @@ use Rattle.reads.proofs.Appended.{Stands}
 use Rattle.reads.proofs.Model.{ReadAs, RowsAs, rows-model}
 use Rattle.steps.specs.Steps.{inFound}
 use Rattle.steps.specs.Words.{Words, view, txnAt, Sized}
+use Rattle.bridge.proofs.Shaped.{Shaped}
 use Rattle.bridge.proofs.Places.{standing, sized-at}
 use Rattle.bridge.proofs.Placed.{idle-view, txns-set, sized-set}
 use Rattle.bridge.proofs.Same.{same-store, SameAt, Same, refused-same, by-place}
 
-module _ (w : Words) (z : Sized w) (g : Good (view w)) where
+module _ (w : Words) (z : Sized w) (g : Shaped w) where
   -- the tables show the model's chains
   chains-shown : Shows (view w .chains) (w .sizes .rows) (w .tables .rows) (w .tables .versions) (w .used)
   chains-shown =
-      let u = g .room .versions-left in
+      let u = g .versions-left in
       let used-few : w .used ≤ w .sizes .versions = omega arith in
       shows-parts (view w .sizes) (w .tables .rows) (w .tables .versions) (w .used) used-few (omega (arith, z .versions))
-      (λ r h. rw (part-field rowWords 0 (w .sizes .rows) (w .tables .rows) r (omega arith) h) at (g .chained .heads-in r))
-      (λ p l h. rw (part-field versionWords 2 (suc (w .sizes .versions)) (w .tables .versions) p (omega arith) (omega arith)) at (g .chained .next-falls p l h))
+      (λ r h. rw (part-field rowWords 0 (w .sizes .rows) (w .tables .rows) r (omega arith) h) at (g .heads-in r))
+      (λ p l h. rw (part-field versionWords 2 (suc (w .sizes .versions)) (w .tables .versions) p (omega arith) (omega arith)) at (g .next-falls p l h))
 
   lists-stand : (p : ℕ) → p < mostLive → Stands (w .tables .lists) (txnAt w p)
   lists-stand p l =

@@ -1,16 +1,18 @@
--- Numbers listed in lent words with room for them are that list; tests that agree on a list agree of it.
+-- Numbers listed in lent words with room for them are that list; tests of a list and of all numbers below a bound, entry by entry.
 -- Assumes nothing.
-use Prim.Native.Nat.{ℕ, _+_, _≤_, _<_}
+use Prim.Native.Nat.{ℕ, zero, suc, _+_, _≤_, _<_}
 use mathlib.Core.Path.{_≡_, refl, sym, ap, _∙_}
-use mathlib.Core.Bool.{Bool, cond}
+use mathlib.Core.Bool.{Bool, true, cond}
 use mathlib.Core.Logic.{inl, inr}
 use mathlib.Core.List.{List, [], _∷_, _++_, append-assoc, append-nil}
+use native.Mathlib.Decide.{decLt}
 use native.Mathlib.Numerals.{add-one}
 use native.Mathlib.Omega.{arith}
 use lib.ListN.{length, take, set, replicate, length-set, length-replicate}
 use lib.Seq.{take-suc-set}
 use borrow.Author.Tests.{lt-ltb}
-use Rattle.model.specs.Lists.{some-of, Among}
+use Rattle.model.specs.Lists.{every, some-of, all-of, Among}
+use Rattle.model.proofs.ListLaws.{and-l, and-r}
 use Rattle.holders.specs.Needs.{Listed, pushOne, pushAll}
 
 push-room : (x : ℕ) (xs : List ℕ) (st : Listed) → st .n < length (st .out) → pushAll st (x ∷ xs) ≡ pushAll (record { out = set (st .out) (st .n) x; n = st .n + 1 }) xs
@@ -37,3 +39,14 @@ pub some-same : {A : Type 0} (test also : A → Bool) (xs : List A) → ((x : A)
 unfolding some-of
 some-same test also [] h = refl
 some-same test also (x ∷ xs) h = rw (h x (inl refl), some-same test also xs (λ y m. h y (inr m)))
+
+-- what a test of all says of each
+pub all-each : {A : Type 0} (test : A → Bool) (xs : List A) → all-of test xs ≡ true → (x : A) → Among x xs → test x ≡ true
+unfolding all-of
+all-each test (y ∷ xs) e x (inl d) = rw d (and-l (test y) (all-of test xs) e)
+all-each test (y ∷ xs) e x (inr m) = all-each test xs (and-r (test y) (all-of test xs) e) x m
+
+pub every-at : (n : ℕ) (test : ℕ → Bool) → every n test ≡ true → (i : ℕ) → i < n → test i ≡ true
+unfolding every
+every-at zero test e i h = absurd (omega arith)
+every-at (suc n) test e i h = elim (decLt i n) [ yes l ↦ every-at n test (and-l (every n test) (test n) e) i l | no l ↦ let d : i ≡ n = omega (arith, l) in rw d (and-r (every n test) (test n) e) ]

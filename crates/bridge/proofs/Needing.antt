@@ -17,7 +17,6 @@ use Rattle.model.specs.Seeing.{keyAt, pending}
 use Rattle.model.specs.Steps.{pendingRows, oldKey, newKey, keyBuckets, readBuckets, neededBuckets}
 use Rattle.model.proofs.ListLaws.{among-left, among-right, among-cases, among-map, map-among, join-which, which-join, member-among, among-member, same-test, or-left, or-right, pick-which}
 use Rattle.model.proofs.SeeingLaws.{which-pendingRows, pending-which}
-use Rattle.model.proofs.Good.{Good}
 use Rattle.tables.specs.Fields as fields
 use Rattle.tables.specs.Lists as lists
 use Rattle.tables.specs.declared.lists.Write.{Write}
@@ -27,6 +26,7 @@ use Rattle.holders.specs.declared.Key.{Key}
 use Rattle.holders.specs.Keys.{keyOf, versionKey, oldKeyOf, newKeyOf}
 use Rattle.holders.specs.Needs.{bucketsFor, readsNeed, rowsWritten, writeNeeds, writesNeed}
 use Rattle.steps.specs.Words.{Words, view, txnAt, Sized}
+use Rattle.bridge.proofs.Shaped.{Shaped}
 use Rattle.bridge.proofs.Places.{sized-at}
 use Rattle.bridge.proofs.Judging.{reads-need}
 use Rattle.bridge.proofs.Keyed.{new-key-same}
@@ -72,9 +72,9 @@ key-buckets z k = by (eqb (k .keyed) 0)
 abbrev pub listedNeeds : Words → ℕ → List ℕ
 listedNeeds w p = readsNeed (w .tables .lists) (txnAt w p .slot) (txnAt w p .«reads_n») ++ writesNeed (w .tables .rows) (w .tables .versions) (w .tables .lists) (w .sizes .buckets) false (txnAt w p .slot) (txnAt w p .«writes_n»)
 
-module _ (w : Words) (z : Sized w) (g : Good (view w)) where
+module _ (w : Words) (z : Sized w) (g : Shaped w) where
   pub used-in : (p : ℕ) → p ≤ w .used → p < suc (w .sizes .versions)
-  used-in p h = omega (arith, g .room .versions-left)
+  used-in p h = omega (arith, g .versions-left)
 
   -- the key at a pointer that was given
   pub version-key : (p : ℕ) → p ≤ w .used → keyOf (versionKey (w .tables .versions) p) ≡ keyAt (view w .chains) p
@@ -94,7 +94,7 @@ module _ (w : Words) (z : Sized w) (g : Good (view w)) where
   -- the head version's key
   pub old-key-same : (r : ℕ) → r < w .sizes .rows → keyOf (oldKeyOf (w .tables .rows) (w .tables .versions) false r) ≡ oldKey (view w .chains) r
   unfolding oldKeyOf
-  old-key-same r h = rw (head-same r h) (version-key (view w .chains .head r) (g .chained .heads-in r))
+  old-key-same r h = rw (head-same r h) (version-key (view w .chains .head r) (g .heads-in r))
 
   -- what is needed for one pending row
   pub row-needs : (p r : ℕ) → r < w .sizes .rows → writeNeeds (w .tables .rows) (w .tables .versions) (w .tables .lists) (w .sizes .buckets) false (txnAt w p .slot) (txnAt w p .«writes_n») r
@@ -106,38 +106,38 @@ module _ (w : Words) (z : Sized w) (g : Good (view w)) where
       rw (← a, ← b, old-key-same r h, new-key-same (w .tables .lists) (txnAt w p) (sized-at w z p .writes) r)
 
   -- the rows of the pending writes are the pending rows
-  pub row-in : (p r : ℕ) → Among r (rowsWritten (w .tables .lists) (txnAt w p .slot) (txnAt w p .«writes_n»)) → r < w .sizes .rows
-  row-in p r m =
+  pub row-in : (p : ℕ) → 1 ≤ txnAt w p .number → (r : ℕ) → Among r (rowsWritten (w .tables .lists) (txnAt w p .slot) (txnAt w p .«writes_n»)) → r < w .sizes .rows
+  row-in p l r m =
       let ws = lists.writesOf (w .tables .lists) (txnAt w p .slot) (txnAt w p .«writes_n») in
       let a = map-among (λ (x : Write). x .row) ws r m in
-      rw (a .2) (g .ranges p .0 .writes-in (writeView (a .0)) (among-map writeView ws (a .0) (a .1)))
+      rw (a .2) (g .in-store p l .writes-in (writeView (a .0)) (among-map writeView ws (a .0) (a .1)))
 
-  pub row-pending : (p r : ℕ) → Among r (rowsWritten (w .tables .lists) (txnAt w p .slot) (txnAt w p .«writes_n»)) → Among r (pendingRows (view w .sizes) (view w .txns p .writes))
-  row-pending p r m = written-pending (w .tables .lists) (txnAt w p .slot) (txnAt w p .«writes_n») (view w .sizes) r (row-in p r m) m
+  pub row-pending : (p : ℕ) → 1 ≤ txnAt w p .number → (r : ℕ) → Among r (rowsWritten (w .tables .lists) (txnAt w p .slot) (txnAt w p .«writes_n»)) → Among r (pendingRows (view w .sizes) (view w .txns p .writes))
+  row-pending p l r m = written-pending (w .tables .lists) (txnAt w p .slot) (txnAt w p .«writes_n») (view w .sizes) r (row-in p l r m) m
 
   pub pending-row : (p r : ℕ) → Among r (pendingRows (view w .sizes) (view w .txns p .writes)) → Among r (rowsWritten (w .tables .lists) (txnAt w p .slot) (txnAt w p .«writes_n»))
   pending-row p r m = pending-written (w .tables .lists) (txnAt w p .slot) (txnAt w p .«writes_n») (view w .sizes) r m
 
   -- they are those that the model needs
-  pub needed-listed : (p b : ℕ) → Among b (neededBuckets (view w) (view w .txns p)) → Among b (listedNeeds w p)
+  pub needed-listed : (p : ℕ) → 1 ≤ txnAt w p .number → (b : ℕ) → Among b (neededBuckets (view w) (view w .txns p)) → Among b (listedNeeds w p)
   unfolding neededBuckets
-  needed-listed p b m = ⊎-elim
+  needed-listed p l b m = ⊎-elim
       (λ n. among-left b (readsNeed (w .tables .lists) (txnAt w p .slot) (txnAt w p .«reads_n»)) _ (rw (reads-need (w .tables .lists) (txnAt w p)) at n))
       (λ n.
       let a = join-which (λ r. keyBuckets (view w .sizes) (oldKey (view w .chains) r) ++ keyBuckets (view w .sizes) (newKey (view w .txns p) r)) (pendingRows (view w .sizes) (view w .txns p .writes)) b n in
       let r = pending-row p (a .0) (a .1) in
       among-right b (readsNeed (w .tables .lists) (txnAt w p .slot) (txnAt w p .«reads_n»)) _
       (which-join (writeNeeds (w .tables .rows) (w .tables .versions) (w .tables .lists) (w .sizes .buckets) false (txnAt w p .slot) (txnAt w p .«writes_n»)) (rowsWritten (w .tables .lists) (txnAt w p .slot) (txnAt w p .«writes_n»)) b (a .0) r
-      (rw (row-needs p (a .0) (row-in p (a .0) r)) (a .2))))
+      (rw (row-needs p (a .0) (row-in p l (a .0) r)) (a .2))))
       (among-cases b (readBuckets (view w .txns p)) (join (λ r. keyBuckets (view w .sizes) (oldKey (view w .chains) r) ++ keyBuckets (view w .sizes) (newKey (view w .txns p) r)) (pendingRows (view w .sizes) (view w .txns p .writes))) m)
 
-  pub listed-needed : (p b : ℕ) → Among b (listedNeeds w p) → Among b (neededBuckets (view w) (view w .txns p))
+  pub listed-needed : (p : ℕ) → 1 ≤ txnAt w p .number → (b : ℕ) → Among b (listedNeeds w p) → Among b (neededBuckets (view w) (view w .txns p))
   unfolding neededBuckets
-  listed-needed p b m = ⊎-elim
+  listed-needed p l b m = ⊎-elim
       (λ n. among-left b (readBuckets (view w .txns p)) _ (rw (reads-need (w .tables .lists) (txnAt w p)) n))
       (λ n.
       let a = join-which (writeNeeds (w .tables .rows) (w .tables .versions) (w .tables .lists) (w .sizes .buckets) false (txnAt w p .slot) (txnAt w p .«writes_n»)) (rowsWritten (w .tables .lists) (txnAt w p .slot) (txnAt w p .«writes_n»)) b n in
       among-right b (readBuckets (view w .txns p)) _
-      (which-join (λ r. keyBuckets (view w .sizes) (oldKey (view w .chains) r) ++ keyBuckets (view w .sizes) (newKey (view w .txns p) r)) (pendingRows (view w .sizes) (view w .txns p .writes)) b (a .0) (row-pending p (a .0) (a .1))
-      (rw (row-needs p (a .0) (row-in p (a .0) (a .1))) at (a .2))))
+      (which-join (λ r. keyBuckets (view w .sizes) (oldKey (view w .chains) r) ++ keyBuckets (view w .sizes) (newKey (view w .txns p) r)) (pendingRows (view w .sizes) (view w .txns p .writes)) b (a .0) (row-pending p l (a .0) (a .1))
+      (rw (row-needs p (a .0) (row-in p l (a .0) (a .1))) at (a .2))))
       (among-cases b (readsNeed (w .tables .lists) (txnAt w p .slot) (txnAt w p .«reads_n»)) (writesNeed (w .tables .rows) (w .tables .versions) (w .tables .lists) (w .sizes .buckets) false (txnAt w p .slot) (txnAt w p .«writes_n»)) m)

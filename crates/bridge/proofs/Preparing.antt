@@ -1,6 +1,6 @@
 -- Prepare over the words is the model's.
 -- Assumes nothing.
-use Prim.Native.Nat.{ℕ, _+_, _<_}
+use Prim.Native.Nat.{ℕ, _+_, _≤_, _<_}
 use mathlib.Core.Path.{_≡_, refl, sym, ap, _∙_}
 use mathlib.Core.Bool.{Bool, true, false, cond, not, _&&_, _||_}
 use mathlib.Core.Option.{none, some}
@@ -8,6 +8,7 @@ use mathlib.Core.List.{List, [], _∷_}
 use native.Mathlib.Omega.{arith}
 use lib.Dec.{eqb, ltb}
 use lib.ListN.{length, take, getD, replicate, List·getD-map}
+use borrow.Author.Tests.{eqb-false}
 use Rattle.limits.specs.Limits.{mostLive}
 use Rattle.model.specs.Store as model
 use Rattle.model.specs.Store.{rank}
@@ -17,7 +18,6 @@ use Rattle.model.specs.Steps.{pendingRows, neededBuckets, preparedHeld}
 use Rattle.model.specs.Refusals.{Refusal, WrongPhase, Taken, Conflict, NoVersions, byAnother, reservedBy, reserved, bucketsTaken, rowsClaimed, checks, refusal, inPhase, txnOf}
 use Rattle.model.specs.Machine.{accepted, afterRefusal, carried}
 use Rattle.model.proofs.ListLaws.{same-test, some-which, which-some}
-use Rattle.model.proofs.Good.{Good}
 use Rattle.protocol.specs.declared.Step.the-variants as ask
 use Rattle.protocol.specs.declared.Answer.the-variants as tell
 use Rattle.protocol.specs.View.{asked, verdictTold}
@@ -37,7 +37,8 @@ use Rattle.install.specs.Install.{rowsListed, pendingInto}
 use Rattle.places.specs.Places.{preparedCount}
 use Rattle.steps.specs.Steps.{inPrepared}
 use Rattle.steps.specs.Words.{Words, sizesView, view, txnAt, othersIn, Sized}
-use Rattle.bridge.proofs.Places.{standing, sized-at}
+use Rattle.bridge.proofs.Shaped.{Shaped}
+use Rattle.bridge.proofs.Places.{standing, live-at, sized-at}
 use Rattle.bridge.proofs.Placed.{txns-set, sized-set}
 use Rattle.bridge.proofs.Same.{same-store, SameAt, Same, refused-same, by-place}
 use Rattle.bridge.proofs.Listing.{listed-all, some-same}
@@ -75,37 +76,37 @@ none-distinct : (xs : List ℕ) (s : ℕ) → distinctIn xs s 0 ≡ 0
 unfolding distinctIn pendingInto rowsListed pushAll listOf canonicalOf
 none-distinct xs s = refl
 
-module _ (w : Words) (z : Sized w) (g : Good (view w)) where
-  taken-needs : (p : ℕ) → anyTaken (w .tables .buckets) (txnAt w p .number) (listedNeeds w p) ≡ some-of (byAnother (view w .held .holder) (txnAt w p .number)) (neededBuckets (view w) (view w .txns p))
-  taken-needs p =
-      some-same (λ b. takenBy (fields.holderOf (w .tables .buckets) b) (txnAt w p .number)) (byAnother (view w .held .holder) (txnAt w p .number)) (listedNeeds w p) (λ b m. taken-same w z g (txnAt w p .number) b (listed-in w z g p b m))
-      ∙ some-both _ _ _ (λ b m. listed-needed w z g p b m) (λ b m. needed-listed w z g p b m)
+module _ (w : Words) (z : Sized w) (g : Shaped w) where
+  taken-needs : (p : ℕ) → 1 ≤ txnAt w p .number → anyTaken (w .tables .buckets) (txnAt w p .number) (listedNeeds w p) ≡ some-of (byAnother (view w .held .holder) (txnAt w p .number)) (neededBuckets (view w) (view w .txns p))
+  taken-needs p l =
+      some-same (λ b. takenBy (fields.holderOf (w .tables .buckets) b) (txnAt w p .number)) (byAnother (view w .held .holder) (txnAt w p .number)) (listedNeeds w p) (λ b m. taken-same w z g (txnAt w p .number) b (listed-in w z g p l b m))
+      ∙ some-both _ _ _ (λ b m. listed-needed w z g p l b m) (λ b m. needed-listed w z g p l b m)
 
   claim-same : (n r : ℕ) → r < w .sizes .rows → takenBy (fields.claimOf (w .tables .rows) r) n ≡ byAnother (view w .held .claim) n r
   unfolding byAnother
   claim-same n r h = rw (part-field 4 1 (w .sizes .rows) (w .tables .rows) r (omega arith) h)
 
-  claimed-rows : (p : ℕ) → anyClaimed (w .tables .rows) (txnAt w p .number) (rowsWritten (w .tables .lists) (txnAt w p .slot) (txnAt w p .«writes_n»))
+  claimed-rows : (p : ℕ) → 1 ≤ txnAt w p .number → anyClaimed (w .tables .rows) (txnAt w p .number) (rowsWritten (w .tables .lists) (txnAt w p .slot) (txnAt w p .«writes_n»))
       ≡ some-of (byAnother (view w .held .claim) (txnAt w p .number)) (pendingRows (view w .sizes) (view w .txns p .writes))
-  claimed-rows p =
-      some-same (λ r. takenBy (fields.claimOf (w .tables .rows) r) (txnAt w p .number)) (byAnother (view w .held .claim) (txnAt w p .number)) (rowsWritten (w .tables .lists) (txnAt w p .slot) (txnAt w p .«writes_n»)) (λ r m. claim-same (txnAt w p .number) r (row-in w z g p r m))
-      ∙ some-both _ _ _ (λ r m. row-pending w z g p r m) (λ r m. pending-row w z g p r m)
+  claimed-rows p l =
+      some-same (λ r. takenBy (fields.claimOf (w .tables .rows) r) (txnAt w p .number)) (byAnother (view w .held .claim) (txnAt w p .number)) (rowsWritten (w .tables .lists) (txnAt w p .slot) (txnAt w p .«writes_n»)) (λ r m. claim-same (txnAt w p .number) r (row-in w z g p l r m))
+      ∙ some-both _ _ _ (λ r m. row-pending w z g p l r m) (λ r m. pending-row w z g p r m)
 
   -- the distinct pending rows
-  pub distinct-same : (p : ℕ) → distinctIn (w .tables .lists) (txnAt w p .slot) (txnAt w p .«writes_n») ≡ length (pendingRows (view w .sizes) (view w .txns p .writes))
+  pub distinct-same : (p : ℕ) → 1 ≤ txnAt w p .number → distinctIn (w .tables .lists) (txnAt w p .slot) (txnAt w p .«writes_n») ≡ length (pendingRows (view w .sizes) (view w .txns p .writes))
   unfolding distinctIn
-  distinct-same p =
+  distinct-same p l =
       let rs = rowsWritten (w .tables .lists) (txnAt w p .slot) (txnAt w p .«writes_n») in
-      rw (pending-into w z g p) (omega (arith, ap length (rows-sorted w z g p), buckets-no-longer rs, writes-few w z g p, sized-at w z p .writes))
+      rw (pending-into w z g p l) (omega (arith, ap length (rows-sorted w z g p l), buckets-no-longer rs, writes-few w p, sized-at w z p .writes))
 
   reserved-one : (i : ℕ) → distinctIn (w .tables .lists) i (getD (othersIn (w .txns) .prepared) i 0) ≡ reservedBy (view w .sizes) (view w .txns i)
   unfolding reservedBy
-  reserved-one i = rw (List·getD-map preparedOf (w .txns) i (idleOf i)) (by (eqb (txnAt w i .number) 0) (eqb (rank (phaseView (txnAt w i .phase))) 4))
+  reserved-one i = rw (List·getD-map preparedOf (w .txns) i (idleOf i)) (by (eqb (txnAt w i .number) 0) refl (eqb (rank (phaseView (txnAt w i .phase))) 4))
     where
-      by : (b c : Bool) → distinctIn (w .tables .lists) i (cond b 0 (cond c (txnAt w i .«writes_n») 0)) ≡ cond (not b && c) (length (pendingRows (view w .sizes) (view w .txns i .writes))) 0
-      by true c = none-distinct (w .tables .lists) i
-      by false false = none-distinct (w .tables .lists) i
-      by false true = ap (λ (j : ℕ). distinctIn (w .tables .lists) j (txnAt w i .«writes_n»)) (sym (sized-at w z i .slot)) ∙ distinct-same i
+      by : (b : Bool) → eqb (txnAt w i .number) 0 ≡ b → (c : Bool) → distinctIn (w .tables .lists) i (cond b 0 (cond c (txnAt w i .«writes_n») 0)) ≡ cond (not b && c) (length (pendingRows (view w .sizes) (view w .txns i .writes))) 0
+      by true e c = none-distinct (w .tables .lists) i
+      by false e false = none-distinct (w .tables .lists) i
+      by false e true = ap (λ (j : ℕ). distinctIn (w .tables .lists) j (txnAt w i .«writes_n»)) (sym (sized-at w z i .slot)) ∙ distinct-same i (let d = eqb-false (txnAt w i .number) 0 e in omega (arith, d))
 
   reserved-same : reservedIn (w .tables .lists) (othersIn (w .txns) .prepared) ≡ reserved (view w .sizes) (view w .txns) mostLive
   unfolding reservedIn reserved
@@ -114,20 +115,20 @@ module _ (w : Words) (z : Sized w) (g : Good (view w)) where
   needed-front : (p : ℕ) → take (neededInto (w .tables .rows) (w .tables .versions) (w .tables .lists) (w .sizes .buckets) (txnAt w p .slot) (txnAt w p .«reads_n») (txnAt w p .«writes_n») (replicate 48 0) .n)
       (neededInto (w .tables .rows) (w .tables .versions) (w .tables .lists) (w .sizes .buckets) (txnAt w p .slot) (txnAt w p .«reads_n») (txnAt w p .«writes_n») (replicate 48 0) .out) ≡ listedNeeds w p
   unfolding neededInto
-  needed-front p = listed-all 48 (listedNeeds w p) (listed-few w z g p)
+  needed-front p = listed-all 48 (listedNeeds w p) (listed-few w p z)
 
   -- all that is needed is taken
-  prepare-held : (p : ℕ) → heldView (rowsPart (sizesView (w .sizes)) (claimAll (w .tables .rows) (txnAt w p .number) (rowsWritten (w .tables .lists) (txnAt w p .slot) (txnAt w p .«writes_n»))))
+  prepare-held : (p : ℕ) → 1 ≤ txnAt w p .number → heldView (rowsPart (sizesView (w .sizes)) (claimAll (w .tables .rows) (txnAt w p .number) (rowsWritten (w .tables .lists) (txnAt w p .slot) (txnAt w p .«writes_n»))))
       (bucketsPart (sizesView (w .sizes)) (holdAll (w .tables .buckets) (txnAt w p .number) (listedNeeds w p)))
       ≡ preparedHeld (view w) (view w .txns p)
-  prepare-held p =
+  prepare-held p l =
       let n = txnAt w p .number in
       let rs = rowsWritten (w .tables .lists) (txnAt w p .slot) (txnAt w p .«writes_n») in
       rw (
-        hold-all (w .sizes .buckets) n (w .tables .buckets) (listedNeeds w p) (listed-in w z g p) (z .buckets),
-        claim-all (w .sizes .rows) n (w .tables .rows) rs (λ r m. row-in w z g p r m) (z .rows),
-        all-same (view w .held .holder) (listedNeeds w p) (neededBuckets (view w) (view w .txns p)) n (λ b m. listed-needed w z g p b m) (λ b m. needed-listed w z g p b m),
-        all-same (view w .held .claim) rs (pendingRows (view w .sizes) (view w .txns p .writes)) n (λ r m. row-pending w z g p r m) (λ r m. pending-row w z g p r m),
+        hold-all (w .sizes .buckets) n (w .tables .buckets) (listedNeeds w p) (listed-in w z g p l) (z .buckets),
+        claim-all (w .sizes .rows) n (w .tables .rows) rs (λ r m. row-in w z g p l r m) (z .rows),
+        all-same (view w .held .holder) (listedNeeds w p) (neededBuckets (view w) (view w .txns p)) n (λ b m. listed-needed w z g p l b m) (λ b m. needed-listed w z g p l b m),
+        all-same (view w .held .claim) rs (pendingRows (view w .sizes) (view w .txns p .writes)) n (λ r m. row-pending w z g p l r m) (λ r m. pending-row w z g p r m),
       )
 
   prepare-chains : (n : ℕ) (rs : List ℕ) → chainsView (rowsPart (sizesView (w .sizes)) (claimAll (w .tables .rows) n rs)) (versionsPart (sizesView (w .sizes)) (w .tables .versions)) (w .used) ≡ view w .chains
@@ -136,7 +137,7 @@ module _ (w : Words) (z : Sized w) (g : Good (view w)) where
   prepare-index : (n : ℕ) (rs bs : List ℕ) → indexView (rowsPart (sizesView (w .sizes)) (claimAll (w .tables .rows) n rs)) (bucketsPart (sizesView (w .sizes)) (holdAll (w .tables .buckets) n bs)) ≡ view w .index
   prepare-index n rs bs = rw (claim-other (w .sizes .rows) n (w .tables .rows) rs 2 (omega arith) (omega arith), claim-other (w .sizes .rows) n (w .tables .rows) rs 3 (omega arith) (omega arith), hold-other (w .sizes .buckets) n (w .tables .buckets) bs)
 
-  prepared-at : (n : ℕ) → standing w n < mostLive → (a b c d e : Bool)
+  prepared-at : (n : ℕ) → standing w n < mostLive → 1 ≤ txnAt w (standing w n) .number → (a b c d e : Bool)
       → SameAt w (standing w n)
       (inPrepared
       (cond a (left (refusedOf (txnAt w (standing w n)) 5) (w .tables .rows) (w .tables .buckets))
@@ -150,35 +151,35 @@ module _ (w : Words) (z : Sized w) (g : Good (view w)) where
       (w .clock) (w .used) (w .tables))
       (carried (view w) (asked (ask.Prepare n)) (cond a (some WrongPhase) (cond (b || c) (some Taken) (cond d (some Conflict) (cond e (some NoVersions) none)))))
   unfolding carried accepted afterRefusal
-  prepared-at n l true b c d e = refused-same w z (standing w n) WrongPhase
-  prepared-at n l false true c d e = refused-same w z (standing w n) Taken
-  prepared-at n l false false true d e = refused-same w z (standing w n) Taken
-  prepared-at n l false false false true e = refused-same w z (standing w n) Conflict
-  prepared-at n l false false false false true = refused-same w z (standing w n) NoVersions
-  prepared-at n l false false false false false =
+  prepared-at n l o true b c d e = refused-same w z (standing w n) WrongPhase
+  prepared-at n l o false true c d e = refused-same w z (standing w n) Taken
+  prepared-at n l o false false true d e = refused-same w z (standing w n) Taken
+  prepared-at n l o false false false true e = refused-same w z (standing w n) Conflict
+  prepared-at n l o false false false false true = refused-same w z (standing w n) NoVersions
+  prepared-at n l o false false false false false =
       let q = standing w n in
       let t = txnAt w q in
       let rs = rowsWritten (w .tables .lists) (t .slot) (t .«writes_n») in
       record {
-        store = same-store _ _ refl refl (prepare-chains (t .number) rs) (prepare-index (t .number) rs (listedNeeds w q)) (prepare-held q) (txns-set w z q l (w .tables .lists) (withPhase t phase.Prepared) (λ j d. refl));
+        store = same-store _ _ refl refl (prepare-chains (t .number) rs) (prepare-index (t .number) rs (listedNeeds w q)) (prepare-held q o) (txns-set w z q l (w .tables .lists) (withPhase t phase.Prepared) (λ j d. refl));
         answer = refl;
         lent = refl;
         sized = sized-set w z q l _ _ _ _ (sized-phase q t phase.Prepared (sized-at w z q)) (claim-length (t .number) (w .tables .rows) rs) refl (hold-length (t .number) (w .tables .buckets) (listedNeeds w q)) refl;
       }
 
   -- the tests after the phase
-  prepare-place : (n : ℕ) → standing w n < mostLive
+  prepare-place : (n : ℕ) → standing w n < mostLive → 1 ≤ txnAt w (standing w n) .number
       → SameAt w (standing w n) (inPrepared (prepareOf (w .tables .versions) (w .tables .lists) (w .sizes .buckets) (w .sizes .versions) (w .used) (othersIn (w .txns) .prepared) (txnAt w (standing w n)) (w .tables .rows) (w .tables .buckets)) (w .clock) (w .used) (w .tables))
       (carried (view w) (asked (ask.Prepare n)) (refusal ((not (inPhase (view w) n 1), WrongPhase) ∷ prepareChecks (view w) n)))
   unfolding prepareOf prepareWith lacks refusal
-  prepare-place n l =
+  prepare-place n l o =
       let q = standing w n in
       let t = txnAt w q in
-      rw (needed-front q, taken-needs q, claimed-rows q, verdict-same w z g q, clear-same (judged.verdict (view w .chains) (view w .index) (view w .txns q)), reserved-same, distinct-same q)
-      (prepared-at n l (not (eqb (rank (phaseView (t .phase))) 1)) (some-of (byAnother (view w .held .holder) (t .number)) (neededBuckets (view w) (view w .txns q))) (some-of (byAnother (view w .held .claim) (t .number)) (pendingRows (view w .sizes) (view w .txns q .writes)))
+      rw (needed-front q, taken-needs q o, claimed-rows q o, verdict-same w z g q o, clear-same (judged.verdict (view w .chains) (view w .index) (view w .txns q)), reserved-same, distinct-same q o)
+      (prepared-at n l o (not (eqb (rank (phaseView (t .phase))) 1)) (some-of (byAnother (view w .held .holder) (t .number)) (neededBuckets (view w) (view w .txns q))) (some-of (byAnother (view w .held .claim) (t .number)) (pendingRows (view w .sizes) (view w .txns q .writes)))
       (not (eqb (judged.verdictNumber (judged.verdict (view w .chains) (view w .index) (view w .txns q))) 0)) (ltb (w .sizes .versions) (w .used + reserved (view w .sizes) (view w .txns) mostLive + length (pendingRows (view w .sizes) (view w .txns q .writes)))))
 
   -- all that is needed is free, the verdict is clear, there are versions: all is taken
   pub prepare-same : (n : ℕ) → Same w (ask.Prepare n)
   unfolding checks
-  prepare-same n = by-place w z (ask.Prepare n) refl (inPhase (view w) n 1) (prepareChecks (view w) n) refl (λ l d e. prepare-place n l)
+  prepare-same n = by-place w z (ask.Prepare n) refl (inPhase (view w) n 1) (prepareChecks (view w) n) refl (λ l d e. prepare-place n l (live-at w n d e))

@@ -21,7 +21,6 @@ use Rattle.model.specs.Steps.{newKey, writtenPayload, pendingRows, push, pushAl
 use Rattle.model.specs.Refusals.{WrongPhase, reservedBy, reserved, checks, refusal, inPhase}
 use Rattle.model.specs.Machine.{accepted, afterRefusal, carried}
 use Rattle.model.proofs.Room.{reserves}
-use Rattle.model.proofs.Good.{Good}
 use Rattle.model.proofs.Ranges.{good-sized}
 use Rattle.protocol.specs.declared.Step.the-variants as ask
 use Rattle.protocol.specs.declared.Answer.the-variants as tell
@@ -37,6 +36,7 @@ use Rattle.install.specs.Install as install
 use Rattle.install.specs.Install.{oneMore, lastWriteOf, versionStored, pushedRow, pushedRows, toInstall, installOf}
 use Rattle.steps.specs.Steps.{inInstalled}
 use Rattle.steps.specs.Words.{Words, sizesView, view, txnAt, Sized}
+use Rattle.bridge.proofs.Shaped.{Shaped}
 use Rattle.bridge.proofs.Places.{standing, sized-at, live-at}
 use Rattle.bridge.proofs.Placed.{txns-set, sized-set}
 use Rattle.bridge.proofs.Same.{same-store, SameAt, Same, refused-same, by-place}
@@ -156,15 +156,15 @@ chainsIn w = record { rows = w .tables .rows; versions = w .tables .versions; us
 abbrev after-rows : Words → ℕ → install.Chains
 after-rows w p = pushedRows (w .tables .lists) (txnAt w p .slot) (txnAt w p .«writes_n») (txnAt w p .number) (chainsIn w) (pendingRows (view w .sizes) (view w .txns p .writes))
 
-module _ (w : Words) (z : Sized w) (g : Good (view w)) (n : ℕ) (l : standing w n < mostLive) (a : 1 ≤ txnAt w (standing w n) .number) where
+module _ (w : Words) (z : Sized w) (g : Shaped w) (n : ℕ) (l : standing w n < mostLive) (a : 1 ≤ txnAt w (standing w n) .number) where
   install-chains : rank (phaseView (txnAt w (standing w n) .phase)) ≡ 4 → chainsOf (view w .sizes) (after-rows w (standing w n)) ≡ pushAll (view w .txns (standing w n)) (pendingRows (view w .sizes) (view w .txns (standing w n) .writes)) (view w .chains)
   install-chains r =
       let q = standing w n in
       let ps = pendingRows (view w .sizes) (view w .txns q .writes) in
       pushed-view (view w .sizes) (good-sized (view w .sizes) (g .sizes) .versions-most) (w .tables .lists) (txnAt w q) (sized-at w z q .writes) ps (chainsIn w)
-      (λ i m. row-in w z g q i (pending-row w z g q i m))
-      (omega (arith, g .room .versions-left, reserved-has (view w .sizes) (view w .txns) mostLive q l, reserves (view w .sizes) (view w .txns q) a r))
-      (record { rows = z .rows; versions = z .versions; heads = g .chained .heads-in })
+      (λ i m. row-in w z g q a i (pending-row w z g q i m))
+      (omega (arith, g .versions-left, reserved-has (view w .sizes) (view w .txns) mostLive q l, reserves (view w .sizes) (view w .txns q) a r))
+      (record { rows = z .rows; versions = z .versions; heads = g .heads-in })
 
   install-index : indexView (rowsPart (sizesView (w .sizes)) (after-rows w (standing w n) .rows)) (bucketsPart (sizesView (w .sizes)) (w .tables .buckets)) ≡ view w .index
   install-index =
@@ -200,9 +200,9 @@ module _ (w : Words) (z : Sized w) (g : Good (view w)) (n : ℕ) (l : standing w
 
   installed-place : SameAt w (standing w n) (inInstalled (installOf (w .tables .lists) (txnAt w (standing w n)) (chainsIn w)) (w .clock) (w .tables)) (carried (view w) (asked (ask.Install n)) (refusal ((not (inPhase (view w) n 4), WrongPhase) ∷ [])))
   unfolding installOf toInstall refusal
-  installed-place = rw (pending-front w z g (standing w n)) (installed-at (not (eqb (rank (phaseView (txnAt w (standing w n) .phase))) 4)) refl)
+  installed-place = rw (pending-front w z g (standing w n) a) (installed-at (not (eqb (rank (phaseView (txnAt w (standing w n) .phase))) 4)) refl)
 
 -- each distinct pending row gets its version
-pub install-same : (w : Words) → Sized w → Good (view w) → (n : ℕ) → Same w (ask.Install n)
+pub install-same : (w : Words) → Sized w → Shaped w → (n : ℕ) → Same w (ask.Install n)
 unfolding checks
 install-same w z g n = by-place w z (ask.Install n) refl (inPhase (view w) n 4) [] refl (λ l d e. installed-place w z g n l (live-at w n d e))

@@ -22,7 +22,7 @@ use Rattle.protocol.specs.View.{asked, told}
 use Rattle.record.specs.Methods.{idleOf}
 use Rattle.places.specs.Places.{wantedOf, isBegin, missesOf}
 use Rattle.steps.specs.Steps.{Moved, doneBy, stepOf}
-use Rattle.steps.specs.Words.{Words, view, txnAt, othersIn, placeFor, movedBy, wordsAfter, Sized}
+use Rattle.steps.specs.Words.{Words, view, txnAt, othersIn, placeFor, movedBy, Sized}
 use Rattle.bridge.proofs.Places.{default-any, standing, there, nowhere, place-in, not-there}
 use Rattle.bridge.proofs.Placed.{after, unmoved, unmoved-same}
 
@@ -34,6 +34,10 @@ same-store s s′ a b c d e f = parts (s .sizes) (s′ .sizes) (s .clock) (s′ 
         → _≡_ {A = model.Store} (record { sizes = z; clock = n; chains = c; index = x; held = h; txns = t }) (record { sizes = z′; clock = n′; chains = c′; index = x′; held = h′; txns = t′ })
     parts z z′ n n′ c c′ x x′ h h′ t t′ a b d e f g = rw (a, b, d, e, f, g)
 
+-- and so is what is held
+pub two-held : (f f′ h h′ : ℕ → ℕ) → f ≡ f′ → h ≡ h′ → _≡_ {A = model.Held} (record { holder = f; claim = h }) (record { holder = f′; claim = h′ })
+two-held f f′ h h′ a b = rw (a, b)
+
 -- what is left at a place is a step's outcome, and is in order
 pub record SameAt (w : Words) (p : ℕ) (m : Moved) (out : machine.Stepped) : Type 0 where
   pub store : view (after w p m) ≡ out .store
@@ -41,16 +45,20 @@ pub record SameAt (w : Words) (p : ℕ) (m : Moved) (out : machine.Stepped) : Ty
   pub lent : m .found ≡ lentAfter (out .answer) (w .tables .found)
   pub sized : Sized (after w p m)
 
--- a step of the words is the model's step on what they stand for, and so is what it leaves in the lent row list
-pub record Same (w : Words) (s : Step) : Type 0 where
-  pub store : view (wordsAfter w s) ≡ stepIn (view w) (asked s) .store
-  pub answer : movedBy w s .stepped .answer ≡ told (stepIn (view w) (asked s) .answer)
-  pub lent : movedBy w s .found ≡ lentAfter (stepIn (view w) (asked s) .answer) (w .tables .found)
-  pub sized : Sized (wordsAfter w s)
+-- what is left of the words after a step is the model's step on what they stand for, and so is what is left of the lent row list
+pub record SameAs (w : Words) (s : Step) (m : Moved) : Type 0 where
+  pub store : view (after w (placeFor (w .txns) s) m) ≡ stepIn (view w) (asked s) .store
+  pub answer : m .stepped .answer ≡ told (stepIn (view w) (asked s) .answer)
+  pub lent : m .found ≡ lentAfter (stepIn (view w) (asked s) .answer) (w .tables .found)
+  pub sized : Sized (after w (placeFor (w .txns) s) m)
 
-pub same-from : (w : Words) (s : Step) (p : ℕ) (m : Moved) (out : machine.Stepped) → placeFor (w .txns) s ≡ p → movedBy w s ≡ m → stepIn (view w) (asked s) ≡ out → SameAt w p m out → Same w s
-same-from w s p m out a b c h =
-    let e : wordsAfter w s ≡ after w p m = ap (λ (q : ℕ). after w q (movedBy w s)) a ∙ ap (λ (x : Moved). after w p x) b in
+-- a step of the words is the model's
+abbrev pub Same : Words → Step → Type 0
+Same w s = SameAs w s (movedBy w s)
+
+pub same-from : (w : Words) (s : Step) (p : ℕ) (m : Moved) (out : machine.Stepped) {m′ : Moved} → placeFor (w .txns) s ≡ p → m′ ≡ m → stepIn (view w) (asked s) ≡ out → SameAt w p m out → SameAs w s m′
+same-from w s p m out {m′} a b c h =
+    let e : after w (placeFor (w .txns) s) m′ ≡ after w p m = ap (λ (q : ℕ). after w q m′) a ∙ ap (λ (x : Moved). after w p x) b in
     record {
       store = ap (λ (x : Words). view x) e ∙ (h .store ∙ sym (ap (λ (o : machine.Stepped). o .store) c));
       answer = rw (b, c) (h .answer);
@@ -90,30 +98,37 @@ module _ (w : Words) (z : Sized w) (s : Step) (b : isBegin s ≡ false) where
   unfolding movedBy stepOf missesOf
   moved-found p e l h = rw (e, default-any (w .txns) p (idleOf 0) (idleOf p) (omega (arith, z .eight)), b, h)
 
-  -- a step that names a transaction: the same where nobody has the number, and so the same where it is the same for the one who has it
-  pub by-place : (ph : Bool) (more : List (Bool × Refusal)) → checks (view w) (asked s) ≡ found (view w) (wantedOf s) ph more
-      → (standing w (wantedOf s) < mostLive → wantedOf s ≢ 0 → txnAt w (standing w (wantedOf s)) .number ≡ wantedOf s
-      → SameAt w (standing w (wantedOf s)) (doneBy (w .sizes) (othersIn (w .txns)) (txnAt w (standing w (wantedOf s))) (w .clock) (w .used) s (w .tables)) (carried (view w) (asked s) (refusal ((not ph, WrongPhase) ∷ more))))
-      → Same w s
-  by-place ph more e h = go (ℕ-discrete (wantedOf s) 0) (decLt (standing w (wantedOf s)) mostLive)
+  -- a step that names a transaction, and what is done to all that it leaves unless nothing was changed: the same where nobody has the number, and so the same where it is the same for the one who has it
+  pub by-place-as : (done : Moved → Moved) → ((p : ℕ) (a : Answer) → placeFor (w .txns) s ≡ p → p < mostLive → done (unmoved w p a) ≡ unmoved w p a)
+      → (ph : Bool) (more : List (Bool × Refusal)) → checks (view w) (asked s) ≡ found (view w) (wantedOf s) ph more
+      → (standing w (wantedOf s) < mostLive → wantedOf s ≢ 0 → txnAt w (standing w (wantedOf s)) .number ≡ wantedOf s → placeFor (w .txns) s ≡ standing w (wantedOf s)
+      → SameAt w (standing w (wantedOf s)) (done (doneBy (w .sizes) (othersIn (w .txns)) (txnAt w (standing w (wantedOf s))) (w .clock) (w .used) s (w .tables))) (carried (view w) (asked s) (refusal ((not ph, WrongPhase) ∷ more))))
+      → SameAs w s (done (movedBy w s))
+  by-place-as done kept ph more e h = go (ℕ-discrete (wantedOf s) 0) (decLt (standing w (wantedOf s)) mostLive)
     where
-      go : Dec (wantedOf s ≡ 0) → Dec (standing w (wantedOf s) < mostLive) → Same w s
+      go : Dec (wantedOf s ≡ 0) → Dec (standing w (wantedOf s) < mostLive) → SameAs w s (done (movedBy w s))
       go (no n) (yes l) =
           let q = standing w (wantedOf s) in
           let i : txnAt w q .number ≡ wantedOf s = place-number (view w) (wantedOf s) l in
           same-from w s q _ _ (there w z s l)
-          (moved-found q (there w z s l) l (rw (ne-eqb (wantedOf s) 0 n, eq-eqb (txnAt w q .number) (wantedOf s) i)))
+          (ap done (moved-found q (there w z s l) l (rw (ne-eqb (wantedOf s) 0 n, eq-eqb (txnAt w q .number) (wantedOf s) i))))
           (found-model (view w) (asked s) (wantedOf s) ph more e (rw (ne-eqb (wantedOf s) 0 n, lt-ltb q mostLive l)))
-          (h l n i)
+          (h l n i (there w z s l))
       go (no n) (no l) =
           let k : mostLive ≤ standing w (wantedOf s) = omega (arith, l) in
           same-from w s 0 _ _ (nowhere w z s k)
-          (moved-none 0 (nowhere w z s k) (omega arith) (rw (ne-eqb (wantedOf s) 0 n, ne-eqb (txnAt w 0 .number) (wantedOf s) (not-there w z (wantedOf s) k 0 (omega arith)))))
+          (ap done (moved-none 0 (nowhere w z s k) (omega arith) (rw (ne-eqb (wantedOf s) 0 n, ne-eqb (txnAt w 0 .number) (wantedOf s) (not-there w z (wantedOf s) k 0 (omega arith))))) ∙ kept 0 (tell.Refused 4) (nowhere w z s k) (omega arith))
           (none-model (view w) (asked s) (wantedOf s) ph more e (rw (ne-eqb (wantedOf s) 0 n, le-ltb (standing w (wantedOf s)) mostLive k)))
           (refused-same w z 0 NoSuch)
       go (yes n) d =
           let l = place-in w z s in
           same-from w s (placeFor (w .txns) s) _ _ refl
-          (moved-none (placeFor (w .txns) s) refl l (rw (eq-eqb (wantedOf s) 0 n)))
+          (ap done (moved-none (placeFor (w .txns) s) refl l (rw (eq-eqb (wantedOf s) 0 n))) ∙ kept (placeFor (w .txns) s) (tell.Refused 4) refl l)
           (none-model (view w) (asked s) (wantedOf s) ph more e (rw (eq-eqb (wantedOf s) 0 n)))
           (refused-same w z (placeFor (w .txns) s) NoSuch)
+
+  pub by-place : (ph : Bool) (more : List (Bool × Refusal)) → checks (view w) (asked s) ≡ found (view w) (wantedOf s) ph more
+      → (standing w (wantedOf s) < mostLive → wantedOf s ≢ 0 → txnAt w (standing w (wantedOf s)) .number ≡ wantedOf s
+      → SameAt w (standing w (wantedOf s)) (doneBy (w .sizes) (othersIn (w .txns)) (txnAt w (standing w (wantedOf s))) (w .clock) (w .used) s (w .tables)) (carried (view w) (asked s) (refusal ((not ph, WrongPhase) ∷ more))))
+      → Same w s
+  by-place ph more e h = by-place-as (λ m. m) (λ p a q l. refl) ph more e (λ l n i q. h l n i)

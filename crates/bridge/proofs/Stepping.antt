@@ -3,10 +3,11 @@
 use Prim.Native.Nat.{ℕ, _≤_, min}
 use lib.ListN.{length}
 use Rattle.limits.specs.Limits.{mostRows}
-use Rattle.model.proofs.Good.{Good}
+use Rattle.model.proofs.Good.{Good, right-shape}
 use Rattle.protocol.specs.declared.Step.{Step}
 use Rattle.protocol.specs.declared.Step.the-variants as ask
 use Rattle.steps.specs.Words.{Words, view, Sized}
+use Rattle.bridge.proofs.Shaped.{shaped}
 use Rattle.bridge.proofs.Same.{Same}
 use Rattle.bridge.proofs.Writing.{end-same, put-same, erase-same}
 use Rattle.bridge.proofs.Judging.{validate-same}
@@ -40,14 +41,14 @@ Lent w s = min (roomOf s) mostRows ≤ length (w .tables .found)
 
 pub step-same : (w : Words) → Sized w → Good (view w) → (s : Step) → Lent w s → Same w s
 step-same w z g ask.Begin h = begin-same w z
-step-same w z g (ask.Capture n k) h = capture-same w z g n k
-step-same w z g (ask.Collect n) h = collect-same w z g n
-step-same w z g (ask.Rows n room) h = rows-same w z g n room h
+step-same w z g (ask.Capture n k) h = capture-same w z (shaped w z (right-shape (view w) g)) n k
+step-same w z g (ask.Collect n) h = collect-same w z (shaped w z (right-shape (view w) g)) n
+step-same w z g (ask.Rows n room) h = rows-same w z (shaped w z (right-shape (view w) g)) n room h
 step-same w z g (ask.Put n r k payload) h = put-same w z n r k payload
 step-same w z g (ask.Erase n r) h = erase-same w z n r
-step-same w z g (ask.Prepare n) h = prepare-same w z g n
-step-same w z g (ask.Install n) h = install-same w z g n
+step-same w z g (ask.Prepare n) h = prepare-same w z (shaped w z (right-shape (view w) g)) n
+step-same w z g (ask.Install n) h = install-same w z (shaped w z (right-shape (view w) g)) n
 step-same w z g (ask.End n) h = end-same w z n
 step-same w z g (ask.Publish n) h = publish-same w z g n
-step-same w z g (ask.Validate n) h = validate-same w z g n
+step-same w z g (ask.Validate n) h = validate-same w z (shaped w z (right-shape (view w) g)) n
 step-same w z g (ask.Abort n) h = abort-same w z g n

@@ -25,7 +25,7 @@ ghost use Rattle.model.specs.Lists.{least};
 ghost use Rattle.fits.specs.Fits.{countsFit, writesIn, recordIn, recordsIn, candidatesIn, readsIn, rangesFit, headedBy, rowsHeaded, headsFit, txnFits, placeFits};
 
 // Whether counts are within limits.
-fn counts_fit(t: Transaction) -> bool
+pub fn counts_fit(t: Transaction) -> bool
     ensures { λ r. ⌜ r ≡ countsFit t ⌝ }
 {
     if t.reads_n > MOST_INDEX_READS {

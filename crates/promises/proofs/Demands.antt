@@ -1,5 +1,5 @@
 -- Demands 1 to 3, of the public functions: from an accepted open, after any calls, refused ones included. Assumes nothing.
-use Prim.Native.Nat.{ℕ, _≤_}
+use Prim.Native.Nat.{ℕ, _≤_, min}
 use mathlib.Core.Path.{_≡_, refl, sym, ap, subst, _∙_}
 use mathlib.Core.Logic.{_⊎_}
 use mathlib.Core.List.{List, [], _∷_, _++_, map-append}
@@ -17,11 +17,11 @@ use Rattle.protocol.specs.declared.Step.the-variants as ask
 use Rattle.protocol.specs.declared.Verdict.the-variants as verdict
 use Rattle.protocol.specs.declared.Answer.{Answer}
 use Rattle.protocol.specs.declared.Answer.the-variants as tell
-use Rattle.protocol.specs.View.{asked, told}
+use Rattle.protocol.specs.View.{told}
 use Rattle.places.specs.declared.Sizes.{Sizes}
 use Rattle.steps.specs.Words.{Words, sizesView, view}
 use Rattle.turns.specs.Turns.{openOf}
-use Rattle.promises.specs.Calls.{Call, Public, AllPublic, lending, called, calls, stepsOf}
+use Rattle.promises.specs.Calls.{Call, asking, lending, called, calls, stepsOf}
 use Rattle.promises.specs.Refused.{Marks}
 use Rattle.promises.proofs.Opened.{open-stands, open-view}
 use Rattle.promises.proofs.Refusing.{refused-words}
@@ -57,9 +57,9 @@ reading t lent = record { asks = ask.Rows t (length lent); lent = lent }
 abbrev pub validating : ℕ → Call
 validating t = record { asks = ask.Validate t; lent = [] }
 
-all-public : (cs ds : List Call) → AllPublic cs → AllPublic ds → AllPublic (cs ++ ds)
-all-public [] ds p q = q
-all-public (c ∷ cs) ds p q = (p .0, all-public cs ds (p .1) q)
+-- which asks for as much room as its list has
+reading-asks : (t : ℕ) (lent : List ℕ) → asking (reading t lent) ≡ rows t (length lent)
+reading-asks t lent = let e : min (length lent) (length lent) ≡ length lent = omega arith in rw e
 
 run-append : (s : Store) (xs ys : List Asked) → run s (xs ++ ys) ≡ run (run s xs) ys
 unfolding run
@@ -75,27 +75,27 @@ module _ (rowsTable versions buckets lists : List ℕ) (z : Sizes) (clock : ℕ)
   abbrev pub storeAfter : List Call → Store
   storeAfter cs = run (fresh (sizesView z) clock) (stepsOf cs)
 
-  pub stands-for : (cs : List Call) → AllPublic cs → view (after cs) ≡ storeAfter cs
-  stands-for cs p = calls-view _ (open-stands rowsTable versions buckets lists z clock l o) cs p ∙ ap (λ (v : Store). run v (stepsOf cs)) (open-view rowsTable versions buckets lists z clock l o)
+  pub stands-for : (cs : List Call) → view (after cs) ≡ storeAfter cs
+  stands-for cs = calls-view _ (open-stands rowsTable versions buckets lists z clock l o) cs ∙ ap (λ (v : Store). run v (stepsOf cs)) (open-view rowsTable versions buckets lists z clock l o)
 
-  steps-after : (cs : List Call) (c : Call) (between : List Call) → storeAfter (cs ++ (c ∷ between)) ≡ run (step (storeAfter cs) (asked (c .asks)) .store) (stepsOf between)
+  steps-after : (cs : List Call) (c : Call) (between : List Call) → storeAfter (cs ++ (c ∷ between)) ≡ run (step (storeAfter cs) (asking c) .store) (stepsOf between)
   unfolding run
-  steps-after cs c between = ap (run (fresh (sizesView z) clock)) (map-append (λ (d : Call). asked (d .asks)) cs (c ∷ between)) ∙ run-append (fresh (sizesView z) clock) (stepsOf cs) (stepsOf (c ∷ between))
+  steps-after cs c between = ap (run (fresh (sizesView z) clock)) (map-append asking cs (c ∷ between)) ∙ run-append (fresh (sizesView z) clock) (stepsOf cs) (stepsOf (c ∷ between))
 
   -- Demand 1: a call answers, and leaves in store and lent list, what the model's step does, for which `ExactAnswer` says when each number is given and what it leaves;
   -- a refused call leaves every lent word as found, but that a stale stamp marks its transaction.
   pub record ExactCall (cs : List Call) (c : Call) : Type 0 where
-    pub answer : called (after cs) c .answer ≡ told (step (storeAfter cs) (asked (c .asks)) .answer)
-    pub store : view (called (after cs) c .words) ≡ step (storeAfter cs) (asked (c .asks)) .store
-    pub found : called (after cs) c .words .tables .found ≡ lentAfter (step (storeAfter cs) (asked (c .asks)) .answer) (c .lent)
-    pub exact : ExactAnswer (storeAfter cs) (asked (c .asks))
+    pub answer : called (after cs) c .answer ≡ told (step (storeAfter cs) (asking c) .answer)
+    pub store : view (called (after cs) c .words) ≡ step (storeAfter cs) (asking c) .store
+    pub found : called (after cs) c .words .tables .found ≡ lentAfter (step (storeAfter cs) (asking c) .answer) (c .lent)
+    pub exact : ExactAnswer (storeAfter cs) (asking c)
     pub words : (n : ℕ) → called (after cs) c .answer ≡ tell.Refused n → (called (after cs) c .words ≡ lending (after cs) (c .lent)) ⊎ Marks (lending (after cs) (c .lent)) (c .asks) (called (after cs) c .words) n
 
-  pub exact-call : (cs : List Call) → AllPublic cs → (c : Call) → Public c → ExactCall cs c
-  exact-call cs p c q =
-      let k = called-as (after cs) (calls-stand _ (open-stands rowsTable versions buckets lists z clock l o) cs p) c q in
-      let v = stands-for cs p in
-      record { answer = rw v at (k .answer); store = rw v at (k .store); found = rw v at (k .found); exact = exact-answer (storeAfter cs) (asked (c .asks)); words = refused-words (lending (after cs) (c .lent)) (c .asks) }
+  pub exact-call : (cs : List Call) (c : Call) → ExactCall cs c
+  exact-call cs c =
+      let k = called-as (after cs) (calls-stand _ (open-stands rowsTable versions buckets lists z clock l o) cs) c in
+      let v = stands-for cs in
+      record { answer = rw v at (k .answer); store = rw v at (k .store); found = rw v at (k .found); exact = exact-answer (storeAfter cs) (asking c); words = refused-words (lending (after cs) (c .lent)) (c .asks) }
 
   -- Demand 2: a call of rows that answers n rows has handed them over at the front of its list, and they are a finished read.
   pub record ReadCall (cs : List Call) (t : ℕ) (lent : List ℕ) (n : ℕ) : Type 0 where
@@ -104,30 +104,30 @@ module _ (rowsTable versions buckets lists : List ℕ) (z : Sizes) (clock : ℕ)
     pub handed : called (after cs) (reading t lent) .words .tables .found ≡ found ++ drop n lent
     pub finished : FinishedRead (storeAfter cs) (step (storeAfter cs) (rows t (length lent)) .store) t found
 
-  found-by : (cs : List Call) → AllPublic cs → (t : ℕ) (lent : List ℕ) (n : ℕ) → called (after cs) (reading t lent) .answer ≡ tell.Rows n
+  found-by : (cs : List Call) (t : ℕ) (lent : List ℕ) (n : ℕ) → called (after cs) (reading t lent) .answer ≡ tell.Rows n
       → (rs : List ℕ) × (step (storeAfter cs) (rows t (length lent)) .answer ≡ machine.Rows rs) × (n ≡ length rs)
-  found-by cs p t lent n e = told-rows _ n (sym (exact-call cs p (reading t lent) (omega arith) .answer) ∙ e)
+  found-by cs t lent n e = told-rows _ n (rw (reading-asks t lent) at (sym (exact-call cs (reading t lent) .answer) ∙ e))
 
-  pub read-call : (cs : List Call) → AllPublic cs → (t : ℕ) (lent : List ℕ) (n : ℕ) → called (after cs) (reading t lent) .answer ≡ tell.Rows n → ReadCall cs t lent n
-  read-call cs p t lent n e =
-      let w = found-by cs p t lent n e in
+  pub read-call : (cs : List Call) (t : ℕ) (lent : List ℕ) (n : ℕ) → called (after cs) (reading t lent) .answer ≡ tell.Rows n → ReadCall cs t lent n
+  read-call cs t lent n e =
+      let w = found-by cs t lent n e in
       record {
         found = w .0;
         count = w .2;
-        handed = exact-call cs p (reading t lent) (omega arith) .found ∙ (ap (λ (a : machine.Answer). lentAfter a lent) (w .1) ∙ ap (λ (m : ℕ). w .0 ++ drop m lent) (sym (w .2)));
+        handed = rw (reading-asks t lent) at (exact-call cs (reading t lent) .found) ∙ (ap (λ (a : machine.Answer). lentAfter a lent) (w .1) ∙ ap (λ (m : ℕ). w .0 ++ drop m lent) (sym (w .2)));
         finished = finished-read (sizesView z) clock (stepsOf cs) t (length lent) (w .0) (w .1);
       }
 
   -- Demand 3: the rows of such a read of a key, by a transaction with no pending write, stand where a later call of validate answers that there is no conflict.
-  pub validated-call : (cs : List Call) (p : AllPublic cs) (t k : ℕ) (lent : List ℕ) (n : ℕ) (e : called (after cs) (reading t lent) .answer ≡ tell.Rows n) (between : List Call) → AllPublic between
+  pub validated-call : (cs : List Call) (t k : ℕ) (lent : List ℕ) (n : ℕ) (e : called (after cs) (reading t lent) .answer ≡ tell.Rows n) (between : List Call)
       → txnOf (storeAfter cs) t .phase ≡ Collected k → txnOf (storeAfter cs) t .writes ≡ []
       → called (after (cs ++ (reading t lent ∷ between))) (validating t) .answer ≡ tell.Judged verdict.Clear
-      → StandingRead (sizesView z) (storeAfter cs) (step (storeAfter (cs ++ (reading t lent ∷ between))) (validate t) .store) t k (read-call cs p t lent n e .found)
+      → StandingRead (sizesView z) (storeAfter cs) (step (storeAfter (cs ++ (reading t lent ∷ between))) (validate t) .store) t k (read-call cs t lent n e .found)
   unfolding read-call found-by
-  validated-call cs p t k lent n e between q c w v =
+  validated-call cs t k lent n e between c w v =
       let all = cs ++ (reading t lent ∷ between) in
-      let w₁ = found-by cs p t lent n e in
-      let clear = told-clear _ (sym (exact-call all (all-public cs (reading t lent ∷ between) p (omega arith, q)) (validating t) (omega arith) .answer) ∙ v) in
-      let same = steps-after cs (reading t lent) between in
+      let w₁ = found-by cs t lent n e in
+      let clear = told-clear _ (sym (exact-call all (validating t) .answer) ∙ v) in
+      let same = rw (reading-asks t lent) at (steps-after cs (reading t lent) between) in
       subst (λ (s : Store). StandingRead (sizesView z) (storeAfter cs) (step s (validate t) .store) t k (w₁ .0)) (sym same)
       (validated-read (sizesView z) clock (stepsOf cs) t (length lent) k (w₁ .0) (stepsOf between) (w₁ .1) c w (subst (λ (s : Store). step s (validate t) .answer ≡ machine.Judged judged.Clear) same clear))

@@ -2,24 +2,21 @@
 -- Assumes nothing.
 use Prim.Native.Nat.{ℕ, zero, suc, _*_, _≤_}
 use mathlib.Core.Path.{_≡_, refl}
-use mathlib.Core.Bool.{Bool, true, false, cond, not, _&&_}
+use mathlib.Core.Bool.{Bool, true, false, cond, not}
 use mathlib.Core.List.{List, [], _++_}
 use native.Mathlib.Omega.{arith}
-use lib.Dec.{leb}
 use lib.ListN.{length, take, drop, getD, replicate, length-append, length-replicate}
-use borrow.Author.Tests.{leb-true}
 use Rattle.limits.specs.Limits.{lastNumber}
 use Rattle.model.specs.Store.{fresh}
 use Rattle.model.specs.Machine.{canOpen}
-use Rattle.model.proofs.ListLaws.{and-r}
 use Rattle.protocol.specs.declared.Answer.the-variants as tell
 use Rattle.tables.specs.Fields.{rowWords, versionWords, bucketWords}
-use Rattle.tables.specs.Lists.{listsWords}
 use Rattle.places.specs.declared.Sizes.{Sizes}
 use Rattle.steps.specs.Words.{Words, sizesView, view}
 use Rattle.bridge.proofs.Running.{Stands}
 use Rattle.bridge.proofs.Opening.{Opened, opened-view, opened-stands}
 use Rattle.shape.specs.Shape.{tablesLent, wordsOf}
+use Rattle.turns.proofs.Laws.{lists-lent}
 use Rattle.turns.specs.Turns.{cleared, freshOf, refusedOpen, openOf}
 
 -- so many words from the front are 0
@@ -69,7 +66,7 @@ module _ (rows versions buckets lists : List ℕ) (z : Sizes) (clock : ℕ) (l :
       rows-long = cleared-long (rowWords * z .rows) rows;
       versions-long = cleared-long (versionWords * suc (z .versions)) versions;
       buckets-long = cleared-long (bucketWords * z .buckets) buckets;
-      lists-long = leb-true listsWords (length lists) (and-r (leb (rowWords * z .rows) (length rows) && leb (versionWords * suc (z .versions)) (length versions) && leb (bucketWords * z .buckets) (length buckets)) (leb listsWords (length lists)) (tests .1));
+      lists-long = lists-lent rows versions buckets lists z (tests .1);
     }
 
     pub open-stands : Stands (openOf rows versions buckets lists z clock .words)

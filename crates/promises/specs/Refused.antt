@@ -3,17 +3,13 @@ use Prim.Native.Nat.{ℕ, _%_, _≤_, _<_}
 use mathlib.Core.Path.{_≡_}
 use mathlib.Core.Bool.{false}
 use mathlib.Core.Logic.{_≢_}
-use lib.ListN.{length, getD, set}
+use lib.ListN.{length, set}
 use Rattle.protocol.specs.declared.Step.{Step}
 use Rattle.protocol.specs.declared.Step.the-variants as ask
 use Rattle.tables.specs.Fields.{stampOf}
-use Rattle.record.specs.Methods.{idleOf, withMark}
-use Rattle.record.specs.declared.Transaction.{Transaction}
+use Rattle.record.specs.Methods.{withMark}
 use Rattle.steps.specs.Words.{Words, placeFor}
-
--- the record that stands at the step's place
-abbrev pub asker : Words → Step → Transaction
-asker w s = getD (w .txns) (placeFor (w .txns) s) (idleOf 0)
+use Rattle.turns.specs.Turns.{asker}
 
 -- 8, to a capture by a transaction without a mark, of a bucket whose stamp is not below its number: that record is marked, and all else is as found
 pub record Marks (w : Words) (s : Step) (after : Words) (n : ℕ) : Type 0 where

@@ -6,7 +6,6 @@ use mathlib.Core.Bool.{Bool, true, false, cond, not, _&&_, _||_}
 use mathlib.Core.Logic.{inl, inr}
 use mathlib.Core.List.{List, [], _∷_, _++_, map}
 use native.Mathlib.Nat.{zero-add}
-use native.Mathlib.Decide.{decLt}
 use native.Mathlib.Omega.{arith}
 use lib.Dec.{eqb, ltb, leb}
 use lib.ListN.{length, take, getD, length-map, length-take, List·getD-map}
@@ -38,6 +37,7 @@ use Rattle.places.specs.declared.Sizes.{Sizes}
 use Rattle.places.specs.Places.{preparedCount, liveIn}
 use Rattle.steps.specs.Words.{Words, sizesView, txnAt, view, othersIn}
 use Rattle.bridge.proofs.Places.{number-at}
+use Rattle.bridge.proofs.Listing.{all-each, every-at}
 use Rattle.bridge.proofs.Starting.{nonzero, pick-nonzero, live-nonzero}
 use Rattle.bridge.proofs.Needing.{written-pending, pending-written}
 use Rattle.bridge.proofs.Distinct.{sorted-pending, listed-pending}
@@ -61,11 +61,6 @@ and-assoc false b c = refl
 
 -- ---- tests of every number
 
-every-at : (n : ℕ) (test : ℕ → Bool) → every n test ≡ true → (i : ℕ) → i < n → test i ≡ true
-unfolding every
-every-at zero test e i h = absurd (omega arith)
-every-at (suc n) test e i h = elim (decLt i n) [ yes l ↦ every-at n test (and-l (every n test) (test n) e) i l | no l ↦ let d : i ≡ n = omega (arith, l) in rw d (and-r (every n test) (test n) e) ]
-
 every-same : (n : ℕ) (test also : ℕ → Bool) → ((i : ℕ) → i < n → test i ≡ also i) → every n test ≡ every n also
 unfolding every
 every-same zero test also h = refl
@@ -78,11 +73,6 @@ module _ {A : Type 0} where
   unfolding all-of
   all-append test [] ys = refl
   all-append test (x ∷ xs) ys = rw (all-append test xs ys) (and-assoc (test x) (all-of test xs) (all-of test ys))
-
-  all-each : (test : A → Bool) (xs : List A) → all-of test xs ≡ true → (x : A) → Among x xs → test x ≡ true
-  unfolding all-of
-  all-each test (y ∷ xs) e x (inl d) = rw d (and-l (test y) (all-of test xs) e)
-  all-each test (y ∷ xs) e x (inr m) = all-each test xs (and-r (test y) (all-of test xs) e) x m
 
   all-same : (test also : A → Bool) (xs : List A) → ((x : A) → Among x xs → test x ≡ also x) → all-of test xs ≡ all-of also xs
   unfolding all-of
@@ -237,11 +227,14 @@ module _ (w : Words) where
     place-in : (i : ℕ) → i < mostLive → inPlace i (txnAt w i) ≡ true
     place-in i h = every-at mostLive (λ i. inPlace i (txnAt w i)) places i h
 
+    front-in : (i : ℕ) → i < mostLive → eqb (txnAt w i .slot) i && leb (txnAt w i .snapshot .«active_n») mostActive ≡ true
+    front-in i h = and-l _ (countsFit (txnAt w i)) (place-in i h)
+
     few-active : (i : ℕ) → i < mostLive → txnAt w i .snapshot .«active_n» ≤ mostActive
-    few-active i h = leb-true _ mostActive (and-r (eqb (txnAt w i .slot) i) _ (place-in i h))
+    few-active i h = leb-true _ mostActive (and-r (eqb (txnAt w i .slot) i) _ (front-in i h))
 
     own-slot : (i : ℕ) → i < mostLive → txnAt w i .slot ≡ i
-    own-slot i h = eqb-true (txnAt w i .slot) i (and-l _ (leb (txnAt w i .snapshot .«active_n») mostActive) (place-in i h))
+    own-slot i h = eqb-true (txnAt w i .slot) i (and-l _ (leb (txnAt w i .snapshot .«active_n») mostActive) (front-in i h))
 
     txn-same : chainsFit (w .tables .rows) (w .tables .versions) (w .sizes) (w .used) ≡ true → (i : ℕ) → i < mostLive
         → goodTxn (view w) (view w .txns i) ≡ txnFits (w .tables .rows) (w .tables .versions) (w .tables .lists) (w .sizes) (w .clock) (w .used) (txnAt w i)

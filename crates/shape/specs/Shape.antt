@@ -12,6 +12,7 @@ use Rattle.tables.specs.Lists.{listsWords}
 use Rattle.record.specs.Methods.{idleOf}
 use Rattle.record.specs.declared.Transaction.{Transaction}
 use Rattle.places.specs.declared.Sizes.{Sizes}
+use Rattle.fits.specs.Fits.{countsFit}
 use Rattle.steps.specs.Words.{Words, view}
 use Rattle.shape.specs.declared.Machine.{Machine}
 
@@ -23,14 +24,14 @@ tablesLent rows versions buckets lists z =
     && leb (bucketWords * z .buckets) (length buckets)
     && leb listsWords (length lists)
 
--- a record stands in the slot of its place, and its active numbers are no more than its snapshot holds
+-- a record, of a free place too, stands in the slot of its place, and its active numbers and entries are no more than its snapshot and its lists hold
 abbrev pub inPlace : ℕ → Transaction → Bool
-inPlace i t = eqb (t .slot) i && leb (t .snapshot .«active_n») mostActive
+inPlace i t = eqb (t .slot) i && leb (t .snapshot .«active_n») mostActive && countsFit t
 
 abbrev pub allInPlace : List Transaction → Bool
 allInPlace ts = every mostLive (λ i. inPlace i (getD ts i (idleOf i)))
 
--- a table shorter than its size and a record in a wrong slot get 16 too
+-- a table shorter than its size, a record in a wrong slot and one with a count above its limit get 16 too
 unfoldable pub tablesFit : Words → Bool
 tablesFit w = tablesLent (w .tables .rows) (w .tables .versions) (w .tables .buckets) (w .tables .lists) (w .sizes) && allInPlace (w .txns)
 

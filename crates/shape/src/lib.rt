@@ -1,4 +1,5 @@
 // The shape that public steps test first: the model's test, and that the lent tables and the records' slots fit.
+use fits::counts_fit;
 use fits::place_fits;
 use limits::LAST_NUMBER;
 use limits::MOST_ACTIVE;
@@ -55,7 +56,7 @@ pub fn tables_lent(
     MOST_LIVE * SLOT_WORDS <= lists.len()
 }
 
-// Whether a record stands in the slot of its place, with no more active numbers than its snapshot holds.
+// Whether a record, of a free place too, stands in the slot of its place, with no more active numbers and entries than its snapshot and its lists hold.
 fn in_place(i: usize, t: Transaction) -> bool
     ensures { λ r. ⌜ r ≡ inPlace i t ⌝ }
 {
@@ -63,7 +64,10 @@ fn in_place(i: usize, t: Transaction) -> bool
     if t.slot as usize != i {
         return false;
     }
-    snapshot.active_n <= MOST_ACTIVE
+    if snapshot.active_n > MOST_ACTIVE {
+        return false;
+    }
+    counts_fit(t)
 }
 
 fn all_in_place(txns: [Transaction; MOST_LIVE]) -> bool

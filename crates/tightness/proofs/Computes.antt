@@ -23,15 +23,16 @@ use Rattle.matching.specs.Matching.{matchOf}
 use Rattle.gathering.specs.Gathering.{only}
 use Rattle.recording.specs.Recording.{planned, recordsFor, putRecords, recordedOf}
 use Rattle.reads.specs.Rows.{matchedRows, newRecords, readingOf, rowsOf}
+use Rattle.sweeps.specs.Sweeps.{releaseEvery, unclaimEvery}
 use Rattle.steps.specs.Steps.{publishStep, stepOf}
 use Rattle.steps.specs.Words.{placeFor, movedBy}
 use Rattle.fits.specs.Fits.{rangesFit, headsFit, txnFits, placeFits}
 use Rattle.shape.specs.Shape.{tablesFit}
-use Rattle.turns.specs.Turns.{cleared, openOf}
+use Rattle.turns.specs.Turns.{sweptFor, cleared, openOf}
 use Rattle.log.specs.Records.{decodedOf}
 use Rattle.lines.specs.Lines.{writtenAt}
 
 -- all but `shapeOf` and `turnOf`: what tests the shape of a whole store is opened where it is spoken of
 unfoldable pub computes : Unit {0}
-unfolding model.computes log.number log.widths log.total log.whole log.readRecord digitsStep digitsFor decimal spaced line writeThen turn replayFor replayFrom replay field setField words listOf canonicalOf firstFrom lastBelow stepFrom walkFor walkFrom firstVisible holdOf captureAt writeOf collectOf missesOf placeFrom liveFrom versionKey oldKeyOf newKeyOf pushOne pushAll bucketsFor writeNeeds writeChanges holdAll stampAll freeAll claimAll unclaimAll firstWhere oneMore rowsListed pendingInto lastWriteOf versionStored pushedRow pushedRows toInstall installOf readsTakenIn validateOf distinctIn reservedIn lacks neededInto prepareWith prepareOf endOf postedOne postedAll stampedIn neededIn freedIn publishOf abortOf keepActive keepAll snapshotOf spent beginOf matchOf only planned recordsFor putRecords recordedOf matchedRows newRecords readingOf rowsOf publishStep stepOf placeFor movedBy rangesFit headsFit txnFits placeFits tablesFit cleared openOf decodedOf writtenAt
+unfolding model.computes log.number log.widths log.total log.whole log.readRecord digitsStep digitsFor decimal spaced line writeThen turn replayFor replayFrom replay field setField words listOf canonicalOf firstFrom lastBelow stepFrom walkFor walkFrom firstVisible holdOf captureAt writeOf collectOf missesOf placeFrom liveFrom versionKey oldKeyOf newKeyOf pushOne pushAll bucketsFor writeNeeds writeChanges holdAll stampAll freeAll claimAll unclaimAll firstWhere oneMore rowsListed pendingInto lastWriteOf versionStored pushedRow pushedRows toInstall installOf readsTakenIn validateOf distinctIn reservedIn lacks neededInto prepareWith prepareOf endOf postedOne postedAll stampedIn neededIn freedIn publishOf abortOf keepActive keepAll snapshotOf spent beginOf matchOf only planned recordsFor putRecords recordedOf matchedRows newRecords readingOf rowsOf releaseEvery unclaimEvery publishStep stepOf placeFor movedBy rangesFit headsFit txnFits placeFits tablesFit sweptFor cleared openOf decodedOf writtenAt
 computes = tt

@@ -4,7 +4,9 @@ use Prim.Native.Nat.{ℕ}
 use mathlib.Core.Path.{refl}
 use mathlib.Core.Bool.{Bool, _&&_, _||_}
 use mathlib.Core.List.{List, []}
-use lib.Dec.{eqb, ltb}
+use lib.Dec.{eqb, ltb, leb}
+use Rattle.limits.specs.Limits.{mostIndexReads, mostWrites, mostRecords, mostRows}
+use Rattle.record.specs.Methods.{withWrites}
 use Rattle.record.specs.declared.Phase.the-variants as phase
 use Rattle.record.specs.declared.Transaction.{Transaction}
 use Rattle.places.specs.declared.Sizes.{Sizes}
@@ -13,6 +15,14 @@ use Rattle.tightness.specs.Wrong.{Excludes}
 use Rattle.tightness.proofs.Apart.{apart, bit}
 use Rattle.tightness.proofs.Computes.{computes}
 use Rattle.tightness.proofs.Small.{live, writer, puts, sizes}
+
+-- `counts_fit`: the pending writes are not counted
+pub counts-fit-writes-untested : Excludes countsFit (λ t. leb (t .«reads_n») mostIndexReads && leb (t .«records_n») mostRecords && leb (t .«candidates_n») mostRows)
+counts-fit-writes-untested = apart (withWrites (live 1 phase.Open) 17) bit refl
+
+-- `counts_fit`: a list may not be full
+pub counts-fit-not-full : Excludes countsFit (λ t. countsFit t && ltb (t .«writes_n») mostWrites)
+counts-fit-not-full = apart (withWrites (live 1 phase.Open) 16) bit refl
 
 -- what place_fits is given: rows, versions, lists, sizes, the clock, the last used pointer and the record
 abbrev Given : Type 0

@@ -16,9 +16,9 @@ use Rattle.record.specs.declared.Phase.{Phase}
 use Rattle.record.specs.declared.Phase.the-variants as phase
 use Rattle.places.specs.Places.{wantedOf, isBegin, missesOf}
 use Rattle.steps.specs.Steps.{Moved, stays}
-use Rattle.steps.specs.Words.{placeFor, movedBy, wordsAfter}
+use Rattle.steps.specs.Words.{placeFor, movedBy}
 use Rattle.shape.specs.declared.Machine.{Machine}
-use Rattle.turns.specs.Turns.{Left, turnOf}
+use Rattle.turns.specs.Turns.{Left, turnedBy, wordsTurned, turnOf}
 use Rattle.tightness.specs.Wrong.{Excludes}
 use Rattle.tightness.proofs.Apart.{apart, numberIn}
 use Rattle.tightness.proofs.Computes.{computes}
@@ -64,7 +64,7 @@ Mistaken {I} right wrong = Excludes {A = Lent × Machine × I} (λ (l, m, i). tu
 
 -- the step is done: the shape of the small store is right
 abbrev done : Phase → Step → Left
-done ph s = record { answer = movedBy (store ph) s .stepped .answer; words = wordsAfter (store ph) s }
+done ph s = record { answer = turnedBy (store ph) s .stepped .answer; words = wordsTurned (store ph) s }
 
 turn-done : (ph : Phase) → bucketIn (phaseView ph) ≡ 0 → (s : Step) → turnOf (store ph) s ≡ done ph s
 unfolding turnOf

@@ -1,8 +1,8 @@
 -- Wrong bodies of the crate `turns`.
 -- Assumes nothing.
 use Prim.Native.Nat.{ℕ, suc, _*_}
-use mathlib.Core.Path.{refl}
-use mathlib.Core.Bool.{cond, not}
+use mathlib.Core.Path.{_≡_, refl}
+use mathlib.Core.Bool.{true, cond, not}
 use mathlib.Core.List.{List, []}
 use lib.ListN.{getD, set}
 use Rattle.model.specs.Machine.{canOpen}
@@ -16,7 +16,7 @@ use Rattle.places.specs.declared.Sizes.{Sizes}
 use Rattle.steps.specs.Words.{sizesView, movedBy, wordsAfter}
 use Rattle.shape.specs.Shape.{tablesLent, shapeOf, wordsOf}
 use Rattle.shape.specs.declared.Machine.{Machine}
-use Rattle.turns.specs.Turns.{Left, turnOf, cleared, freshOf, closedOf, refusedOpen, openOf}
+use Rattle.turns.specs.Turns.{Left, turnedBy, wordsTurned, turnOf, cleared, freshOf, closedOf, refusedOpen, openOf}
 use Rattle.tightness.specs.Wrong.{Excludes}
 use Rattle.tightness.proofs.Apart.{apart, numberIn}
 use Rattle.tightness.proofs.Computes.{computes}
@@ -61,7 +61,7 @@ abbrev turns : Lent × Machine × Step → Left
 turns (l, m, s) = turnOf (over l m) s
 
 -- the shape is not tested
-pub turn-shape-untested : Excludes turns (λ (l, m, s). record { answer = movedBy (over l m) s .stepped .answer; words = wordsAfter (over l m) s })
+pub turn-shape-untested : Excludes turns (λ (l, m, s). record { answer = turnedBy (over l m) s .stepped .answer; words = wordsTurned (over l m) s })
 unfolding computes turnOf shapeOf
 turn-shape-untested = apart (([], [], [], []), closedOf, ask.End 1) (λ (l : Left). numberIn (l .answer)) refl
 
@@ -69,3 +69,16 @@ turn-shape-untested = apart (([], [], [], []), closedOf, ask.End 1) (λ (l : Lef
 pub turn-record-lost : Excludes turns (λ (l, m, s). record { answer = turns (l, m, s) .answer; words = record { tables = turns (l, m, s) .words .tables; txns = m .txns; sizes = m .sizes; clock = turns (l, m, s) .words .clock; used = turns (l, m, s) .words .used } })
 unfolding computes turnOf
 turn-record-lost = apart (lent, machine phase.Open, ask.Begin) (λ (l : Left). getD (l .words .txns) 1 (idleOf 1) .number) (rw (shape phase.Open refl))
+
+-- the small store with row 0 claimed by its transaction, which has no pending write; its shape is right
+abbrev claimed : Lent
+claimed = (set (lent .0) 1 1, lent .1, lent .2, lent .3)
+
+claimed-shape : shapeOf (over claimed (machine phase.Open)) ≡ true
+unfolding computes shapeOf
+claimed-shape = refl
+
+-- what carries the number of a transaction that ended is freed only where the transaction lists it
+pub turn-unswept : Excludes turns (λ (l, m, s). cond (shapeOf (over l m)) (record { answer = movedBy (over l m) s .stepped .answer; words = wordsAfter (over l m) s }) (record { answer = tell.Refused 16; words = over l m }))
+unfolding computes turnOf
+turn-unswept = apart (claimed, machine phase.Open, ask.Abort 1) (λ (l : Left). getD (l .words .tables .rows) 1 0) (rw claimed-shape)

@@ -23,7 +23,7 @@ use Rattle.bridge.proofs.Places.{default-any}
 use Rattle.shape.specs.Shape.{tablesLent, tablesFit, shapeOf, wordsOf}
 use Rattle.shape.specs.declared.Machine.{Machine}
 use Rattle.turns.specs.declared.Turned.{Turned}
-use Rattle.turns.specs.Turns.{Left, left, turnOf, placedOf, cleared}
+use Rattle.turns.specs.Turns.{Left, left, asker, Swept, sweptFor, turnOf, placedOf, cleared}
 
 -- the list lent for the rows of a read is no part of the shape
 pub shape-found : (rows versions buckets lists found : List ℕ) (m : Machine) → shapeOf (wordsOf rows versions buckets lists found m) ≡ shapeOf (wordsOf rows versions buckets lists [] m)
@@ -41,11 +41,17 @@ module _ (rows versions buckets lists found : List ℕ) (m : Machine) (s : Step)
   unfolding movedBy
   moved-same = rw (place-same, others, default-any (m .txns) p (idleOf 0) d (omega arith))
 
-  pub turn-done : (mv : Moved) (r : Turned) → shapeOf (wordsOf rows versions buckets lists found m) ≡ true
-      → mv ≡ stepOf (m .sizes) o (getD (m .txns) p d) (m .clock) (m .used) s (wordsOf rows versions buckets lists found m .tables) → r ≡ placedOf m p (mv .stepped)
-      → left r (mv .rows) (mv .versions) (mv .buckets) (mv .lists) (mv .found) ≡ turnOf (wordsOf rows versions buckets lists found m) s
+  asker-same : asker (wordsOf rows versions buckets lists found m) s ≡ getD (m .txns) p d
+  asker-same = rw place-same (default-any (m .txns) p (idleOf 0) d (omega arith))
+
+  pub turn-done : (mv : Moved) (sw : Swept) (r : Turned) → shapeOf (wordsOf rows versions buckets lists found m) ≡ true
+      → mv ≡ stepOf (m .sizes) o (getD (m .txns) p d) (m .clock) (m .used) s (wordsOf rows versions buckets lists found m .tables)
+      → sw ≡ sweptFor (m .sizes) (getD (m .txns) p d .number) (mv .stepped .txn .number) (mv .rows) (mv .buckets) → r ≡ placedOf m p (mv .stepped)
+      → left r (sw .rows) (mv .versions) (sw .buckets) (mv .lists) (mv .found) ≡ turnOf (wordsOf rows versions buckets lists found m) s
   unfolding turnOf
-  turn-done mv r shape moved placed = let e : movedBy (wordsOf rows versions buckets lists found m) s ≡ mv = moved-same ∙ sym moved in rw (shape, e, place-same, placed)
+  turn-done mv sw r shape moved swept placed =
+      let e : movedBy (wordsOf rows versions buckets lists found m) s ≡ mv = moved-same ∙ sym moved in
+      rw (shape, e, asker-same, place-same, swept, placed)
 
 -- ---- open
 
@@ -82,6 +88,9 @@ module _ (rows versions buckets lists : List ℕ) (z : Sizes) (e : tablesLent ro
 
   pub buckets-lent : 2 * z .buckets ≤ length buckets
   buckets-lent = leb-true _ _ (and-r (leb (4 * z .rows) (length rows) && leb (6 * suc (z .versions)) (length versions)) (leb (2 * z .buckets) (length buckets)) three)
+
+  pub lists-lent : 4352 ≤ length lists
+  lists-lent = leb-true 4352 (length lists) (and-r (leb (4 * z .rows) (length rows) && leb (6 * suc (z .versions)) (length versions) && leb (2 * z .buckets) (length buckets)) (leb 4352 (length lists)) e)
 
 -- an empty list that was lent comes back empty
 pub lent-none : (r : Turned) (rows versions buckets lists found : List ℕ) (x : Left) → length found ≡ 0 → left r rows versions buckets lists found ≡ x → left r rows versions buckets lists [] ≡ x

@@ -1,16 +1,21 @@
 -- The public steps and open: what is answered, the machine that goes back, and all the lent words.
 use Prim.Native.Nat.{ℕ, suc, _*_}
-use mathlib.Core.Bool.{cond, not}
+use mathlib.Core.Bool.{Bool, cond, not, _&&_}
 use mathlib.Core.List.{List, [], _++_}
-use lib.ListN.{drop, set, replicate}
+use lib.Dec.{eqb}
+use lib.ListN.{drop, getD, set, replicate}
 use Rattle.model.specs.Machine.{canOpen}
 use Rattle.protocol.specs.declared.Step.{Step}
 use Rattle.protocol.specs.declared.Answer.{Answer}
 use Rattle.protocol.specs.declared.Answer.the-variants as tell
 use Rattle.tables.specs.Fields.{rowWords, versionWords, bucketWords}
+use Rattle.record.specs.Methods.{idleOf}
+use Rattle.record.specs.declared.Transaction.{Transaction}
 use Rattle.places.specs.declared.Sizes.{Sizes}
+use Rattle.sweeps.specs.Sweeps.{releaseEvery, unclaimEvery}
 use Rattle.steps.specs.declared.Stepped.{Stepped}
-use Rattle.steps.specs.Words.{Words, sizesView, freePlaces, movedBy, wordsAfter}
+use Rattle.steps.specs.Steps.{Moved}
+use Rattle.steps.specs.Words.{Words, sizesView, freePlaces, placeFor, movedBy, tablesAfter}
 use Rattle.shape.specs.Shape.{tablesLent, shapeOf, wordsOf}
 use Rattle.shape.specs.declared.Machine.{Machine}
 use Rattle.turns.specs.declared.Turned.{Turned}
@@ -24,9 +29,52 @@ pub record Left : Type 0 where
 abbrev pub left : Turned → List ℕ → List ℕ → List ℕ → List ℕ → List ℕ → Left
 left r rows versions buckets lists found = record { answer = r .answer; words = wordsOf rows versions buckets lists found (r .machine) }
 
+-- the record that stands at the step's place
+abbrev pub asker : Words → Step → Transaction
+asker w s = getD (w .txns) (placeFor (w .txns) s) (idleOf 0)
+
+-- a record ended: it had a number, and has none
+abbrev pub hasEnded : ℕ → ℕ → Bool
+hasEnded before after = not (eqb before 0) && eqb after 0
+
+-- rows and buckets
+pub record Swept : Type 0 where
+  pub rows : List ℕ
+  pub buckets : List ℕ
+
+-- where the record ended, every claim and every bucket that still carries its number is freed
+unfoldable pub sweptFor : Sizes → ℕ → ℕ → List ℕ → List ℕ → Swept
+sweptFor z before after rows buckets =
+    cond (hasEnded before after) (record { rows = unclaimEvery rows (z .rows) before; buckets = releaseEvery buckets (z .buckets) before })
+    (record { rows = rows; buckets = buckets })
+
+-- what a step leaves, swept for the number that its record had
+abbrev pub sweptMoved : Sizes → ℕ → Moved → Moved
+sweptMoved z before m = record {
+  stepped = m .stepped;
+  rows = sweptFor z before (m .stepped .txn .number) (m .rows) (m .buckets) .rows;
+  versions = m .versions;
+  buckets = sweptFor z before (m .stepped .txn .number) (m .rows) (m .buckets) .buckets;
+  lists = m .lists;
+  found = m .found;
+}
+
+-- a step of the whole, swept; the words after it
+abbrev pub turnedBy : Words → Step → Moved
+turnedBy w s = sweptMoved (w .sizes) (asker w s .number) (movedBy w s)
+
+abbrev pub wordsTurned : Words → Step → Words
+wordsTurned w s = record {
+  tables = tablesAfter (turnedBy w s);
+  txns = set (w .txns) (placeFor (w .txns) s) (turnedBy w s .stepped .txn);
+  sizes = w .sizes;
+  clock = turnedBy w s .stepped .clock;
+  used = turnedBy w s .stepped .used;
+}
+
 -- 16 where the shape is wrong, with all as found; else the step
 unfoldable pub turnOf : Words → Step → Left
-turnOf w s = cond (shapeOf w) (record { answer = movedBy w s .stepped .answer; words = wordsAfter w s }) (record { answer = tell.Refused 16; words = w })
+turnOf w s = cond (shapeOf w) (record { answer = turnedBy w s .stepped .answer; words = wordsTurned w s }) (record { answer = tell.Refused 16; words = w })
 
 -- the record goes back to its place, and clock and last used pointer are taken over
 abbrev pub placedOf : Machine → ℕ → Stepped → Turned

@@ -14,6 +14,8 @@ use shape::right_shape;
 use shape::tables_lent;
 use steps::Stepped;
 use steps::step;
+use sweeps::release_every;
+use sweeps::unclaim_every;
 use tables::BUCKET_WORDS;
 use tables::ROW_WORDS;
 use tables::VERSION_WORDS;
@@ -24,7 +26,7 @@ ghost use lib.ListN.{length};
 ghost use Rattle.limits.specs.Limits.{mostLive};
 ghost use Rattle.protocol.specs.declared.Answer.the-variants as tell;
 ghost use Rattle.shape.specs.Shape.{wordsOf};
-ghost use Rattle.turns.specs.Turns.{left, turnOf, placedOf, cleared, freshOf, closedOf, openOf};
+ghost use Rattle.turns.specs.Turns.{left, sweptFor, turnOf, placedOf, cleared, freshOf, closedOf, openOf};
 
 // An answer, with the machine that goes back.
 pub struct Turned {
@@ -135,7 +137,21 @@ fn placed(m: Machine, p: usize, done: Stepped) -> Turned
     }
 }
 
-// Any step: the shape first, then the step of the transaction that it names.
+// Where the record ended, every bucket and every claim that still carries its number is freed.
+fn sweep(rows_table: &mut [u64], buckets: &mut [u64], sizes: Sizes, number: u64, number_after: u64)
+    ensures { λ _. ⌜ record { rows = now («rows_table» .exit); buckets = now (buckets .exit) } ≡ sweptFor sizes number «number_after» (now («rows_table» .entry)) (now (buckets .entry)) ⌝ }
+{
+    if number == 0 {
+        return;
+    }
+    if number_after != 0 {
+        return;
+    }
+    unclaim_every(rows_table, sizes.rows, number);
+    release_every(buckets, sizes.buckets, number);
+}
+
+// Any step: the shape first, then the step of the transaction that it names; nothing stays held or claimed for one that ended.
 pub fn turn(
     rows_table: &mut [u64],
     versions: &mut [u64],
@@ -173,6 +189,8 @@ pub fn turn(
         m.used,
         s,
     );
+    let txn = done.txn;
+    sweep(rows_table, buckets, sizes, t.number, txn.number);
     placed(m, p, done)
 }
 
