@@ -113,7 +113,7 @@ fit-sized w t e =
 sized-typed : (w : Words) → Sized w → Typed w
 sized-typed w z = record { eight = z .eight; seven = λ i l. z .txns i l .seven }
 
-sized-fit : (w : Words) → Sized w → tablesFit w ≡ true
+pub sized-fit : (w : Words) → Sized w → tablesFit w ≡ true
 unfolding tablesFit
 sized-fit w z =
     let placed : (i : ℕ) → i < mostLive → inPlace i (txnAt w i) ≡ true = λ i l.

@@ -3,4 +3,7 @@ pub mod Refusing
 pub mod Sweeping
 pub mod Turned
 pub mod Calls
+pub mod Answered
+pub mod Sequences
 pub mod Demands
+pub mod Runs

@@ -1,0 +1,60 @@
+-- An open and calls that meet the premises of the page of statements: a read that finds a row, another transaction that publishes meanwhile, a clear verdict. Assumes nothing.
+use Prim.Native.Nat.{ℕ}
+use mathlib.Core.Path.{_≡_, refl, ap, _∙_}
+use mathlib.Core.List.{List, [], _∷_, _++_, map}
+use native.Mathlib.Omega.{arith}
+use lib.ListN.{replicate}
+use Rattle.model.specs.Store.{Collected}
+use Rattle.model.specs.Refusals.{txnOf}
+use Rattle.model.specs.Shape.{goodSizes}
+use Rattle.model.specs.Machine.{run, canOpen}
+use Rattle.model.proofs.Reached as reached
+use Rattle.protocol.specs.declared.Step.{Step}
+use Rattle.protocol.specs.declared.Step.the-variants as ask
+use Rattle.protocol.specs.declared.Answer.the-variants as tell
+use Rattle.protocol.specs.declared.Verdict.the-variants as verdict
+use Rattle.protocol.specs.View.{told}
+use Rattle.tables.specs.Lists.{listsWords}
+use Rattle.turns.specs.Turns.{openOf}
+use Rattle.promises.specs.Calls.{Call, called}
+use Rattle.promises.specs.Demands.{Opening, openNumber, after, storeAfter, reading, validating}
+use Rattle.promises.proofs.Sequences.{answer-after}
+
+-- 4 rows, 8 versions and 4 buckets, over tables full of sevens
+abbrev pub o : Opening
+o = record {
+  rows = replicate 16 7;
+  versions = replicate 54 7;
+  buckets = replicate 8 7;
+  lists = replicate listsWords 7;
+  sizes = record { rows = 4; versions = 8; buckets = 4 };
+  clock = 1;
+  clock-in = omega arith;
+}
+
+pub opens : openNumber o ≡ 0
+unfolding openOf canOpen goodSizes
+opens = refl
+
+-- the calls that ask for the steps of `Reached`
+abbrev pub without : List Step → List Call
+without ss = map (λ (s : Step). record { asks = s; lent = [] }) ss
+
+abbrev pub before : List Call
+before = without (ask.Begin ∷ ask.Put 1 2 6 10 ∷ ask.Prepare 1 ∷ ask.Install 1 ∷ ask.End 1 ∷ ask.Publish 1 ∷ ask.Begin ∷ ask.Capture 3 6 ∷ ask.Collect 3 ∷ [])
+
+abbrev pub between : List Call
+between = without (ask.Begin ∷ ask.Put 4 0 3 7 ∷ ask.Prepare 4 ∷ ask.Install 4 ∷ ask.End 4 ∷ ask.Publish 4 ∷ ask.Publish 4 ∷ [])
+
+abbrev pub list : List ℕ
+list = 7 ∷ 7 ∷ 7 ∷ 7 ∷ []
+
+pub read : called (after o before) (reading 3 list) .answer ≡ tell.Rows 1
+read = answer-after o opens before (reading 3 list) ∙ ap told (reached.met .1)
+
+pub collected : (txnOf (storeAfter o before) 3 .phase ≡ Collected 6) × (txnOf (storeAfter o before) 3 .writes ≡ [])
+collected = (reached.met .2, reached.met .3)
+
+pub validated : called (after o (before ++ (reading 3 list ∷ between))) (validating 3) .answer ≡ tell.Judged verdict.Clear
+unfolding run
+validated = answer-after o opens (before ++ (reading 3 list ∷ between)) (validating 3) ∙ ap told (reached.met .4)

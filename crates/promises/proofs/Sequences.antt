@@ -1,0 +1,97 @@
+-- Any sequence of calls after an accepted open: the words fit and stand for the model's run; a read that is told, and a validation that finds it good. Assumes nothing.
+use Prim.Native.Nat.{ℕ, min}
+use mathlib.Core.Path.{_≡_, refl, sym, ap, subst, _∙_}
+use mathlib.Core.List.{List, [], _∷_, _++_, map-append}
+use native.Mathlib.Omega.{arith}
+use lib.ListN.{length, drop}
+use Rattle.model.specs.Store.{Store, Collected, fresh}
+use Rattle.model.specs.Verdict as judged
+use Rattle.model.specs.Refusals.{Step as Asked, rows, validate, txnOf}
+use Rattle.model.specs.Machine as machine
+use Rattle.model.specs.Machine.{lentAfter, step, run}
+use Rattle.model.specs.Demands.{StandingRead}
+use Rattle.model.proofs.Promises.{finished-read, validated-read}
+use Rattle.protocol.specs.declared.Answer.the-variants as tell
+use Rattle.protocol.specs.declared.Verdict.the-variants as verdict
+use Rattle.protocol.specs.View.{told}
+use Rattle.steps.specs.Words.{sizesView, view}
+use Rattle.bridge.proofs.Running.{Stands}
+use Rattle.promises.specs.Calls.{Call, asking, called, stepsOf}
+use Rattle.promises.specs.Demands.{Opening, openNumber, after, storeAfter, Follows, reading, validating, ReadCall}
+use Rattle.promises.proofs.Opened.{open-stands, open-view}
+use Rattle.promises.proofs.Calls.{stands-typed, sized-fit, called-as, calls-stand, calls-view}
+use Rattle.promises.proofs.Answered.{told-judged, open-done}
+
+-- found rows are told by their count
+told-rows : (a : machine.Answer) (n : ℕ) → told a ≡ tell.Rows n → (rs : List ℕ) × (a ≡ machine.Rows rs) × (n ≡ length rs)
+told-rows (machine.Rows rs) n e = (rs, refl, let q : length rs ≡ n = cc in sym q)
+told-rows machine.Done n e = let q : _≡_ {A = ℕ} 0 1 = cc in absurd (omega arith)
+told-rows (machine.Number m) n e = let q : _≡_ {A = ℕ} 0 1 = cc in absurd (omega arith)
+told-rows (machine.Stamp m) n e = let q : _≡_ {A = ℕ} 0 1 = cc in absurd (omega arith)
+told-rows (machine.Count m) n e = let q : _≡_ {A = ℕ} 0 1 = cc in absurd (omega arith)
+told-rows (machine.Judged v) n e = let q : _≡_ {A = ℕ} 0 1 = cc in absurd (omega arith)
+told-rows (machine.Refused r) n e = let q : _≡_ {A = ℕ} 0 1 = cc in absurd (omega arith)
+
+-- a read asks for as much room as its list has
+reading-asks : (t : ℕ) (lent : List ℕ) → asking (reading t lent) ≡ rows t (length lent)
+reading-asks t lent = let e : min (length lent) (length lent) ≡ length lent = omega arith in rw e
+
+run-append : (s : Store) (xs ys : List Asked) → run s (xs ++ ys) ≡ run (run s xs) ys
+unfolding run
+run-append s [] ys = refl
+run-append s (x ∷ xs) ys = run-append (step s x .store) xs ys
+
+module _ (o : Opening) (e : openNumber o ≡ 0) where
+  after-stands : (cs : List Call) → Stands (after o cs)
+  after-stands cs = calls-stand _ (open-stands (o .rows) (o .versions) (o .buckets) (o .lists) (o .sizes) (o .clock) (o .clock-in) (open-done o e)) cs
+
+  after-view : (cs : List Call) → view (after o cs) ≡ storeAfter o cs
+  after-view cs =
+      let d = open-done o e in
+      calls-view _ (open-stands (o .rows) (o .versions) (o .buckets) (o .lists) (o .sizes) (o .clock) (o .clock-in) d) cs
+      ∙ ap (λ (v : Store). run v (stepsOf cs)) (open-view (o .rows) (o .versions) (o .buckets) (o .lists) (o .sizes) (o .clock) (o .clock-in) d)
+
+  pub follows : (cs : List Call) → Follows o cs
+  follows cs = let h = after-stands cs in record { typed = stands-typed _ h; fits = sized-fit _ (h .sized); stands-for = after-view cs }
+
+  steps-after : (cs : List Call) (c : Call) (between : List Call) → storeAfter o (cs ++ (c ∷ between)) ≡ run (step (storeAfter o cs) (asking c) .store) (stepsOf between)
+  unfolding run
+  steps-after cs c between = ap (run (fresh (sizesView (o .sizes)) (o .clock))) (map-append asking cs (c ∷ between)) ∙ run-append (fresh (sizesView (o .sizes)) (o .clock)) (stepsOf cs) (stepsOf (c ∷ between))
+
+  pub answer-after : (cs : List Call) (c : Call) → called (after o cs) c .answer ≡ told (step (storeAfter o cs) (asking c) .answer)
+  answer-after cs c = rw (after-view cs) at (called-as (after o cs) (after-stands cs) c .answer)
+
+  found-after : (cs : List Call) (c : Call) → called (after o cs) c .words .tables .found ≡ lentAfter (step (storeAfter o cs) (asking c) .answer) (c .lent)
+  found-after cs c = rw (after-view cs) at (called-as (after o cs) (after-stands cs) c .found)
+
+  found-by : (cs : List Call) (t : ℕ) (lent : List ℕ) (n : ℕ) → called (after o cs) (reading t lent) .answer ≡ tell.Rows n
+      → (rs : List ℕ) × (step (storeAfter o cs) (rows t (length lent)) .answer ≡ machine.Rows rs) × (n ≡ length rs)
+  found-by cs t lent n q = told-rows _ n (rw (reading-asks t lent) at (sym (answer-after cs (reading t lent)) ∙ q))
+
+  pub reads : (cs : List Call) (t : ℕ) (lent : List ℕ) (n : ℕ) → called (after o cs) (reading t lent) .answer ≡ tell.Rows n → ReadCall o cs t lent n
+  reads cs t lent n q =
+      let w = found-by cs t lent n q in
+      record {
+        found = w .0;
+        count = w .2;
+        handed = rw (reading-asks t lent) at (found-after cs (reading t lent)) ∙ (ap (λ (a : machine.Answer). lentAfter a lent) (w .1) ∙ ap (λ (m : ℕ). w .0 ++ drop m lent) (sym (w .2)));
+        finished = finished-read (sizesView (o .sizes)) (o .clock) (stepsOf cs) t (length lent) (w .0) (w .1);
+      }
+
+  -- the rows that were told are the ones found
+  same-found : (cs : List Call) (t : ℕ) (lent : List ℕ) (n : ℕ) (q : called (after o cs) (reading t lent) .answer ≡ tell.Rows n) → reads cs t lent n q .found ≡ found-by cs t lent n q .0
+  unfolding reads
+  same-found cs t lent n q = refl
+
+  pub stands : (cs : List Call) (t k : ℕ) (lent : List ℕ) (n : ℕ) (q : called (after o cs) (reading t lent) .answer ≡ tell.Rows n) (between : List Call)
+      → txnOf (storeAfter o cs) t .phase ≡ Collected k → txnOf (storeAfter o cs) t .writes ≡ []
+      → called (after o (cs ++ (reading t lent ∷ between))) (validating t) .answer ≡ tell.Judged verdict.Clear
+      → StandingRead (sizesView (o .sizes)) (storeAfter o cs) (step (storeAfter o (cs ++ (reading t lent ∷ between))) (validate t) .store) t k (reads cs t lent n q .found)
+  stands cs t k lent n q between c w v =
+      let all = cs ++ (reading t lent ∷ between) in
+      let f = found-by cs t lent n q in
+      let clear = told-judged _ judged.Clear (sym (answer-after all (validating t)) ∙ v) in
+      let same = rw (reading-asks t lent) at (steps-after cs (reading t lent) between) in
+      rw (same-found cs t lent n q)
+      (subst (λ (s : Store). StandingRead (sizesView (o .sizes)) (storeAfter o cs) (step s (validate t) .store) t k (f .0)) (sym same)
+      (validated-read (sizesView (o .sizes)) (o .clock) (stepsOf cs) t (length lent) k (f .0) (stepsOf between) (f .1) c w (subst (λ (s : Store). step s (validate t) .answer ≡ machine.Judged judged.Clear) same clear)))
