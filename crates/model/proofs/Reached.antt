@@ -4,16 +4,24 @@ use mathlib.Core.Bool.{true, false}
 use mathlib.Core.Logic.{inl}
 use mathlib.Core.Option.{none, some}
 use mathlib.Core.List.{List, [], _∷_, _++_}
+use Prim.Native.Nat.{ℕ, _<_}
 use native.Mathlib.Omega.{arith}
-use Rattle.model.specs.Store.{Sizes, Store, Collected, fresh}
+use lib.Dec.{ltb}
+use borrow.Author.Tests.{ltb-true}
+use Rattle.limits.specs.Limits.{mostLive}
+use Rattle.model.specs.Store.{Sizes, Store, Collected, fresh, rank}
 use Rattle.model.specs.Verdict.{Clear}
 use Rattle.model.specs.Refusals.{Step, begin, capture, collect, rows, put, prepare, install, end, publish, validate, txnOf}
-use Rattle.model.specs.Seeing.{shows, snapshotNow}
+use Rattle.model.specs.Seeing.{Live, seen, shows, snapshotNow}
 use Rattle.model.specs.Machine.{Done, Rows, Judged, step, run, canOpen}
 use Rattle.model.specs.Upstream.{postingsOf, remove, insert, postingReplay}
 use Rattle.model.specs.History.{addEvents, stepEvents, historyOver, history}
+use Rattle.model.specs.Holding.{Unpublished}
 use Rattle.model.specs.Given.{StaleStamp}
 use Rattle.model.proofs.Computes.{computes}
+use Rattle.model.proofs.Numbers.{in-place}
+use Rattle.model.proofs.Good.{opened-good}
+use Rattle.model.proofs.Conditions.{each-below}
 
 abbrev pub sizes : Sizes
 sizes = record { rows = 4; versions = 8; buckets = 4 }
@@ -73,3 +81,18 @@ s₅ = run (fresh sizes 1) (begin ∷ put 1 2 6 10 ∷ prepare 1 ∷ install 1 �
 pub met-version : (s₅ .chains .used ≡ 1) × (s₅ .chains .xmax 1 ≡ 0) × (run s₅ over .chains .xmax 1 ≡ 3) × (run s₅ over .chains .payload 1 ≡ 10) × (run s₅ over .chains .payload 2 ≡ 11)
 unfolding computes
 met-version = (refl, refl, refl, refl, refl)
+
+-- the premise of kept-history's snapshots: in s₁ transaction 3 is live, and no version of row 2 waits for its publish
+none-late : (w : ℕ) → w < mostLive → ltb (rank (s₁ .txns w .phase)) 5 ≡ true
+unfolding computes
+none-late = each-below mostLive (λ w. ltb (rank (s₁ .txns w .phase)) 5) refl
+
+numbered : s₁ .txns 0 .number ≡ 3
+unfolding computes
+numbered = refl
+
+pub met-snapshot : Live (s₁ .txns 0) × ((w : ℕ) → Unpublished (s₁ .sizes) (s₁ .txns w) 2 → seen (s₁ .txns 0 .snapshot) (s₁ .chains .xmin (s₁ .chains .head 2)) ≡ false)
+met-snapshot = (omega (arith, numbered), λ w u. absurd (omega (arith, u .1, ltb-true (rank (s₁ .txns w .phase)) 5 (none-late w (in-place _ _ (opened-good sizes 1 before opened (omega arith) .numbers) w (u .0))))))
+  where
+    opened : canOpen sizes 1 ≡ true
+    opened = met .0
