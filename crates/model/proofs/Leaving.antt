@@ -12,16 +12,16 @@ use Rattle.model.specs.Lists.{least, every, Among, Rising}
 use Rattle.model.specs.Table.{update, updateAll, update-same, update-other, cond-elim}
 use Rattle.model.specs.Store.{Sizes, Phase, Open, Holding, Collected, Prepared, Installed, Ended, Txn, Store, rank, sameKey, bucketOf, Write, bucketIn}
 use Rattle.model.specs.Seeing.{activeNumbers, pending, writtenKey}
-use Rattle.model.specs.Steps.{newTxn, pendingRows, keyBuckets, keyBefore, newKey, neededBuckets, repost, changedBuckets, release, preparedHeld, freed, publishedIndex, withPhase, writtenTxn}
+use Rattle.model.specs.Steps.{hasRead, addRead, capturedTxn, newTxn, pendingRows, keyBuckets, keyBefore, newKey, neededBuckets, repost, changedBuckets, release, preparedHeld, freed, publishedIndex, withPhase, writtenTxn}
 use Rattle.model.specs.Refusals.{Step, begin, capture, collect, rows, put, erase, prepare, install, end, publish, validate, abort, txnOf}
 use Rattle.model.specs.Shape.{goodChains, rightShape}
 use Rattle.model.specs.Machine.{at, actor, accepted, step}
-use Rattle.model.specs.Given.{number, Shaped, Lives, bucketFor}
+use Rattle.model.specs.Given.{number, Shaped, Lives, bucketFor, stampFor}
 use Rattle.model.specs.Effects.{Stamps, posts, Takes, Frees, Claimed, Unclaimed}
-use Rattle.model.specs.Leaves.{TakenAt, askerAfter, IndexAfter, HeldAfter, Leaves}
+use Rattle.model.specs.Leaves.{TakenAt, Captures, askerAfter, IndexAfter, HeldAfter, Leaves}
 use Rattle.model.proofs.ListLaws.{and-l, and-r, is-false, among-left, among-right, among-cases, among-member, not-member, join-which, which-join, pick-which, pick-rising}
 use Rattle.model.proofs.Numbers.{active-which, which-active}
-use Rattle.model.proofs.SeeingLaws.{same-key, key-same, key-bucket}
+use Rattle.model.proofs.SeeingLaws.{same-key, key-same, key-bucket, read-bucket, bucket-read}
 use Rattle.model.proofs.Making.{last-write, makes-all, makes-none}
 use Rattle.model.proofs.Conditions.{lives-number, each-below}
 use Rattle.model.proofs.Refused.{capture-0, put-0, erase-0, prepare-0, install-0, publish-0, validate-0, abort-0}
@@ -220,6 +220,14 @@ module _ (s : Store) where
     posted-stays = λ r n. rw (not-member r (pendingRows (s .sizes) (txnOf s t .writes)) n);
   }
 
+-- capture adds an index read where the bucket has none
+adds : (s : Store) (t k : ℕ) → Captures s (capture t k) (txnOf s t .reads) (addRead (txnOf s t .reads) (bucketFor s k) (stampFor s k))
+unfolding addRead
+adds s t k = (
+  λ r m e. rw (bucket-read (txnOf s t .reads) (bucketFor s k) r m e),
+  λ n. rw (is-false (hasRead (txnOf s t .reads) (bucketFor s k)) (λ h. let w = read-bucket (txnOf s t .reads) (bucketFor s k) h in n (w .0) (w .1) (w .2))),
+)
+
 -- put, erase and validate leave the phase, which is Open
 still-open : (s : Store) (a : Step) (x : Txn) → withPhase x Open ≡ askerAfter s a (txnOf s (actor a)) → rank (x .phase) ≡ 1 → x ≡ askerAfter s a (txnOf s (actor a))
 still-open s a x same e = ap (withPhase x) (open-is (x .phase) e) ∙ same
@@ -234,6 +242,7 @@ leaves s begin e = rw (done-does s begin e) (record {
   held-is = quiet-held s begin nothing;
   asker-is = asker s (at s 0) _;
   snapshot-taken = rw (asker s (at s 0) (newTxn s)) (taken s);
+  read-added = tt;
   others-stay = others s (at s 0) _;
 })
 leaves s (capture t k) e = rw (done-does s (capture t k) e) (record {
@@ -244,6 +253,7 @@ leaves s (capture t k) e = rw (done-does s (capture t k) e) (record {
   held-is = captured-held s t (capture-0 s t k .0 e .0 .1) k;
   asker-is = asker s (at s t) _;
   snapshot-taken = tt;
+  read-added = rw (asker s (at s t) (capturedTxn s (txnOf s t) k)) (adds s t k);
   others-stay = others s (at s t) _;
 })
 leaves s (collect t) e = rw (done-does s (collect t) e) (record {
@@ -254,6 +264,7 @@ leaves s (collect t) e = rw (done-does s (collect t) e) (record {
   held-is = collected-held s t;
   asker-is = asker s (at s t) _;
   snapshot-taken = tt;
+  read-added = tt;
   others-stay = others s (at s t) _;
 })
 leaves s (rows t room) e = rw (done-does s (rows t room) e) (record {
@@ -264,6 +275,7 @@ leaves s (rows t room) e = rw (done-does s (rows t room) e) (record {
   held-is = quiet-held s (rows t room) nothing;
   asker-is = asker s (at s t) _;
   snapshot-taken = tt;
+  read-added = tt;
   others-stay = others s (at s t) _;
 })
 leaves s (put t r k payload) e = rw (done-does s (put t r k payload) e) (record {
@@ -274,6 +286,7 @@ leaves s (put t r k payload) e = rw (done-does s (put t r k payload) e) (record 
   held-is = quiet-held s (put t r k payload) nothing;
   asker-is = asker s (at s t) _ ∙ still-open s (put t r k payload) (writtenTxn (txnOf s t) _) refl (put-0 s t r k payload .0 e .0 .2);
   snapshot-taken = tt;
+  read-added = tt;
   others-stay = others s (at s t) _;
 })
 leaves s (erase t r) e = rw (done-does s (erase t r) e) (record {
@@ -284,6 +297,7 @@ leaves s (erase t r) e = rw (done-does s (erase t r) e) (record {
   held-is = quiet-held s (erase t r) nothing;
   asker-is = asker s (at s t) _ ∙ still-open s (erase t r) (writtenTxn (txnOf s t) _) refl (erase-0 s t r .0 e .0 .2);
   snapshot-taken = tt;
+  read-added = tt;
   others-stay = others s (at s t) _;
 })
 leaves s (prepare t) e = rw (done-does s (prepare t) e) (record {
@@ -294,6 +308,7 @@ leaves s (prepare t) e = rw (done-does s (prepare t) e) (record {
   held-is = prepared-held s t (prepare-0 s t .0 e .0 .1);
   asker-is = asker s (at s t) _;
   snapshot-taken = tt;
+  read-added = tt;
   others-stay = others s (at s t) _;
 })
 leaves s (install t) e = rw (done-does s (install t) e) (record {
@@ -304,6 +319,7 @@ leaves s (install t) e = rw (done-does s (install t) e) (record {
   held-is = quiet-held s (install t) nothing;
   asker-is = asker s (at s t) _;
   snapshot-taken = tt;
+  read-added = tt;
   others-stay = others s (at s t) _;
 })
 leaves s (end t) e = rw (done-does s (end t) e) (record {
@@ -314,6 +330,7 @@ leaves s (end t) e = rw (done-does s (end t) e) (record {
   held-is = quiet-held s (end t) nothing;
   asker-is = asker s (at s t) _;
   snapshot-taken = tt;
+  read-added = tt;
   others-stay = others s (at s t) _;
 })
 leaves s (publish t) e = rw (done-does s (publish t) e) (record {
@@ -324,6 +341,7 @@ leaves s (publish t) e = rw (done-does s (publish t) e) (record {
   held-is = published-held s t (publish-0 s t .0 e .1);
   asker-is = asker s (at s t) _;
   snapshot-taken = tt;
+  read-added = tt;
   others-stay = others s (at s t) _;
 })
 leaves s (validate t) e = rw (done-does s (validate t) e) (record {
@@ -334,6 +352,7 @@ leaves s (validate t) e = rw (done-does s (validate t) e) (record {
   held-is = quiet-held s (validate t) nothing;
   asker-is = still-open s (validate t) (txnOf s t) refl (validate-0 s t .0 e .0 .2);
   snapshot-taken = tt;
+  read-added = tt;
   others-stay = λ i d. refl;
 })
 leaves s (abort t) e = rw (done-does s (abort t) e) (record {
@@ -344,5 +363,6 @@ leaves s (abort t) e = rw (done-does s (abort t) e) (record {
   held-is = aborted-held s t (abort-0 s t .0 e .1);
   asker-is = asker s (at s t) _;
   snapshot-taken = tt;
+  read-added = tt;
   others-stay = others s (at s t) _;
 })

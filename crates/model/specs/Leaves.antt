@@ -61,6 +61,22 @@ readsAfter s (publish t) rs = []
 readsAfter s (validate t) rs = rs
 readsAfter s (abort t) rs = []
 
+-- which it is: a bucket that has an index read gets none, and another gets one with its stamp, behind the others
+abbrev pub Captures : Store → Step → List IndexRead → List IndexRead → Type 0
+Captures s begin rs rs′ = Unit {0}
+Captures s (capture t k) rs rs′ = ((r : IndexRead) → Among r rs → r .bucket ≡ bucketFor s k → rs′ ≡ rs)
+    × (((r : IndexRead) → Among r rs → r .bucket ≢ bucketFor s k) → rs′ ≡ rs ++ (record { bucket = bucketFor s k; stamp = stampFor s k } ∷ []))
+Captures s (collect t) rs rs′ = Unit {0}
+Captures s (rows t room) rs rs′ = Unit {0}
+Captures s (put t r k payload) rs rs′ = Unit {0}
+Captures s (erase t r) rs rs′ = Unit {0}
+Captures s (prepare t) rs rs′ = Unit {0}
+Captures s (install t) rs rs′ = Unit {0}
+Captures s (end t) rs rs′ = Unit {0}
+Captures s (publish t) rs rs′ = Unit {0}
+Captures s (validate t) rs rs′ = Unit {0}
+Captures s (abort t) rs rs′ = Unit {0}
+
 -- the pending writes: put and erase append
 abbrev pub writesAfter : Step → List Write → List Write
 writesAfter begin ws = []
@@ -166,6 +182,7 @@ pub record Leaves (s : Store) (a : Step) (s′ : Store) : Type 0 where
   pub held-is : HeldAfter s a (s′ .held)
   pub asker-is : s′ .txns (at s (actor a)) ≡ askerAfter s a (txnOf s (actor a))
   pub snapshot-taken : AtBegin a (TakenAt s (s′ .txns (at s (actor a)) .snapshot))
+  pub read-added : Captures s a (txnOf s (actor a) .reads) (s′ .txns (at s (actor a)) .reads)
   pub others-stay : (i : ℕ) → i ≢ at s (actor a) → s′ .txns i ≡ s .txns i
 
 -- a stale stamp leaves the mark on the transaction at place i, and nothing else
