@@ -11,7 +11,7 @@ use Rattle.model.specs.Causes.{Cause}
 use Rattle.model.specs.Given.{_and_, Ready, BucketsFree}
 use Rattle.model.specs.Demands.{ExactAnswer}
 use Rattle.model.proofs.Refused.{validate-0}
-use Rattle.model.proofs.Outcomes.{answers}
+use Rattle.model.proofs.Outcomes.{done-does, answers}
 use Rattle.model.proofs.Exact.{given-exactly}
 use Rattle.model.proofs.Leaving.{leaves}
 use Rattle.model.proofs.Marking.{marks-only, stale-eight, refused-by, refused-as-found, refused-list}
@@ -20,6 +20,7 @@ use Rattle.model.proofs.Verdicts.{verdict-cause}
 pub exact : (s : Store) (a : Step) → ExactAnswer s a
 exact s a = record {
   given-when = given-exactly s a;
+  done-does = done-does s a;
   done-answers = answers s a;
   done-leaves = leaves s a;
   refused-answers = refused-by s a;

@@ -13,7 +13,7 @@ use Rattle.model.specs.Steps.{hasRead, postedRows, oldKey, keyBefore}
 use Rattle.model.specs.Upstream.{creatorVisible, rowVisible, firstRow, pointer, matchesRow, Event, postingsOf, postingReplay, liveRows, snapshotRows, Coherent, stampAt, rawCandidates}
 use Rattle.model.specs.Refusals.{Step, Refusal, WrongShape, txnOf}
 use Rattle.model.specs.Shape.{rightShape}
-use Rattle.model.specs.Machine.{Refused, lentAfter, at, actor, step, stepIn}
+use Rattle.model.specs.Machine.{Refused, lentAfter, at, actor, accepted, step, stepIn}
 use Rattle.model.specs.History.{changing}
 use Rattle.model.specs.Holding.{Writes, Wants, Claims, Unpublished}
 use Rattle.model.specs.Given.{number, Given, StaleStamp, documented}
@@ -25,6 +25,7 @@ use Rattle.model.specs.Leaves.{Leaves, MarksOnly}
 -- any step at any store: which number, exactly when and in which order; what it answers; what it leaves of the store and of the lent list
 pub record ExactAnswer (s : Store) (a : Step) : Type 0 where
   pub given-when : (n : ℕ) → number s a ≡ n ↔ Given s a n
+  pub done-does : number s a ≡ 0 → step s a ≡ accepted s a
   pub done-answers : number s a ≡ 0 → step s a .answer ≡ documented s a
   pub done-leaves : number s a ≡ 0 → Leaves s a (step s a .store)
   pub refused-answers : number s a ≢ 0 → (r : Refusal) × (step s a .answer ≡ Refused r)
