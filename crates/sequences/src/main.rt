@@ -18,6 +18,7 @@ use steps_by_name::MOST_FOUND;
 use steps_by_name::ROWS_LENT;
 use steps_by_name::VERSIONS_LENT;
 use steps_by_name::any_step;
+use steps_by_name::lent;
 use turns::Turned;
 use turns::open;
 ghost use Prim.Native.Nat.{_≤_};
@@ -125,16 +126,6 @@ fn any_line(
         numbers: numbers,
         machine: machine,
     }
-}
-
-// How much of a table is lent: all but the words that are held back.
-fn lent(most: usize, back: u64) -> usize
-    ensures { λ r. ⌜ r ≤ most ⌝ }
-{
-    if back < most as u64 {
-        return most - back as usize;
-    }
-    0
 }
 
 // Open, in tables of which some words may be held back.

@@ -151,6 +151,41 @@ fn read_rows(
     )
 }
 
+// How much of a table is lent: all but the words that are held back.
+pub fn lent(most: usize, back: u64) -> usize
+    ensures { λ r. ⌜ r ≤ most ⌝ }
+{
+    if back < most as u64 {
+        return most - back as usize;
+    }
+    0
+}
+
+// Begin, in tables of which some words may be held back.
+fn begun(
+    rows_table: &mut [u64],
+    versions: &mut [u64],
+    buckets: &mut [u64],
+    lists: &mut [u64],
+    m: Machine,
+    rows_back: u64,
+    versions_back: u64,
+    buckets_back: u64,
+    lists_back: u64,
+) -> Turned {
+    let rows_lent = lent(rows_table.len(), rows_back);
+    let versions_lent = lent(versions.len(), versions_back);
+    let buckets_lent = lent(buckets.len(), buckets_back);
+    let lists_lent = lent(lists.len(), lists_back);
+    begin(
+        &mut rows_table[..rows_lent],
+        &mut versions[..versions_lent],
+        &mut buckets[..buckets_lent],
+        &mut lists[..lists_lent],
+        m,
+    )
+}
+
 // Begin to rows, and then the others.
 pub fn any_step(
     rows_table: &mut [u64; ROWS_LENT],
@@ -166,7 +201,7 @@ pub fn any_step(
     d: u64,
 ) -> Turned {
     if name == BEGIN {
-        return begin(rows_table, versions, buckets, lists, m);
+        return begun(rows_table, versions, buckets, lists, m, a, b, c, d);
     }
     if name == CAPTURE {
         return capture(rows_table, versions, buckets, lists, m, a, b);
