@@ -1,70 +1,107 @@
--- Changes of a state that are no steps, each by its name.
-use Prim.Native.Nat.{ℕ, _+_, _*_, _%_}
+-- A word of a state by its name: what stands there, and the state with another word there.
+use Prim.Native.Nat.{ℕ, _+_, _*_, _-_}
 use mathlib.Core.Bool.{cond}
 use mathlib.Core.List.{List}
-use lib.Dec.{eqb, ltb}
-use lib.ListN.{getD, set}
-use Rattle.limits.specs.Limits.{mostLive}
-use Rattle.tables.specs.Fields.{setHead, setXmin, setXmax, setNext, setStamp, setHolder}
+use lib.Dec.{ltb}
+use lib.ListN.{length, getD, set}
+use Rattle.limits.specs.Limits.{mostLive, mostActive, lastNumber}
+use Rattle.tables.specs.Fields.{rowWords, versionWords, bucketWords}
+use Rattle.tables.specs.Lists.{Kind, reads, writes, records, candidates, placeOf}
 use Rattle.record.specs.Methods.{idleOf}
 use Rattle.record.specs.declared.Transaction.{Transaction}
 use Rattle.shape.specs.declared.Machine.{Machine}
+use Rattle.changes.specs.WordNames.{wordNamed}
+use Rattle.changes.specs.RecordWords.{recordWords, recordOf, ownWords, ownOf}
+use Rattle.changes.specs.declared.Seen.{Seen}
+use Rattle.changes.specs.declared.Seen.the-variants.{Word, Missing}
 
--- a name, by its first three letters
-abbrev pub named : ℕ → ℕ → ℕ → ℕ
-named a b c = a * 65536 + b * 256 + c
-
--- hea(d) of a row
-unfoldable pub changedRows : List ℕ → ℕ → ℕ → ℕ → List ℕ
-changedRows rows name row x = cond (eqb name (named 104 101 97)) (setHead rows row x) rows
-
--- xmi(n), xma(x), nex(t) of a version
-unfoldable pub changedVersions : List ℕ → ℕ → ℕ → ℕ → List ℕ
-changedVersions versions name ptr x =
-    cond (eqb name (named 120 109 105)) (setXmin versions ptr x)
-    (cond (eqb name (named 120 109 97)) (setXmax versions ptr x)
-    (cond (eqb name (named 110 101 120)) (setNext versions ptr x) versions))
-
--- sta(mp), hol(der) of a bucket
-unfoldable pub changedBuckets : List ℕ → ℕ → ℕ → ℕ → List ℕ
-changedBuckets buckets name bucket x =
-    cond (eqb name (named 115 116 97)) (setStamp buckets bucket x)
-    (cond (eqb name (named 104 111 108)) (setHolder buckets bucket x) buckets)
-
--- the three tables
-pub record Tables : Type 0 where
+-- the lent tables and the machine
+pub record State : Type 0 where
   pub rows : List ℕ
   pub versions : List ℕ
   pub buckets : List ℕ
+  pub lists : List ℕ
+  pub machine : Machine
 
--- a change of one word of a table
-abbrev pub changedTables : Tables → ℕ → ℕ → ℕ → Tables
-changedTables t name at x = record { rows = changedRows (t .rows) name at x; versions = changedVersions (t .versions) name at x; buckets = changedBuckets (t .buckets) name at x }
+-- ---- where a word stands
 
--- one part of a record anew
-abbrev pub withNumber : Transaction → ℕ → Transaction
-withNumber t n = record { number = n; snapshot = t .snapshot; marked = t .marked; phase = t .phase; slot = t .slot; «reads_n» = t .«reads_n»; «writes_n» = t .«writes_n»; «records_n» = t .«records_n»; «candidates_n» = t .«candidates_n» }
+-- no word stands here
+abbrev pub nowhere : ℕ
+nowhere = lastNumber
 
-abbrev pub withSlot : Transaction → ℕ → Transaction
-withSlot t s = record { number = t .number; snapshot = t .snapshot; marked = t .marked; phase = t .phase; slot = s; «reads_n» = t .«reads_n»; «writes_n» = t .«writes_n»; «records_n» = t .«records_n»; «candidates_n» = t .«candidates_n» }
+-- word f of entry i, below n, where an entry has w words
+abbrev pub entryPlace : ℕ → ℕ → ℕ → ℕ → ℕ
+entryPlace n w f i = cond (ltb i n) (w * i + f) nowhere
 
-abbrev pub withLeast : Transaction → ℕ → Transaction
-withLeast t n = record { number = t .number; snapshot = record { xmin = n; xmax = t .snapshot .xmax; active = t .snapshot .active; «active_n» = t .snapshot .«active_n» }; marked = t .marked; phase = t .phase; slot = t .slot; «reads_n» = t .«reads_n»; «writes_n» = t .«writes_n»; «records_n» = t .«records_n»; «candidates_n» = t .«candidates_n» }
+-- word f of entry i of a list of the record at a place
+abbrev pub listPlace : Kind → ℕ → ℕ → ℕ → ℕ
+listPlace k f place i = cond (ltb place mostLive) (cond (ltb i (k .room)) (placeOf k place i + f) nowhere) nowhere
 
--- num(ber), slo(t), and the snapshot's xmin, the lea(st), of a record
-unfoldable pub changedRecord : Transaction → ℕ → ℕ → Transaction
-changedRecord t name x =
-    cond (eqb name (named 110 117 109)) (withNumber t x)
-    (cond (eqb name (named 115 108 111)) (withSlot t (x % mostLive))
-    (cond (eqb name (named 108 101 97)) (withLeast t x) t))
+-- of the words of the lists, by number: two of an index read, four of a write, three of a read record, one of a candidate
+unfoldable pub listsPlace : ℕ → ℕ → ℕ → ℕ
+listsPlace k place i =
+    cond (ltb k 2) (listPlace reads k place i)
+    (cond (ltb k 6) (listPlace writes (k - 2) place i)
+    (cond (ltb k 9) (listPlace records (k - 6) place i)
+    (listPlace candidates 0 place i)))
 
--- the record at a place, if there is one
-abbrev pub changedAt : List Transaction → ℕ → ℕ → ℕ → List Transaction
-changedAt ts name place x = cond (ltb place mostLive) (set ts place (changedRecord (getD ts place (idleOf place)) name x)) ts
+-- among the words of a record: its thirteen parts, and then active number i
+abbrev pub recordPlace : ℕ → ℕ → ℕ
+recordPlace k i = cond (ltb k 13) k (cond (ltb i mostActive) (13 + i) nowhere)
 
--- clo(ck), use(d), or the record at a place
-unfoldable pub changedMachine : Machine → ℕ → ℕ → ℕ → Machine
-changedMachine m name a x =
-    cond (eqb name (named 99 108 111)) (record { sizes = m .sizes; clock = a; used = m .used; txns = m .txns })
-    (cond (eqb name (named 117 115 101)) (record { sizes = m .sizes; clock = m .clock; used = a; txns = m .txns })
-    (record { sizes = m .sizes; clock = m .clock; used = m .used; txns = changedAt (m .txns) name a x }))
+-- ---- what stands there
+
+abbrev pub seenAt : List ℕ → ℕ → Seen
+seenAt ws at = cond (ltb at (length ws)) (Word (getD ws at 0)) Missing
+
+-- a word of the record at a place, or one of the machine's own
+unfoldable pub machineSeen : Machine → ℕ → ℕ → ℕ → Seen
+machineSeen m k place i =
+    cond (ltb k 14) (cond (ltb place mostLive) (seenAt (recordWords (getD (m .txns) place (idleOf place))) (recordPlace k i)) Missing)
+    (seenAt (ownWords m) (k - 14))
+
+unfoldable pub wordSeen : State → ℕ → ℕ → ℕ → Seen
+wordSeen s k a b =
+    cond (ltb k 4) (seenAt (s .rows) (entryPlace (length (s .rows)) rowWords k a))
+    (cond (ltb k 10) (seenAt (s .versions) (entryPlace (length (s .versions)) versionWords (k - 4) a))
+    (cond (ltb k 12) (seenAt (s .buckets) (entryPlace (length (s .buckets)) bucketWords (k - 10) a))
+    (cond (ltb k 22) (seenAt (s .lists) (listsPlace (k - 12) a b))
+    (machineSeen (s .machine) (k - 22) a b))))
+
+-- the word of this name, of entry a, or of the record at place a and there of entry b
+abbrev pub lookOf : State → ℕ → ℕ → ℕ → Seen
+lookOf s name a b = wordSeen s (wordNamed name) a b
+
+-- ---- another word there
+
+unfoldable pub machineChanged : Machine → ℕ → ℕ → ℕ → ℕ → Machine
+machineChanged m k place i x =
+    cond (ltb k 14) (cond (ltb place mostLive) (record { sizes = m .sizes; clock = m .clock; used = m .used; txns = set (m .txns) place (recordOf (set (recordWords (getD (m .txns) place (idleOf place))) (recordPlace k i) x)) }) m)
+    (ownOf (m .txns) (set (ownWords m) (k - 14) x))
+
+abbrev pub withRows : State → List ℕ → State
+withRows s ws = record { rows = ws; versions = s .versions; buckets = s .buckets; lists = s .lists; machine = s .machine }
+
+abbrev pub withVersions : State → List ℕ → State
+withVersions s ws = record { rows = s .rows; versions = ws; buckets = s .buckets; lists = s .lists; machine = s .machine }
+
+abbrev pub withBuckets : State → List ℕ → State
+withBuckets s ws = record { rows = s .rows; versions = s .versions; buckets = ws; lists = s .lists; machine = s .machine }
+
+abbrev pub withLists : State → List ℕ → State
+withLists s ws = record { rows = s .rows; versions = s .versions; buckets = s .buckets; lists = ws; machine = s .machine }
+
+abbrev pub withMachine : State → Machine → State
+withMachine s m = record { rows = s .rows; versions = s .versions; buckets = s .buckets; lists = s .lists; machine = m }
+
+unfoldable pub wordChanged : State → ℕ → ℕ → ℕ → ℕ → State
+wordChanged s k a b x =
+    cond (ltb k 4) (withRows s (set (s .rows) (entryPlace (length (s .rows)) rowWords k a) x))
+    (cond (ltb k 10) (withVersions s (set (s .versions) (entryPlace (length (s .versions)) versionWords (k - 4) a) x))
+    (cond (ltb k 12) (withBuckets s (set (s .buckets) (entryPlace (length (s .buckets)) bucketWords (k - 10) a) x))
+    (cond (ltb k 22) (withLists s (set (s .lists) (listsPlace (k - 12) a b) x))
+    (withMachine s (machineChanged (s .machine) (k - 22) a b x)))))
+
+-- the state with another word of this name
+abbrev pub changeOf : State → ℕ → ℕ → ℕ → ℕ → State
+changeOf s name a b x = wordChanged s (wordNamed name) a b x

@@ -1,1 +1,3 @@
+pub mod WordNames
+pub mod RecordWords
 pub mod Changes

@@ -1,19 +1,32 @@
-// A step written as a text: its name and its numbers, then `:` and document 01's number and values of the answer, as `capture 3 6: 0 2;`.
+// A line written as a text: its name and its numbers, then a sign, and the numbers behind it.
+// `capture 3 6: 0 2;` is a step and its answer, `stamp 2? 5;` a look at a word and what stands there, `stamp 2 = 9;` a change of it.
 ghost use mathlib.Core.Path.{_≡_};
 ghost use mathlib.Core.Bool.{_&&_};
 ghost use Prim.Native.Nat.{_+_, _*_, _%_, _^_};
 ghost use lib.Dec.{leb};
 ghost use lib.ListN.{getD};
-ghost use Rattle.script.specs.Script.{emptyLine, withLetter, withDigit, endedLine, withByte, stepEnd, lineOf};
+ghost use Rattle.script.specs.Names.{letterMore};
+ghost use Rattle.script.specs.Script.{isSign, emptyLine, withLetter, withDigit, endedLine, withByte, stepEnd, lineOf};
 
-// The answer's numbers stand from this place on; a step has as many places, and so has its answer.
+// The numbers behind the sign stand from this place on; there are as many places before it as behind it.
 pub const ANSWER: usize = 8;
 
 const PLACES: usize = 16;
 
-// A step as it is read: its name's first three letters as a number, its numbers, the place of the next one, and the digits read of it.
+// The signs of a step, of a look and of a change.
+pub const STEP: u8 = b':';
+
+pub const LOOK: u8 = b'?';
+
+pub const CHANGE: u8 = b'=';
+
+// What more than eight letters make: no name.
+const NO_NAME: u64 = 18446744073709551615;
+
+// A line as it is read: its name's letters as a number, its sign (0 before it is read), its numbers, the place of the next one, and the digits read of it.
 pub struct Line {
     pub name: u64,
+    pub sign: u8,
     pub numbers: [u64; PLACES],
     pub at: usize,
     pub value: u64,
@@ -50,15 +63,36 @@ fn longer(value: u64, digit: u64) -> u64
     std::num::wrapping_add_u64(std::num::wrapping_add_u64(eight, two), digit)
 }
 
+// A letter more of a name, which has at most eight.
+fn letter_more(name: u64, c: u8) -> u64
+    ensures { λ r. ⌜ r ≡ letterMore name c ⌝ }
+{
+    if name < 72057594037927936 {
+        return name * 256 + c as u64;
+    }
+    NO_NAME
+}
+
+// Whether a byte is one of the three signs.
+fn is_sign(c: u8) -> bool
+    ensures { λ r. ⌜ r ≡ isSign c ⌝ }
+{
+    if c == STEP {
+        return true;
+    }
+    if c == LOOK {
+        return true;
+    }
+    c == CHANGE
+}
+
 impl Line {
-    // A letter more of the name; those behind the third are not kept.
+    // A letter more of the name.
     fn lettered(self, c: u8) -> Line
         ensures { λ r. ⌜ r ≡ withLetter self c ⌝ }
     {
         let mut line = self;
-        if self.name < 65536 {
-            line.name = self.name * 256 + c as u64;
-        }
+        line.name = letter_more(self.name, c);
         line
     }
 
@@ -91,7 +125,7 @@ impl Line {
         line
     }
 
-    // One byte more: a digit, a letter, the colon before the answer, or what parts them.
+    // One byte more: a digit, a letter, a sign, or what parts them.
     fn with(self, c: u8) -> Line
         ensures { λ r. ⌜ r ≡ withByte self c ⌝ }
     {
@@ -102,7 +136,8 @@ impl Line {
             return self.lettered(c);
         }
         let mut line = self.ended();
-        if c == b':' {
+        if is_sign(c) {
+            line.sign = c;
             line.at = ANSWER;
         }
         line
@@ -114,6 +149,7 @@ fn empty() -> Line
 {
     Line {
         name: 0,
+        sign: 0,
         numbers: [0; PLACES],
         at: 0,
         value: 0,
@@ -121,7 +157,7 @@ fn empty() -> Line
     }
 }
 
-// Where the step at a place ends: behind its `;`, or where the text ends.
+// Where the line at a place ends: behind its `;`, or where the text ends.
 pub fn step_end(text: &[u8], from: usize) -> usize
     ensures { λ r. ⌜ r ≡ stepEnd (now (text .entry)) from ⌝ }
 {
@@ -135,7 +171,7 @@ pub fn step_end(text: &[u8], from: usize) -> usize
     at
 }
 
-// The step that is written from a place up to another.
+// The line that is written from a place up to another.
 pub fn line_of(text: &[u8], from: usize, to: usize) -> Line
     ensures { λ r. ⌜ r ≡ lineOf (now (text .entry)) from to ⌝ }
 {

@@ -1,205 +1,156 @@
-// Plays the sequences of public steps in data/sequences.txt: a line has a name, the next the steps and the answers that document 01 asks for.
-// After the values of rows come the rows. Names that document 01 has not change a word of the state, as `stamp 2 9: 0;`.
+// Plays the sequences in data/: a line has a name, the next the steps and the answers that document 01 asks for, and among them looks at words and changes of them.
+// After the values of rows come the rows. data/README.md has the grammar and the names.
 use answers::Numbers;
 use answers::numbers_of;
-use changes::changed_machine;
-use changes::changed_table;
-use finishing::abort;
-use finishing::end;
-use finishing::install;
-use finishing::publish;
-use limits::MOST_LIVE;
-use limits::MOST_ROWS;
-use protocol::Answer;
-use reading::begin;
-use reading::capture;
-use reading::collect;
-use reading::rows;
+use changes::Seen;
+use changes::change;
+use changes::look;
 use script::ANSWER;
+use script::CHANGE;
 use script::Line;
+use script::STEP;
 use script::line_of;
 use script::step_end;
 use shape::Machine;
-use tables::BUCKET_WORDS;
-use tables::ROW_WORDS;
-use tables::VERSION_WORDS;
-use tables::lists::SLOT_WORDS;
+use steps_by_name::BUCKETS_LENT;
+use steps_by_name::LISTS_LENT;
+use steps_by_name::MOST_FOUND;
+use steps_by_name::ROWS_LENT;
+use steps_by_name::VERSIONS_LENT;
+use steps_by_name::any_step;
+use steps_by_name::lent;
 use turns::Turned;
 use turns::open;
-use writing::erase;
-use writing::prepare;
-use writing::put;
-use writing::validate;
 ghost use Prim.Native.Nat.{_≤_};
 ghost use lib.ListN.{length};
 
-// Words of the lent tables: all rows, 511 versions, 64 buckets, and the lists of all transactions; and the room for rows.
-const ROWS_LENT: usize = MOST_ROWS * ROW_WORDS;
+mod steps_by_name; // steps_by_name.rt: a call for each step
 
-const VERSIONS_LENT: usize = 512 * VERSION_WORDS;
+// The name of the first step, by its letters.
+const OPEN: u64 = 0x6f70656e;
 
-const BUCKETS_LENT: usize = 64 * BUCKET_WORDS;
+// What a line answers in numbers, and the machine behind it.
+struct Told {
+    numbers: Numbers,
+    machine: Machine,
+}
 
-const LISTS_LENT: usize = MOST_LIVE * SLOT_WORDS;
-
-const MOST_FOUND: usize = MOST_ROWS;
-
-// The steps' names, by their first three letters.
-const BEGIN: u64 = b'b' as u64 * 65536 + b'e' as u64 * 256 + b'g' as u64;
-
-const CAPTURE: u64 = b'c' as u64 * 65536 + b'a' as u64 * 256 + b'p' as u64;
-
-const COLLECT: u64 = b'c' as u64 * 65536 + b'o' as u64 * 256 + b'l' as u64;
-
-const ROWS: u64 = b'r' as u64 * 65536 + b'o' as u64 * 256 + b'w' as u64;
-
-const PUT: u64 = b'p' as u64 * 65536 + b'u' as u64 * 256 + b't' as u64;
-
-const ERASE: u64 = b'e' as u64 * 65536 + b'r' as u64 * 256 + b'a' as u64;
-
-const VALIDATE: u64 = b'v' as u64 * 65536 + b'a' as u64 * 256 + b'l' as u64;
-
-const PREPARE: u64 = b'p' as u64 * 65536 + b'r' as u64 * 256 + b'e' as u64;
-
-const INSTALL: u64 = b'i' as u64 * 65536 + b'n' as u64 * 256 + b's' as u64;
-
-const END: u64 = b'e' as u64 * 65536 + b'n' as u64 * 256 + b'd' as u64;
-
-const PUBLISH: u64 = b'p' as u64 * 65536 + b'u' as u64 * 256 + b'b' as u64;
-
-const ABORT: u64 = b'a' as u64 * 65536 + b'b' as u64 * 256 + b'o' as u64;
-
-// A change of the state that is no step.
-fn changed(
-    rows_table: &mut [u64; ROWS_LENT],
-    versions: &mut [u64; VERSIONS_LENT],
-    buckets: &mut [u64; BUCKETS_LENT],
-    m: Machine,
-    name: u64,
-    a: u64,
-    b: u64,
-) -> Turned {
-    changed_table(rows_table, versions, buckets, name, a, b);
-    let machine = changed_machine(m, name, a, b);
-    Turned {
-        answer: Answer::Done,
-        machine: machine,
+// A word that was looked at in numbers; none where there is no such word.
+fn seen_numbers(seen: Seen) -> Numbers {
+    match seen {
+        Seen::Word(word) => Numbers {
+            list: [word, 0, 0, 0, 0],
+            count: 1,
+            rows: 0,
+        },
+        Seen::Missing => Numbers {
+            list: [0, 0, 0, 0, 0],
+            count: 0,
+            rows: 0,
+        },
     }
 }
 
-// Install to abort; another name changes the state.
-fn finishing_step(
+// A look at a word, and before it another word there where the line is a change.
+fn any_word(
     rows_table: &mut [u64; ROWS_LENT],
     versions: &mut [u64; VERSIONS_LENT],
     buckets: &mut [u64; BUCKETS_LENT],
     lists: &mut [u64; LISTS_LENT],
     m: Machine,
-    name: u64,
-    a: u64,
-    b: u64,
-) -> Turned {
-    if name == INSTALL {
-        return install(rows_table, versions, buckets, lists, m, a);
+    line: Line,
+) -> Told {
+    let n = line.numbers;
+    let mut machine = m;
+    if line.sign == CHANGE {
+        machine = change(
+            rows_table,
+            versions,
+            buckets,
+            lists,
+            m,
+            line.name,
+            n[0],
+            n[1],
+            n[ANSWER],
+        );
     }
-    if name == END {
-        return end(rows_table, versions, buckets, lists, m, a);
-    }
-    if name == PUBLISH {
-        return publish(rows_table, versions, buckets, lists, m, a);
-    }
-    if name == ABORT {
-        return abort(rows_table, versions, buckets, lists, m, a);
-    }
-    changed(rows_table, versions, buckets, m, name, a, b)
-}
-
-// Put to prepare, and then the others.
-fn writing_step(
-    rows_table: &mut [u64; ROWS_LENT],
-    versions: &mut [u64; VERSIONS_LENT],
-    buckets: &mut [u64; BUCKETS_LENT],
-    lists: &mut [u64; LISTS_LENT],
-    m: Machine,
-    name: u64,
-    a: u64,
-    b: u64,
-    c: u64,
-    d: u64,
-) -> Turned {
-    if name == PUT {
-        return put(rows_table, versions, buckets, lists, m, a, b, c, d);
-    }
-    if name == ERASE {
-        return erase(rows_table, versions, buckets, lists, m, a, b);
-    }
-    if name == VALIDATE {
-        return validate(rows_table, versions, buckets, lists, m, a);
-    }
-    if name == PREPARE {
-        return prepare(rows_table, versions, buckets, lists, m, a);
-    }
-    finishing_step(rows_table, versions, buckets, lists, m, name, a, b)
-}
-
-// How much of the list is lent: the room that rows names, or all of it.
-fn room_of(room: u64, most: usize) -> usize
-    ensures { λ r. ⌜ r ≤ most ⌝ }
-{
-    if room < most as u64 {
-        return room as usize;
-    }
-    most
-}
-
-fn read_rows(
-    rows_table: &mut [u64; ROWS_LENT],
-    versions: &mut [u64; VERSIONS_LENT],
-    buckets: &mut [u64; BUCKETS_LENT],
-    lists: &mut [u64; LISTS_LENT],
-    found: &mut [u64],
-    m: Machine,
-    number: u64,
-    room: u64,
-) -> Turned {
-    let lent = room_of(room, found.len());
-    rows(
+    let seen = look(
         rows_table,
         versions,
         buckets,
         lists,
-        &mut found[..lent],
-        m,
-        number,
-    )
+        machine,
+        line.name,
+        n[0],
+        n[1],
+    );
+    let numbers = seen_numbers(seen);
+    Told {
+        numbers: numbers,
+        machine: machine,
+    }
 }
 
-// Begin to rows, and then the others.
-fn any_step(
+// A step, or a word.
+fn any_line(
     rows_table: &mut [u64; ROWS_LENT],
     versions: &mut [u64; VERSIONS_LENT],
     buckets: &mut [u64; BUCKETS_LENT],
     lists: &mut [u64; LISTS_LENT],
     found: &mut [u64; MOST_FOUND],
     m: Machine,
-    name: u64,
-    a: u64,
-    b: u64,
-    c: u64,
-    d: u64,
+    line: Line,
+) -> Told {
+    let n = line.numbers;
+    if line.sign != STEP {
+        return any_word(rows_table, versions, buckets, lists, m, line);
+    }
+    let turned = any_step(
+        rows_table,
+        versions,
+        buckets,
+        lists,
+        found,
+        m,
+        line.name,
+        n[0],
+        n[1],
+        n[2],
+        n[3],
+    );
+    let answer = turned.answer;
+    let machine = turned.machine;
+    let numbers = numbers_of(answer);
+    Told {
+        numbers: numbers,
+        machine: machine,
+    }
+}
+
+// Open, in tables of which some words may be held back.
+fn opened(
+    rows_table: &mut [u64],
+    versions: &mut [u64],
+    buckets: &mut [u64],
+    lists: &[u64],
+    line: Line,
 ) -> Turned {
-    if name == BEGIN {
-        return begin(rows_table, versions, buckets, lists, m);
-    }
-    if name == CAPTURE {
-        return capture(rows_table, versions, buckets, lists, m, a, b);
-    }
-    if name == COLLECT {
-        return collect(rows_table, versions, buckets, lists, m, a);
-    }
-    if name == ROWS {
-        return read_rows(rows_table, versions, buckets, lists, found, m, a, b);
-    }
-    writing_step(rows_table, versions, buckets, lists, m, name, a, b, c, d)
+    let n = line.numbers;
+    let rows_lent = lent(rows_table.len(), n[4]);
+    let versions_lent = lent(versions.len(), n[5]);
+    let buckets_lent = lent(buckets.len(), n[6]);
+    let lists_lent = lent(lists.len(), n[7]);
+    open(
+        &mut rows_table[..rows_lent],
+        &mut versions[..versions_lent],
+        &mut buckets[..buckets_lent],
+        &lists[..lists_lent],
+        n[0],
+        n[1],
+        n[2],
+        n[3],
+    )
 }
 
 // How many numbers an answer has, as far as a written step has room for them: its own, and the rows found.
@@ -231,11 +182,11 @@ fn said_at(told: Numbers, found: &[u64; MOST_FOUND], i: usize) -> u64 {
     0
 }
 
-// Whether the answer is the expected one.
+// Whether the answer is the expected one; a line that expects no number is none.
 fn expected(told: Numbers, found: &[u64; MOST_FOUND], line: Line) -> bool {
     let asked = line.numbers;
     let mut i: usize = 0;
-    if line.at < ANSWER {
+    if line.at <= ANSWER {
         return false;
     }
     if line.at - ANSWER != said(told) {
@@ -250,11 +201,15 @@ fn expected(told: Numbers, found: &[u64; MOST_FOUND], line: Line) -> bool {
     true
 }
 
-// What differed: which step, and the number and the value that it answered.
-fn differed(step: u64, told: Numbers) {
+// What differed: which line, and the number and the value that it answered, or that it names no word.
+fn differed(line: u64, told: Numbers) {
     let numbers = told.list;
-    io::write_all(1, b": step ");
-    io::print_decimal(1, step);
+    io::write_all(1, b": line ");
+    io::print_decimal(1, line);
+    if told.count == 0 {
+        io::write_all(1, b" names no word\n");
+        return;
+    }
     io::write_all(1, b" answered ");
     io::print_decimal(1, numbers[0]);
     io::write_all(1, b" ");
@@ -271,22 +226,16 @@ fn play(name: &[u8], text: &[u8]) {
     let mut found = [7u64; MOST_FOUND];
     let mut at = step_end(text, 0);
     let first = line_of(text, 0, at);
-    let sizes = first.numbers;
-    let opened = open(
-        &mut rows_table,
-        &mut versions,
-        &mut buckets,
-        &lists,
-        sizes[0],
-        sizes[1],
-        sizes[2],
-        sizes[3],
-    );
-    let answer = opened.answer;
-    let mut m = opened.machine;
+    let turned = opened(&mut rows_table, &mut versions, &mut buckets, &lists, first);
+    let answer = turned.answer;
+    let mut m = turned.machine;
     let mut step: u64 = 1;
     io::write_all(1, name);
     let begun = numbers_of(answer);
+    if first.name != OPEN {
+        differed(step, begun);
+        return;
+    }
     if !expected(begun, &found, first) {
         differed(step, begun);
         return;
@@ -294,26 +243,20 @@ fn play(name: &[u8], text: &[u8]) {
     while at < text.len() {
         let next = step_end(text, at);
         let line = line_of(text, at, next);
-        let n = line.numbers;
-        let turned = any_step(
+        let told = any_line(
             &mut rows_table,
             &mut versions,
             &mut buckets,
             &mut lists,
             &mut found,
             m,
-            line.name,
-            n[0],
-            n[1],
-            n[2],
-            n[3],
+            line,
         );
-        let gave = turned.answer;
-        m = turned.machine;
-        let told = numbers_of(gave);
+        let numbers = told.numbers;
+        m = told.machine;
         step = std::num::wrapping_add_u64(step, 1);
-        if !expected(told, &found, line) {
-            differed(step, told);
+        if !expected(numbers, &found, line) {
+            differed(step, numbers);
             return;
         }
         at = next;
@@ -351,14 +294,21 @@ fn play_all(file: &[u8]) {
     }
 }
 
-fn main() {
+fn play_file(path: &[u8]) {
     let mut space = io::large_buffer();
-    let fd = os::open_read(b"sequences.txt");
+    let fd = os::open_read(path);
     if fd < 0 {
-        os::fail(b"sequences.txt");
+        os::fail(path);
         return;
     }
     let n = io::read_full(fd, &mut space);
     libc::close(fd);
     play_all(&space[..n]);
+}
+
+fn main() {
+    play_file(b"steps.txt");
+    play_file(b"shape.txt");
+    play_file(b"words.txt");
+    play_file(b"limits.txt");
 }

@@ -14,6 +14,9 @@ abbrev μ-loop : tie.MeasureT-loop
 returns : tie.Need-returns Inv-loop μ-loop
 returns c = search needs
 
+sub-if2 : tie.Need-sub-if2 Inv-loop μ-loop
+sub-if2 c = search needs
+
 said-requires : tie.Need-said-requires Inv-loop μ-loop
 said-requires c κs = tt
 
@@ -57,6 +60,7 @@ expected-spec =
     Inv-loop
     μ-loop
     returns
+    sub-if2
     said-requires
     returns-2
     loop-holds

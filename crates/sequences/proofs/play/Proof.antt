@@ -9,10 +9,10 @@ use Rattle.sequences.proofs.play.Statement.{statement}
 use Rattle.sequences.proofs.play.Tie as tie
 
 abbrev Inv-loop : tie.InvT-loop
-Inv-loop name text rows-table₀ versions₀ buckets₀ lists₀ found₀ at₀ m₀ step₀ t22 rows-table versions buckets lists found at m step = Unit
+Inv-loop name text rows-table₀ versions₀ buckets₀ lists₀ found₀ at₀ m₀ step₀ t19 rows-table versions buckets lists found at m step = Unit
 
 abbrev μ-loop : tie.MeasureT-loop
-μ-loop name text rows-table₀ versions₀ buckets₀ lists₀ found₀ at₀ m₀ step₀ t22 rows-table versions buckets lists found at m step = length text - at
+μ-loop name text rows-table₀ versions₀ buckets₀ lists₀ found₀ at₀ m₀ step₀ t19 rows-table versions buckets lists found at m step = length text - at
 
 step-end-requires : tie.Need-step-end-requires Inv-loop μ-loop
 step-end-requires c κs = tt
@@ -20,32 +20,20 @@ step-end-requires c κs = tt
 line-of-requires : tie.Need-line-of-requires Inv-loop μ-loop
 line-of-requires c κs = tt
 
-slice-aggregate-open : tie.Need-slice-aggregate-open Inv-loop μ-loop
-slice-aggregate-open c = search needs
+slice-aggregate-opened : tie.Need-slice-aggregate-opened Inv-loop μ-loop
+slice-aggregate-opened c = search needs
 
-slice-aggregate-open-2 : tie.Need-slice-aggregate-open-2 Inv-loop μ-loop
-slice-aggregate-open-2 c = search needs
+slice-aggregate-opened-2 : tie.Need-slice-aggregate-opened-2 Inv-loop μ-loop
+slice-aggregate-opened-2 c = search needs
 
-slice-aggregate-open-3 : tie.Need-slice-aggregate-open-3 Inv-loop μ-loop
-slice-aggregate-open-3 c = search needs
+slice-aggregate-opened-3 : tie.Need-slice-aggregate-opened-3 Inv-loop μ-loop
+slice-aggregate-opened-3 c = search needs
 
-slice-aggregate-open-4 : tie.Need-slice-aggregate-open-4 Inv-loop μ-loop
-slice-aggregate-open-4 c = search needs
+slice-aggregate-opened-4 : tie.Need-slice-aggregate-opened-4 Inv-loop μ-loop
+slice-aggregate-opened-4 c = search needs
 
-array-read-open : tie.Need-array-read-open Inv-loop μ-loop
-array-read-open c = search needs
-
-array-read-open-2 : tie.Need-array-read-open-2 Inv-loop μ-loop
-array-read-open-2 c = search needs
-
-array-read-open-3 : tie.Need-array-read-open-3 Inv-loop μ-loop
-array-read-open-3 c = search needs
-
-array-read-open-4 : tie.Need-array-read-open-4 Inv-loop μ-loop
-array-read-open-4 c = search needs
-
-open-requires : tie.Need-open-requires Inv-loop μ-loop
-open-requires c κs = tt
+opened-requires : tie.Need-opened-requires Inv-loop μ-loop
+opened-requires c κs = tt
 
 write-all-requires : tie.Need-write-all-requires Inv-loop μ-loop
 write-all-requires c κs = tt
@@ -53,14 +41,20 @@ write-all-requires c κs = tt
 numbers-of-requires : tie.Need-numbers-of-requires Inv-loop μ-loop
 numbers-of-requires c κs = tt
 
-expected-requires : tie.Need-expected-requires Inv-loop μ-loop
-expected-requires c κs = tt
-
 differed-requires : tie.Need-differed-requires Inv-loop μ-loop
 differed-requires c κs = tt
 
 returns : tie.Need-returns Inv-loop μ-loop
 returns c = search needs
+
+expected-requires : tie.Need-expected-requires Inv-loop μ-loop
+expected-requires c κs = tt
+
+differed-requires-2 : tie.Need-differed-requires-2 Inv-loop μ-loop
+differed-requires-2 c κs = tt
+
+returns-2 : tie.Need-returns-2 Inv-loop μ-loop
+returns-2 c = search needs
 
 loop-holds : tie.Need-loop-holds Inv-loop μ-loop
 loop-holds c = tt
@@ -71,23 +65,8 @@ step-end-requires-2 c κs = tt
 line-of-requires-2 : tie.Need-line-of-requires-2 Inv-loop μ-loop
 line-of-requires-2 c κs = tt
 
-array-read-any-step : tie.Need-array-read-any-step Inv-loop μ-loop
-array-read-any-step c = search needs
-
-array-read-any-step-2 : tie.Need-array-read-any-step-2 Inv-loop μ-loop
-array-read-any-step-2 c = search needs
-
-array-read-any-step-3 : tie.Need-array-read-any-step-3 Inv-loop μ-loop
-array-read-any-step-3 c = search needs
-
-array-read-any-step-4 : tie.Need-array-read-any-step-4 Inv-loop μ-loop
-array-read-any-step-4 c = search needs
-
-any-step-requires : tie.Need-any-step-requires Inv-loop μ-loop
-any-step-requires c κs = tt
-
-numbers-of-requires-2 : tie.Need-numbers-of-requires-2 Inv-loop μ-loop
-numbers-of-requires-2 c κs = tt
+any-line-requires : tie.Need-any-line-requires Inv-loop μ-loop
+any-line-requires c κs = tt
 
 wrapping-add-u64-requires : tie.Need-wrapping-add-u64-requires Inv-loop μ-loop
 wrapping-add-u64-requires c κs = tt
@@ -95,14 +74,14 @@ wrapping-add-u64-requires c κs = tt
 expected-requires-2 : tie.Need-expected-requires-2 Inv-loop μ-loop
 expected-requires-2 c κs = tt
 
-differed-requires-2 : tie.Need-differed-requires-2 Inv-loop μ-loop
-differed-requires-2 c κs = tt
+differed-requires-3 : tie.Need-differed-requires-3 Inv-loop μ-loop
+differed-requires-3 c κs = tt
 
-returns-2 : tie.Need-returns-2 Inv-loop μ-loop
-returns-2 c = search needs
+returns-3 : tie.Need-returns-3 Inv-loop μ-loop
+returns-3 c = search needs
 
 loop-less : tie.Need-loop-less Inv-loop μ-loop
-loop-less c = omega (arith, end-behind (c .before .before .before .before .before .before .before .before .before .before .before .before .before .before .before .before .before .before .before .before .before .before .before .before .before .before .before .before .before .before .before .before .before .before .before .before .args .text .now) (c .before .before .before .before .before .before .before .before .before .before .before .before .before .before .before .before .loop .at) (c .before .before .before .before .before .before .before .before .before .before .before .before .before .before .before .loop-test .taken), c .before .before .before .before .before .before .before .before .before .before .before .before .before .before .step-end2 .ensures)
+loop-less c = omega (arith, end-behind (c .before .before .before .before .before .before .before .before .before .before .before .before .before .before .before .before .before .before .before .before .before .before .before .before .before .before .before .before .before .before .before .before .before .before .before .before .args .text .now) (c .before .before .before .before .before .before .before .before .before .before .before .before .before .before .before .loop .at) (c .before .before .before .before .before .before .before .before .before .before .before .before .before .before .loop-test .taken), c .before .before .before .before .before .before .before .before .before .before .before .before .before .step-end2 .ensures)
 
 loop-again : tie.Need-loop-again Inv-loop μ-loop
 loop-again c = tt
@@ -113,8 +92,8 @@ slice-aggregate-write-all c = search needs
 write-all-requires-2 : tie.Need-write-all-requires-2 Inv-loop μ-loop
 write-all-requires-2 c κs = tt
 
-returns-3 : tie.Need-returns-3 Inv-loop μ-loop
-returns-3 c = search needs
+returns-4 : tie.Need-returns-4 Inv-loop μ-loop
+returns-4 c = search needs
 
 pub play-spec : {M : Type 1} → statement M
 play-spec =
@@ -124,35 +103,28 @@ play-spec =
     μ-loop
     step-end-requires
     line-of-requires
-    slice-aggregate-open
-    slice-aggregate-open-2
-    slice-aggregate-open-3
-    slice-aggregate-open-4
-    array-read-open
-    array-read-open-2
-    array-read-open-3
-    array-read-open-4
-    open-requires
+    slice-aggregate-opened
+    slice-aggregate-opened-2
+    slice-aggregate-opened-3
+    slice-aggregate-opened-4
+    opened-requires
     write-all-requires
     numbers-of-requires
-    expected-requires
     differed-requires
     returns
+    expected-requires
+    differed-requires-2
+    returns-2
     loop-holds
     step-end-requires-2
     line-of-requires-2
-    array-read-any-step
-    array-read-any-step-2
-    array-read-any-step-3
-    array-read-any-step-4
-    any-step-requires
-    numbers-of-requires-2
+    any-line-requires
     wrapping-add-u64-requires
     expected-requires-2
-    differed-requires-2
-    returns-2
+    differed-requires-3
+    returns-3
     loop-less
     loop-again
     slice-aggregate-write-all
     write-all-requires-2
-    returns-3)
+    returns-4)

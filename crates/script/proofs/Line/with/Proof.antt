@@ -2,7 +2,7 @@
 -- Assumes nothing.
 use borrow.Author.Needs.{needs}
 use mathlib.Core.Path.{sym, _∙_}
-use borrow.Author.Tests.{leb-true, eq-eqb, ne-eqb}
+use borrow.Author.Tests.{leb-true}
 use Rattle.script.specs.Script.{withByte}
 use Rattle.script.proofs.Reading.{first-holds}
 use Rattle.script.proofs.Line.with.Statement.{statement}
@@ -37,13 +37,16 @@ returns-2 c = rw (← c .before .before .before .before .between .ensures, c .be
 ended-requires : tie.Need-ended-requires
 ended-requires c κs = search needs
 
+is-sign-requires : tie.Need-is-sign-requires
+is-sign-requires c κs = tt
+
 returns-3 : tie.Need-returns-3
 unfolding withByte
-returns-3 c = rw (← c .before .before .before .before .before .between .ensures, c .before .before .before .before .if1 .left, ← c .before .before .before .between2 .ensures, c .before .before .if2 .left, eq-eqb _ _ (c .if3 .taken), c .before .ended .ensures)
+returns-3 c = rw (← c .before .before .before .before .before .before .between .ensures, c .before .before .before .before .before .if1 .left, ← c .before .before .before .before .between2 .ensures, c .before .before .before .if2 .left, ← c .before .is-sign .ensures, c .if3 .taken, c .before .before .ended .ensures)
 
 returns-4 : tie.Need-returns-4
 unfolding withByte
-returns-4 c = rw (← c .before .before .before .before .before .between .ensures, c .before .before .before .before .if1 .left, ← c .before .before .before .between2 .ensures, c .before .before .if2 .left, ne-eqb _ _ (c .if3 .left), c .before .ended .ensures)
+returns-4 c = rw (← c .before .before .before .before .before .before .between .ensures, c .before .before .before .before .before .if1 .left, ← c .before .before .before .before .between2 .ensures, c .before .before .before .if2 .left, ← c .before .is-sign .ensures, c .if3 .left, c .before .before .ended .ensures)
 
 pub with-spec : {M : Type 1} → statement M
 with-spec =
@@ -58,5 +61,6 @@ with-spec =
     lettered-requires
     returns-2
     ended-requires
+    is-sign-requires
     returns-3
     returns-4)
