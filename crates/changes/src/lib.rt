@@ -59,7 +59,7 @@ const NOWHERE: usize = LAST_NUMBER as usize;
 
 // ---- where a word stands
 
-// Word `field` of entry i, below `entries`, where an entry has `width` words.
+// Word `field` of entry i, below `entries`, where an entry has `width` words. No slice has more words than the bound, so that no place wraps.
 fn entry_place(entries: usize, width: usize, field: usize, i: u64) -> usize
     requires { ⌜ (entries ≤ 1152921504606846975) × (width ≤ 8) × (field ≤ 8) ⌝ }
     ensures { λ r. ⌜ r ≡ entryPlace entries width field i ⌝ }

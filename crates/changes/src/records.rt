@@ -16,18 +16,21 @@ pub const RECORD_WORDS: usize = 20;
 
 pub const OWN_WORDS: usize = 5;
 
+// A mark as a word: 1, and 0 for none.
 fn mark_word(marked: bool) -> u64
     ensures { λ r. ⌜ r ≡ markWord marked ⌝ }
 {
     if marked { 1 } else { 0 }
 }
 
+// A slot or a count as a word.
 fn wide(n: u32) -> u64
     ensures { λ r. ⌜ r ≡ n ⌝ }
 {
     n as u64
 }
 
+// The words of a record.
 pub fn record_words(t: Transaction) -> [u64; RECORD_WORDS]
     ensures { λ r. ⌜ r ≡ recordWords t ⌝ }
 {
@@ -82,6 +85,7 @@ fn low_bits(x: u64) -> u32
     (x % 4294967296) as u32
 }
 
+// The record of some words.
 pub fn record_of(words: [u64; RECORD_WORDS]) -> Transaction
     ensures { λ r. ⌜ r ≡ recordOf words ⌝ }
 {
@@ -112,6 +116,7 @@ pub fn record_of(words: [u64; RECORD_WORDS]) -> Transaction
     }
 }
 
+// The machine's own words, and the machine of some with these records.
 pub fn own_words(m: Machine) -> [u64; OWN_WORDS]
     ensures { λ r. ⌜ r ≡ ownWords m ⌝ }
 {
