@@ -2,14 +2,16 @@
 //!
 //! [`replay`] hands back the report, or the [`Status`] that stopped the replay beside the lines written before it.
 //! [`replay_or_abort`] is for a process that must not go on after anything but 0.
-//! [`Log`] builds the bytes of a log, and [`Report::lines`] reads the answers as values.
+//! [`Log`] builds the bytes of a log, [`Steps`] reads them, and [`Report::lines`] reads the answers as values.
 //!
 //! The function allocates nothing, keeps nothing between calls and cannot unwind, so any thread may call it at any time.
 
 mod log;
 mod replay;
 mod report;
+mod step;
 
 pub use log::Log;
 pub use replay::{replay, replay_or_abort, Status, Stopped};
 pub use report::{Advice, Kind, Line, Lines, Refusal, Report, RowNumbers, Values, Verdict};
+pub use step::{Fault, Malformed, NoStep, Step, Steps};

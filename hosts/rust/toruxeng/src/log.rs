@@ -1,6 +1,7 @@
 //! The bytes of a log, step by step.
 
-const ROWS: u16 = 5;
+use crate::report::Kind;
+use crate::step::Step;
 
 /// A rows line has at most 80 rows, 64 by read records and 16 by pending writes.
 const LONGEST_ROWS_LINE: usize = "rows 0 80".len() + 80 * " 255".len() + "\n".len();
@@ -18,8 +19,7 @@ impl Log {
     /// A log for a fresh store of these sizes. Sizes out of range are refused by the replay (status 1), not here.
     pub fn open(rows: u32, versions: u32, buckets: u32, clock: u64) -> Log {
         let mut log = Log { bytes: Vec::new(), report_room: 0 };
-        let sizes = [rows, versions, buckets].map(u32::to_le_bytes).concat();
-        log.record(1, &[&sizes, &clock.to_le_bytes()]);
+        log.step(Step::open(rows, versions, buckets, clock));
         log
     }
 
@@ -32,60 +32,57 @@ impl Log {
         self.report_room
     }
 
+    pub fn step(&mut self, step: Step) -> &mut Log {
+        self.bytes.extend(step.bytes());
+        self.report_room += if step.kind() == Kind::Rows { LONGEST_ROWS_LINE } else { LONGEST_OTHER_LINE };
+        self
+    }
+
     pub fn begin(&mut self) -> &mut Log {
-        self.record(2, &[])
+        self.step(Step::begin())
     }
 
     pub fn capture(&mut self, number: u64, key: u64) -> &mut Log {
-        self.record(3, &[&number.to_le_bytes(), &key.to_le_bytes()])
+        self.step(Step::capture(number, key))
     }
 
     pub fn collect(&mut self, number: u64) -> &mut Log {
-        self.record(4, &[&number.to_le_bytes()])
+        self.step(Step::collect(number))
     }
 
     pub fn rows(&mut self, number: u64, room: u32) -> &mut Log {
-        self.record(ROWS, &[&number.to_le_bytes(), &room.to_le_bytes()])
+        self.step(Step::rows(number, room))
     }
 
     pub fn put(&mut self, number: u64, row: u32, key: u64, payload: u64) -> &mut Log {
-        self.record(6, &[&number.to_le_bytes(), &row.to_le_bytes(), &key.to_le_bytes(), &payload.to_le_bytes()])
+        self.step(Step::put(number, row, key, payload))
     }
 
     pub fn erase(&mut self, number: u64, row: u32) -> &mut Log {
-        self.record(7, &[&number.to_le_bytes(), &row.to_le_bytes()])
+        self.step(Step::erase(number, row))
     }
 
     pub fn prepare(&mut self, number: u64) -> &mut Log {
-        self.record(8, &[&number.to_le_bytes()])
+        self.step(Step::prepare(number))
     }
 
     pub fn install(&mut self, number: u64) -> &mut Log {
-        self.record(9, &[&number.to_le_bytes()])
+        self.step(Step::install(number))
     }
 
     pub fn end(&mut self, number: u64) -> &mut Log {
-        self.record(10, &[&number.to_le_bytes()])
+        self.step(Step::end(number))
     }
 
     pub fn publish(&mut self, number: u64) -> &mut Log {
-        self.record(11, &[&number.to_le_bytes()])
+        self.step(Step::publish(number))
     }
 
     pub fn validate(&mut self, number: u64) -> &mut Log {
-        self.record(12, &[&number.to_le_bytes()])
+        self.step(Step::validate(number))
     }
 
     pub fn abort(&mut self, number: u64) -> &mut Log {
-        self.record(13, &[&number.to_le_bytes()])
-    }
-
-    fn record(&mut self, kind: u16, fields: &[&[u8]]) -> &mut Log {
-        let length: usize = 2 + fields.iter().map(|field| field.len()).sum::<usize>();
-        self.bytes.extend((length as u16).to_le_bytes());
-        self.bytes.extend(kind.to_le_bytes());
-        self.bytes.extend(fields.concat());
-        self.report_room += if kind == ROWS { LONGEST_ROWS_LINE } else { LONGEST_OTHER_LINE };
-        self
+        self.step(Step::abort(number))
     }
 }

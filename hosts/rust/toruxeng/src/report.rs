@@ -82,7 +82,7 @@ impl<'a> Line<'a> {
 }
 
 /// A number as reports write it: no sign, no leading zero.
-fn decimal(text: &str) -> Option<u64> {
+pub(crate) fn decimal(text: &str) -> Option<u64> {
     let plain = text.bytes().all(|byte| byte.is_ascii_digit()) && (text == "0" || !text.starts_with('0'));
     if plain {
         text.parse().ok()
@@ -148,7 +148,7 @@ impl Kind {
         }
     }
 
-    fn of_word(word: &str) -> Option<Kind> {
+    pub(crate) fn of_word(word: &str) -> Option<Kind> {
         Kind::ALL.into_iter().find(|kind| kind.word() == word)
     }
 }
