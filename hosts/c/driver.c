@@ -1,11 +1,11 @@
 /* Replays logs from standard input and says what each call did to the memory round it.
  *
- * It stands between the archive, which is for x86-64, and tests that may run on another machine. All numbers are 8 bytes,
- * little-endian. A request: how many calls (1 to 8, made at the same time, a thread each), whether to measure the stack (1 or 0) and, for
- * each, the length of its log and its room; then the logs. An answer for each call: the function's answer, a sum of faults, the bytes of
- * stack used (0 where not measured); then the report.
+ * It stands between an archive and tests that may run on another machine than the archive is for. All numbers are 8 bytes, little-endian.
+ * A request: how many calls (1 to 8, made at the same time, a thread each), whether to measure the stack (1 or 0) and, for each, the length
+ * of its log and its room; then the logs. An answer for each call: the function's answer, a sum of faults, the bytes of stack used (0 where
+ * not measured); then the report.
  *
- * Each call runs in a thread with 512 KiB of stack. Log and report end at a page that cannot be touched and have marked bytes before them.
+ * Each call runs in a thread with 192 KiB of stack. Log and report end at a page that cannot be touched and have marked bytes before them.
  */
 #define _GNU_SOURCE
 #include <pthread.h>
@@ -18,7 +18,7 @@
 
 #include "toruxeng.h"
 
-enum { CALLS = 8, STACK = 512 * 1024, MARKED = 64, MARK = 0xA5 };
+enum { CALLS = 8, STACK = 192 * 1024, MARKED = 64, MARK = 0xA5 };
 enum { LARGEST = 256 << 20 };
 
 enum fault { AROUND_REPORT = 1, AFTER_LAST_LINE = 2, LOG_CHANGED = 4 };
@@ -157,11 +157,12 @@ static void *replay(void *argument)
     }
 }
 
-/* A thread on a stack of zeros with a page below it that cannot be touched. */
+/* A thread on a painted stack with a page below it that cannot be touched. */
 static void start_thread(struct call *call)
 {
     pthread_attr_t attributes;
     call->stack = map(page + STACK);
+    memset(call->stack + page, MARK, STACK);
     call->thread_ends = 0;
     if (mprotect(call->stack, page, PROT_NONE) != 0 || sem_init(&call->begun, 0, 0) != 0 || sem_init(&call->done, 0, 0) != 0
         || pthread_attr_init(&attributes) != 0 || pthread_attr_setstack(&attributes, call->stack + page, STACK) != 0
@@ -182,11 +183,11 @@ static void end_thread(struct call *call)
     call->stack = NULL;
 }
 
-/* The stack was all zeros, so all below the lowest other byte was not used. */
+/* From the lowest byte that is not as it was painted to the top. */
 static uint64_t stack_used(const struct call *call)
 {
     size_t untouched = 0;
-    while (untouched < STACK && call->stack[page + untouched] == 0) {
+    while (untouched < STACK && call->stack[page + untouched] == MARK) {
         untouched++;
     }
     return STACK - untouched;

@@ -7,6 +7,7 @@ mod instructions;
 mod machine;
 mod processor_time;
 
+use std::process::ExitCode;
 use std::time::Duration;
 
 use generator::{benchmark, with_chains, with_live, with_rows, Random};
@@ -108,6 +109,7 @@ fn bench() {
     let (log, report) = (case.log.len(), case.report.len());
     println!("log: seed {SEED}, {} steps, {log} bytes; report {report} bytes", case.steps);
 
+    println!("instructions are counted now, which takes half a minute");
     match instructions::of_a_replay() {
         Ok([proved, twin]) => {
             let of_a_step = |count: u64| count as f64 / case.steps as f64;
@@ -135,17 +137,29 @@ fn bench() {
     }
 }
 
-fn main() {
-    let arguments: Vec<String> = std::env::args().skip(1).collect();
-    match arguments.iter().map(String::as_str).collect::<Vec<_>>()[..] {
-        [] => bench(),
-        ["once", engine, rounds] => {
-            let engine = Engine::of_name(engine).expect("an engine is proved or twin");
-            let mut case = benchmark_case();
-            for _ in 0..rounds.parse().expect("rounds are a number") {
-                case.time(engine);
-            }
-        }
-        _ => panic!("bench, or bench once ENGINE ROUNDS"),
+/// Replays the benchmark log and says nothing.
+fn once(engine: Engine, rounds: u64) {
+    let mut case = benchmark_case();
+    for _ in 0..rounds {
+        case.time(engine);
     }
+}
+
+fn wrong_usage() -> ExitCode {
+    eprintln!("bench, or bench once proved ROUNDS, or bench once twin ROUNDS");
+    ExitCode::from(2)
+}
+
+fn main() -> ExitCode {
+    let arguments: Vec<String> = std::env::args().skip(1).collect();
+    let words: Vec<&str> = arguments.iter().map(String::as_str).collect();
+    match words[..] {
+        [] => bench(),
+        ["once", engine, rounds] => match (Engine::of_name(engine), rounds.parse()) {
+            (Some(engine), Ok(rounds)) => once(engine, rounds),
+            _ => return wrong_usage(),
+        },
+        _ => return wrong_usage(),
+    }
+    ExitCode::SUCCESS
 }

@@ -1,13 +1,12 @@
 //! Engine and twin give the same status, length and report. The driver checks the memory round each call.
 
 use compare::{compare, report_length, twin_replay};
-use engine::Driver;
+use engine::{Driver, STACK};
 use generator::{benchmark, log, longest_chain, room, Family, Random};
 
 const SHORT_LOGS: u64 = 25_000;
 const SHORT: u64 = 60;
 const LONG: u64 = 20_000;
-const SMALL_STACK: u64 = 512 * 1024;
 
 /// TORUXENG_SEED gives other logs than the gate's.
 fn seed() -> u64 {
@@ -85,5 +84,5 @@ fn on_the_longest_chain_with_a_small_stack() {
     assert_eq!((lines("publish 0 "), lines("rows 0 1 0")), (1024, 20));
     let used = driver.stack_used(&log, room);
     println!("stack used: {used} bytes");
-    assert!(used < SMALL_STACK);
+    assert!(used < STACK);
 }

@@ -10,6 +10,9 @@ const FAULTS: [(u64, &str); 3] = [
     (4, "the log or bytes before it were changed"),
 ];
 
+/// Bytes of stack that a call's thread has; one that needs more ends at its guard page.
+pub const STACK: u64 = 192 * 1024;
+
 /// What one call gave back.
 #[derive(Clone, Debug, PartialEq, Eq)]
 pub struct Replayed {
@@ -31,7 +34,7 @@ impl Driver {
     /// # Panics
     /// Where there is none: a test that needs the engine must not pass without it.
     pub fn start() -> Driver {
-        let program = env::var_os("TORUXENG_DRIVER").expect("TORUXENG_DRIVER names the driver; `make hosts` builds it");
+        let program = env::var_os("TORUXENG_DRIVER").expect("TORUXENG_DRIVER names the driver; `hosts/build TARGET` builds it");
         let mut process = Command::new(program)
             .stdin(Stdio::piped())
             .stdout(Stdio::piped())
@@ -46,7 +49,7 @@ impl Driver {
         self.replay_together(&[(log, room)]).pop().expect("a call has its answer")
     }
 
-    /// Up to eight calls at the same time, each in its own thread with 512 KiB of stack.
+    /// Up to eight calls at the same time, each in its own thread with a stack of [`STACK`] bytes.
     ///
     /// # Panics
     /// Where a call wrote outside its report or after its last line, or the process died.
@@ -55,7 +58,7 @@ impl Driver {
         calls.iter().map(|(log, room)| self.answer(log, *room).0).collect()
     }
 
-    /// How many of the 512 KiB of stack the call wrote to, its thread's own start included.
+    /// How far down its stack the call wrote, its thread's own start included.
     pub fn stack_used(&mut self, log: &[u8], room: usize) -> u64 {
         self.request(&[(log, room)], true);
         self.answer(log, room).1
