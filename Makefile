@@ -19,10 +19,11 @@ help:
 	@echo 'make kit      which kit this was proved with, and which is found here'
 	@echo 'make help     this list'
 
-# one clear line where the toolchain is missing or proves by another logic
+# one line: which kit proves this and which is found; fails where the toolchain is missing or proves by another logic
 kit:
 	@have=$$(rt version 2>/dev/null) || have='no rt on the PATH'; \
-	case "$$have" in *' $(LOGIC)') ;; *) echo "toruxeng is proved with '$(KIT)'; found: $$have" >&2; exit 1 ;; esac
+	echo "toruxeng is proved with '$(KIT)'; found: $$have" >&2; \
+	case "$$have" in *' $(LOGIC)') ;; *) exit 1 ;; esac
 
 demo: kit
 	@hosts/demo
