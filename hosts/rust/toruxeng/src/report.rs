@@ -66,7 +66,15 @@ impl<'a> Line<'a> {
         self.answer.as_ref().map_or_else(|refusal| refusal.number(), |_| 0)
     }
 
-    fn of_bytes(line: &'a [u8]) -> Option<Line<'a>> {
+    /// The clock after the step, where the step moved it.
+    pub(crate) fn moved_clock(&self) -> Option<u64> {
+        match (self.kind, &self.answer) {
+            (Kind::Begin, Ok(Values::Number(before))) | (Kind::Publish, Ok(Values::Stamp(before))) => Some(before + 1),
+            _ => None,
+        }
+    }
+
+    pub(crate) fn of_bytes(line: &'a [u8]) -> Option<Line<'a>> {
         let line = std::str::from_utf8(line.strip_suffix(b"\n")?).ok()?;
         let (word, rest) = line.split_once(' ')?;
         let kind = Kind::of_word(word)?;

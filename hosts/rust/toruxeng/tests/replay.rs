@@ -1,24 +1,17 @@
 //! The wrapper over the engine itself.
 
+mod document;
+
 use std::env;
 use std::error::Error;
 use std::process::Command;
 
+use document::worked_example;
 use toruxeng::{replay, replay_or_abort, Log, Refusal, Status, Stopped};
 
 const PRINTED: &str = include_str!("../../../../crates/replay_log/stdout");
 const GUARD: usize = 64;
 const MARK: u8 = 0xA5;
-
-/// The worked example of document 01.
-fn worked_example() -> Log {
-    let mut log = Log::open(4, 8, 4, 1);
-    log.begin().put(1, 2, 6, 10).prepare(1).install(1).end(1).publish(1);
-    log.begin().capture(3, 6).collect(3).rows(3, 4);
-    log.begin().put(4, 0, 2, 7).prepare(4).validate(3).install(4).end(4).publish(4);
-    log.validate(3).prepare(3);
-    log
-}
 
 #[test]
 fn the_worked_example_prints_its_report() {
