@@ -104,7 +104,7 @@ int main(void)
     uint8_t report[1024];
 
     worked_example(&log);
-    uint64_t answer = toruxeng_replay(log.bytes, log.length, report, sizeof report);
+    uint64_t answer = toruxeng_replay_checked(log.bytes, log.length, report, sizeof report);
     fwrite(report, 1, toruxeng_written(answer), stdout);
 
     switch (toruxeng_status_of(answer)) {
@@ -118,6 +118,10 @@ int main(void)
         break;
     case TORUXENG_LOG_MALFORMED:
         fputs("the log is malformed\n", stderr);
+        break;
+    case TORUXENG_NO_BUFFER:
+    case TORUXENG_BUFFERS_OVERLAP:
+        fputs("the log and the report are not two buffers\n", stderr);
         break;
     }
     return EXIT_FAILURE;

@@ -1,6 +1,6 @@
 /* Toruxeng: the one function of the library, for C and C++.
  *
- * Link libreplay.a, which `rt staticlib replay` writes for x86-64; it asks for memcpy and memset and nothing else.
+ * Link libtoruxeng.a of the folder that this header stands in; of the C library it asks for memset and nothing else.
  * docs/HOSTS.md says what each refusal number means and what to do then.
  */
 #ifndef TORUXENG_H
@@ -9,16 +9,23 @@
 #include <stddef.h>
 #include <stdint.h>
 
+#define TORUXENG_VERSION "0.2.0"
+#define TORUXENG_VERSION_MAJOR 0
+#define TORUXENG_VERSION_MINOR 2
+#define TORUXENG_VERSION_PATCH 0
+
 #ifdef __cplusplus
 extern "C" {
 #endif
 
 /* Why a replay ended: the upper half of the answer. */
 enum toruxeng_status {
-    TORUXENG_DONE = 0,          /* every record of the log was read and reported */
-    TORUXENG_OPEN_REFUSED = 1,  /* a size outside its range, or clock 0 */
-    TORUXENG_REPORT_FULL = 10,  /* the next line does not fit; the lines before it stand */
-    TORUXENG_LOG_MALFORMED = 15 /* a record is cut, of an unknown kind or length, or an open is misplaced or missing */
+    TORUXENG_DONE = 0,             /* every record of the log was read and reported */
+    TORUXENG_OPEN_REFUSED = 1,     /* a size outside its range, or clock 0 */
+    TORUXENG_REPORT_FULL = 10,     /* the next line does not fit; the lines before it stand */
+    TORUXENG_LOG_MALFORMED = 15,   /* a record is cut, of an unknown kind or length, or an open is misplaced or missing */
+    TORUXENG_NO_BUFFER = 256,      /* the checked entry alone: null with a length, or a length that no buffer has there */
+    TORUXENG_BUFFERS_OVERLAP = 257 /* the checked entry alone: log and report share bytes */
 };
 
 /* Replays the log and writes one line for each step to the front of the report.
@@ -28,8 +35,20 @@ enum toruxeng_status {
  *     4,294,967,295 bytes is not used.
  * Answers status * 4,294,967,296 + bytes written.
  *
- * Both pointers must be valid for their lengths, and the two must not overlap; with length 0 any pointer will do.
- * The call keeps nothing, allocates nothing and never unwinds, so any number of threads may call at once.
+ * What each kind of buffer gets, here and from toruxeng_replay_checked:
+ *
+ *     buffer                                toruxeng_replay    toruxeng_replay_checked
+ *     length 0, null or any other pointer   fine, it is empty  fine
+ *     null with a length above 0            undefined          TORUXENG_NO_BUFFER
+ *     a length above PTRDIFF_MAX, or one
+ *         past the last address             undefined          TORUXENG_NO_BUFFER
+ *     log and report share bytes            undefined          TORUXENG_BUFFERS_OVERLAP
+ *     an address that is not even           fine               fine: bytes have alignment 1, so every address is aligned
+ *     a pointer not valid for its length    undefined          undefined: this cannot be tested
+ *
+ * The call keeps nothing, allocates nothing and never unwinds, so any number of threads may call at once, each with a
+ * report of its own. It takes about 173,000 bytes of the calling thread's stack, whatever the log: 180 KiB is enough for
+ * the call itself, on x86-64 and on aarch64 (docs/HOSTS.md has the figures).
  */
 uint64_t toruxeng_replay(const uint8_t *log, size_t log_length, uint8_t *report, size_t report_length);
 
@@ -42,6 +61,30 @@ static inline enum toruxeng_status toruxeng_status_of(uint64_t answer)
 static inline uint32_t toruxeng_written(uint64_t answer)
 {
     return (uint32_t)answer;
+}
+
+/* Whether an object of so many bytes can stand there. */
+static inline int toruxeng_is_buffer(uintptr_t start, size_t length)
+{
+    return length == 0 || (start != 0 && length <= PTRDIFF_MAX && length <= UINTPTR_MAX - start);
+}
+
+/* As toruxeng_replay, but what can be told of the buffers is tested first; where it is wrong, nothing is touched and
+ * 0 bytes are written. For pointers that come from elsewhere. */
+static inline uint64_t toruxeng_replay_checked(const uint8_t *log, size_t log_length, uint8_t *report, size_t report_length)
+{
+    const uintptr_t log_start = (uintptr_t)log;
+    const uintptr_t report_start = (uintptr_t)report;
+
+    if (!toruxeng_is_buffer(log_start, log_length) || !toruxeng_is_buffer(report_start, report_length)) {
+        return (uint64_t)TORUXENG_NO_BUFFER << 32;
+    }
+
+    const int apart = log_start + log_length <= report_start || report_start + report_length <= log_start;
+    if (log_length > 0 && report_length > 0 && !apart) {
+        return (uint64_t)TORUXENG_BUFFERS_OVERLAP << 32;
+    }
+    return toruxeng_replay(log, log_length, report, report_length);
 }
 
 #ifdef __cplusplus

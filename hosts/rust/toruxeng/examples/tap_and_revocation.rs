@@ -3,8 +3,6 @@
 //! The library keeps nothing between calls, so the terminal keeps the log: it appends a step, replays the whole and reads the last line.
 //! `tap_and_revocation abort` runs the same with [`replay_or_abort`], for a process that must not go on after an error.
 
-#[cfg(not(target_arch = "x86_64"))]
-use engine as _;
 use toruxeng::{replay, replay_or_abort, Advice, Log, Refusal, Report, Stopped, Values, Verdict};
 
 const ROOM: u32 = 16;
@@ -34,7 +32,7 @@ impl Terminal {
         Terminal { log: Log::open(64, 1024, 257, 1), report: Vec::new(), wish }
     }
 
-    fn replay(&mut self) -> Result<Report<'_>, Stopped<'_>> {
+    fn replay(&mut self) -> Result<Report<'_>, Stopped> {
         self.report.resize(self.log.report_room(), 0);
         match self.wish {
             Wish::Answer => replay(self.log.bytes(), &mut self.report),
@@ -146,7 +144,7 @@ fn replay_a_cut_log(wish: Wish) {
     match wish {
         Wish::Answer => {
             let stopped = replay(cut, &mut report).expect_err("the log is cut");
-            println!("{stopped}; {} lines were written before", stopped.report.lines().count() - 1);
+            println!("{stopped}; {} lines were written before", stopped.report(&report).lines().count() - 1);
         }
         Wish::Abort => {
             replay_or_abort(cut, &mut report);

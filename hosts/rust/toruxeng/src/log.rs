@@ -8,6 +8,15 @@ const LONGEST_ROWS_LINE: usize = "rows 0 80".len() + 80 * " 255".len() + "\n".le
 /// The line of verdict 1 has the most and the largest values of the others.
 const LONGEST_OTHER_LINE: usize = "validate 0 1 4095 18446744073709551615 18446744073709551615\n".len();
 
+/// No line that answers a step of this kind is longer.
+pub(crate) fn longest_line(kind: Kind) -> usize {
+    if kind == Kind::Rows {
+        LONGEST_ROWS_LINE
+    } else {
+        LONGEST_OTHER_LINE
+    }
+}
+
 /// A log that begins with its open, the only place where one may stand.
 #[derive(Clone, Debug)]
 pub struct Log {
@@ -34,7 +43,7 @@ impl Log {
 
     pub fn step(&mut self, step: Step) -> &mut Log {
         self.bytes.extend(step.bytes());
-        self.report_room += if step.kind() == Kind::Rows { LONGEST_ROWS_LINE } else { LONGEST_OTHER_LINE };
+        self.report_room += longest_line(step.kind());
         self
     }
 

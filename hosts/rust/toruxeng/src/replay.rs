@@ -40,35 +40,52 @@ impl fmt::Display for Status {
     }
 }
 
-/// A replay that stopped: why, and the lines that it wrote before.
-#[derive(Clone, Copy, Debug)]
-pub struct Stopped<'a> {
+/// A replay that stopped: why, and how many bytes of its buffer the lines before take.
+#[derive(Clone, Copy, Debug, PartialEq, Eq)]
+pub struct Stopped {
     pub status: Status,
-    pub report: Report<'a>,
+    pub written: usize,
 }
 
-impl fmt::Display for Stopped<'_> {
+impl Stopped {
+    /// The lines that were written before the replay stopped; `buffer` is the one that it wrote to.
+    ///
+    /// # Panics
+    /// Where the buffer is shorter than what was written: it is another one.
+    pub fn report<'a>(&self, buffer: &'a [u8]) -> Report<'a> {
+        Report::of_engine(&buffer[..self.written])
+    }
+}
+
+impl fmt::Display for Stopped {
     fn fmt(&self, to: &mut fmt::Formatter) -> fmt::Result {
         write!(to, "replay stopped with status {}: {}", self.status.number(), self.status)
     }
 }
 
-impl std::error::Error for Stopped<'_> {}
+impl std::error::Error for Stopped {}
 
 /// Replays `log` and writes a line for each step to the front of `report`; bytes after the last line keep their contents.
 ///
 /// # Panics
 /// Where the linked library answers what document 01 does not know: it is not Toruxeng's.
-pub fn replay<'a>(log: &[u8], report: &'a mut [u8]) -> Result<Report<'a>, Stopped<'a>> {
-    // SAFETY: both are live slices for the whole call, they cannot overlap, and the function stays within their lengths
-    let answer = unsafe { toruxeng_replay(log.as_ptr(), log.len(), report.as_mut_ptr(), report.len()) };
-    let report = Report::of_engine(&report[..answer as u32 as usize]);
+pub fn replay<'a>(log: &[u8], report: &'a mut [u8]) -> Result<Report<'a>, Stopped> {
+    // SAFETY: both are live slices for the whole call, and they cannot overlap
+    let written = unsafe { call(log.as_ptr(), log.len(), report.as_mut_ptr(), report.len()) }?;
+    Ok(Report::of_engine(&report[..written]))
+}
+
+/// The function's answer in its two halves: bytes written, and the status where it is not 0.
+///
+/// # Safety
+/// Each pointer is valid for its length during the call, or the length is 0; the two do not overlap. The function stays within them.
+pub(crate) unsafe fn call(log: *const u8, log_length: usize, report: *mut u8, report_length: usize) -> Result<usize, Stopped> {
+    // SAFETY: the caller's promise
+    let answer = unsafe { toruxeng_replay(log, log_length, report, report_length) };
+    let written = answer as u32 as usize;
     match (answer >> 32) as u32 {
-        0 => Ok(report),
-        number => {
-            let status = Status::of_number(number).expect("a status of document 01");
-            Err(Stopped { status, report })
-        }
+        0 => Ok(written),
+        number => Err(Stopped { status: Status::of_number(number).expect("a status of document 01"), written }),
     }
 }
 

@@ -1,5 +1,7 @@
 //! A report's lines as values.
 
+use std::fmt;
+
 /// The lines of a report, each whole.
 #[derive(Clone, Copy, Debug, PartialEq, Eq)]
 pub struct Report<'a> {
@@ -64,7 +66,15 @@ impl<'a> Line<'a> {
         self.answer.as_ref().map_or_else(|refusal| refusal.number(), |_| 0)
     }
 
-    fn of_bytes(line: &'a [u8]) -> Option<Line<'a>> {
+    /// The clock after the step, where the step moved it.
+    pub(crate) fn moved_clock(&self) -> Option<u64> {
+        match (self.kind, &self.answer) {
+            (Kind::Begin, Ok(Values::Number(before))) | (Kind::Publish, Ok(Values::Stamp(before))) => Some(before + 1),
+            _ => None,
+        }
+    }
+
+    pub(crate) fn of_bytes(line: &'a [u8]) -> Option<Line<'a>> {
         let line = std::str::from_utf8(line.strip_suffix(b"\n")?).ok()?;
         let (word, rest) = line.split_once(' ')?;
         let kind = Kind::of_word(word)?;
@@ -247,40 +257,40 @@ impl Verdict {
     }
 }
 
-/// Why a step was refused. Every refusal but [`Refusal::Stale`] left the store as it was.
+/// Why a step was refused; [`Display`](fmt::Display) says it in words. Every refusal but [`Refusal::Stale`] left the store as it was.
 #[derive(Clone, Copy, Debug, PartialEq, Eq, Hash, PartialOrd, Ord)]
 pub enum Refusal {
-    /// open: a size outside its range, or clock 0
+    /// open
     OpenOutOfRange = 1,
-    /// begin: the clock has no numbers left
+    /// begin
     ClockUsedUp = 2,
-    /// begin: eight transactions are live
+    /// begin
     TooManyLive = 3,
-    /// no live transaction has this number
+    /// all but open and begin
     UnknownTransaction = 4,
-    /// the transaction is in another phase
+    /// all but open and begin
     WrongPhase = 5,
-    /// put, erase: no such row
+    /// put, erase
     RowOutOfRange = 6,
-    /// capture, validate, prepare: another transaction holds a bucket or has claimed a row that is needed
+    /// capture, validate, prepare
     Taken = 7,
-    /// capture: the bucket changed since the transaction began; the transaction is marked
+    /// capture
     Stale = 8,
-    /// capture: 16 buckets were read already
+    /// capture
     IndexReadsFull = 9,
-    /// rows: more rows match than the room given
+    /// rows
     RoomTooShort = 10,
-    /// rows: more than 64 versions read
+    /// rows
     ReadRecordsFull = 11,
-    /// put, erase: 16 writes are pending
+    /// put, erase
     PendingWritesFull = 12,
-    /// prepare: no versions left for its rows
+    /// prepare
     VersionsUsedUp = 13,
-    /// prepare: a read no longer stands
+    /// prepare
     Conflict = 14,
-    /// the log's record is no step here
+    /// a record that is no step here
     Malformed = 15,
-    /// a state of wrong shape; no replay gives it
+    /// no step of a replay
     WrongShape = 16,
 }
 
@@ -333,7 +343,36 @@ impl Refusal {
         }
     }
 
+    fn words(self) -> &'static str {
+        match self {
+            Refusal::OpenOutOfRange => "a size is outside its range, or the clock is 0",
+            Refusal::ClockUsedUp => "the clock has no numbers left",
+            Refusal::TooManyLive => "eight transactions are live",
+            Refusal::UnknownTransaction => "no live transaction has this number",
+            Refusal::WrongPhase => "the transaction is in another phase",
+            Refusal::RowOutOfRange => "there is no such row",
+            Refusal::Taken => "another transaction holds a bucket or has claimed a row that is needed",
+            Refusal::Stale => "the bucket changed since the transaction began, which is marked now",
+            Refusal::IndexReadsFull => "16 buckets were read already",
+            Refusal::RoomTooShort => "more rows match than the room given",
+            Refusal::ReadRecordsFull => "more than 64 versions would be read",
+            Refusal::PendingWritesFull => "16 writes are pending",
+            Refusal::VersionsUsedUp => "no versions are left for its rows",
+            Refusal::Conflict => "a read no longer stands",
+            Refusal::Malformed => "the log's record is no step here",
+            Refusal::WrongShape => "the state is of wrong shape",
+        }
+    }
+
     fn of_number(number: u64) -> Option<Refusal> {
         Refusal::ALL.into_iter().find(|refusal| u64::from(refusal.number()) == number)
     }
 }
+
+impl fmt::Display for Refusal {
+    fn fmt(&self, to: &mut fmt::Formatter) -> fmt::Result {
+        write!(to, "refused with {}: {}", self.number(), self.words())
+    }
+}
+
+impl std::error::Error for Refusal {}

@@ -1,24 +1,17 @@
 //! The wrapper over the engine itself.
 
+mod document;
+
 use std::env;
+use std::error::Error;
 use std::process::Command;
 
-use engine as _;
-use toruxeng::{replay, replay_or_abort, Log, Refusal, Status};
+use document::worked_example;
+use toruxeng::{replay, replay_or_abort, Log, Refusal, Status, Stopped};
 
 const PRINTED: &str = include_str!("../../../../crates/replay_log/stdout");
 const GUARD: usize = 64;
 const MARK: u8 = 0xA5;
-
-/// The worked example of document 01.
-fn worked_example() -> Log {
-    let mut log = Log::open(4, 8, 4, 1);
-    log.begin().put(1, 2, 6, 10).prepare(1).install(1).end(1).publish(1);
-    log.begin().capture(3, 6).collect(3).rows(3, 4);
-    log.begin().put(4, 0, 2, 7).prepare(4).validate(3).install(4).end(4).publish(4);
-    log.validate(3).prepare(3);
-    log
-}
 
 #[test]
 fn the_worked_example_prints_its_report() {
@@ -37,14 +30,14 @@ fn every_room_gives_whole_lines_and_touches_nothing_else() {
     for room in 0..PRINTED.len() + 2 {
         let mut guarded = vec![MARK; GUARD + room + GUARD];
         let answer = replay(log.bytes(), &mut guarded[GUARD..GUARD + room]);
+        assert_eq!(answer.is_ok(), room >= PRINTED.len());
         let written = match answer {
             Ok(report) => report.bytes().len(),
             Err(stopped) => {
                 assert_eq!(stopped.status, Status::ReportFull);
-                stopped.report.bytes().len()
+                stopped.written
             }
         };
-        assert_eq!(answer.is_ok(), room >= PRINTED.len());
         let whole = PRINTED[..room.min(PRINTED.len())].rfind('\n').map_or(0, |end| end + 1);
         assert_eq!(written, whole);
         assert_eq!(&guarded[GUARD..GUARD + written], &PRINTED.as_bytes()[..whole]);
@@ -56,22 +49,39 @@ fn every_room_gives_whole_lines_and_touches_nothing_else() {
 fn a_stopped_replay_keeps_its_lines() {
     let mut report = [0; 64];
     let refused = replay(Log::open(0, 1, 1, 1).bytes(), &mut report).expect_err("no rows");
-    assert_eq!((refused.status, refused.report.bytes()), (Status::OpenRefused, &b"open 1\n"[..]));
+    assert_eq!((refused.status, refused.report(&report).bytes()), (Status::OpenRefused, &b"open 1\n"[..]));
     assert_eq!(refused.to_string(), "replay stopped with status 1: the open was refused");
 
     let mut log = Log::open(1, 1, 1, 1).begin().bytes().to_vec();
     log.push(0);
     let malformed = replay(&log, &mut report).expect_err("a stray byte");
     assert_eq!(malformed.status, Status::LogMalformed);
-    assert_eq!(malformed.report.bytes(), b"open 0\nbegin 0 1\nbad 15\n");
-    assert_eq!(malformed.report.last().expect("a last line").answer, Err(Refusal::Malformed));
+    let lines = malformed.report(&report);
+    assert_eq!(lines.bytes(), b"open 0\nbegin 0 1\nbad 15\n");
+    assert_eq!(lines.last().expect("a last line").answer, Err(Refusal::Malformed));
+}
+
+#[test]
+fn errors_leave_a_function_whose_buffer_is_its_own() {
+    fn replayed(log: &Log) -> Result<usize, Box<dyn Error>> {
+        let mut report = [0; 64];
+        let last = replay(log.bytes(), &mut report)?.last().ok_or("no line")?;
+        last.answer?;
+        Ok(report.len())
+    }
+    let stopped = replayed(&Log::open(1, 1, 0, 1)).expect_err("no buckets");
+    assert!(stopped.downcast_ref::<Stopped>().is_some_and(|stopped| stopped.status == Status::OpenRefused));
+    let refused = replayed(Log::open(1, 1, 1, 1).begin().erase(1, 1)).expect_err("no row 1");
+    assert_eq!(refused.downcast_ref(), Some(&Refusal::RowOutOfRange));
+    assert_eq!(refused.to_string(), "refused with 6: there is no such row");
+    assert!(replayed(Log::open(1, 1, 1, 1).begin()).is_ok());
 }
 
 #[test]
 fn an_empty_log_and_an_empty_report_are_fine() {
     assert_eq!(replay(&[], &mut []).expect("nothing to do").bytes(), b"");
     let full = replay(Log::open(1, 1, 1, 1).bytes(), &mut []).expect_err("no room");
-    assert_eq!((full.status, full.report.bytes()), (Status::ReportFull, &b""[..]));
+    assert_eq!(full, Stopped { status: Status::ReportFull, written: 0 });
 }
 
 #[test]

@@ -1,6 +1,5 @@
 //! Lines as values, of reports that were kept as bytes.
 
-use engine as _;
 use toruxeng::{Advice, Kind, Line, Log, Refusal, Report, Values, Verdict};
 
 const PRINTED: &str = include_str!("../../../../crates/replay_log/stdout");

@@ -1,6 +1,5 @@
 //! Steps as bytes and as words.
 
-use engine as _;
 use toruxeng::{Fault, Kind, Log, Malformed, NoStep, Step, Steps};
 
 /// One of each kind, with its words; the numbers differ, so that no two fields can be mixed up.
