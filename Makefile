@@ -42,7 +42,11 @@ command: kit
 hosts: kit
 	@hosts/test
 
+# what is asked for wrongly, or is missing, is said before anything is proved
 soak: kit
+	@for number in '$(STEPS)' '$(or $(SEED),0)'; do \
+	    case $$number in '' | *[!0-9]*) echo "STEPS and SEED are whole numbers, not '$$number'" >&2; exit 2 ;; esac; \
+	done
 	@hosts/needs cargo gcc
 	@hosts/archive
 	@hosts/build $(TARGET)
