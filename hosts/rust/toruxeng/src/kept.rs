@@ -60,7 +60,6 @@ impl Kept {
         let endings = endings(&steps, kept.ask(&steps)?.lines());
         kept.keep(&steps);
         kept.accept(&endings, |_| ())?;
-        kept.published = kept.end.log;
         Ok(kept)
     }
 
