@@ -1,6 +1,6 @@
 //! A payment terminal: taps look a scheme key up, a revocation update takes one away, and both meet.
 //!
-//! `tap_and_revocation abort` replays the cut log of the end with [`replay_or_abort`], for a process that must not go on after an error.
+//! `tap_and_revocation abort` replays the cut log of the end with [`replay_or_abort`], for a process that must not go on then.
 
 use toruxeng::{replay, replay_or_abort, Advice, Error, Log, Store};
 

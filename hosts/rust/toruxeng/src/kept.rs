@@ -1,8 +1,8 @@
 //! The kept log of a store: which steps stay in it, and one replay for each question.
 //!
 //! A step that changed nothing is not kept: a refused one, a validate, the steps of a read that was refused half way.
-//! Nor are transactions that ended in abort, where nothing of another stands behind their begins: without them the store is the same, but for the
-//! clock, which every begin moves. So they go before anything is appended behind them, and never later.
+//! Nor are transactions that ended in abort, where nothing of another stands behind their begins: without them the store is the
+//! same, but for the clock, which every begin moves. So they go before anything is appended behind them, and never later.
 
 use std::collections::BTreeMap;
 
@@ -174,7 +174,7 @@ fn whole_steps(bytes: &[u8]) -> Result<Vec<Step>, Error> {
     Ok(steps)
 }
 
-/// Steps that end all that is live behind these, in rising number: what was installed goes on to its publish, the rest is aborted.
+/// Steps that end all that is live behind these, in rising number: what was installed goes on to its publish, the rest aborts.
 fn endings(steps: &[Step], lines: Lines) -> Vec<Step> {
     let mut live = BTreeMap::new();
     for (step, line) in steps.iter().zip(lines) {

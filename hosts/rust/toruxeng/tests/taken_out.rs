@@ -1,4 +1,4 @@
-//! A store, which takes steps out of its log, answers as a log does from which nothing is taken out, and so does one that restarts.
+//! A store takes steps out of its log, and answers as a log does from which nothing is taken out; so does one that restarts.
 
 use toruxeng::{replay, Error, Log, Prepared, Refusal, Step, Store, Transaction, Values, Verdict};
 
