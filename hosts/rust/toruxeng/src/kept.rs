@@ -10,7 +10,7 @@ use crate::error::Error;
 use crate::log::longest_line;
 use crate::replay::{replay, Status, Stopped};
 use crate::report::{Kind, Line, Lines, Refusal, Report, Values};
-use crate::step::{is_cut_record, Step, Steps};
+use crate::step::{can_begin_a_record, Step, Steps};
 
 /// How far log and report go at some time, and the clock then.
 #[derive(Clone, Copy)]
@@ -167,7 +167,7 @@ fn whole_steps(bytes: &[u8]) -> Result<Vec<Step>, Error> {
     for step in Steps::of(bytes) {
         match step {
             Ok(step) => steps.push(step),
-            Err(malformed) if is_cut_record(&bytes[malformed.at..]) => {}
+            Err(malformed) if can_begin_a_record(&bytes[malformed.at..]) => {}
             Err(_) => return Err(MALFORMED),
         }
     }
