@@ -1,8 +1,8 @@
 //! The kept log of a store: which steps stay in it, and one replay for each question.
 //!
 //! A step that changed nothing is not kept: a refused one, a validate, the steps of a read that was refused half way.
-//! Nor are transactions that ended in abort, where nothing of another stands behind their begins: without them the store is the same, but for the
-//! clock, which every begin moves. So they go before anything is appended behind them, and never later.
+//! Nor are transactions that ended in abort, where nothing of another stands behind their begins: without them the store is the
+//! same, but for the clock, which every begin moves. So they go before anything is appended behind them, and never later.
 
 use std::collections::BTreeMap;
 
@@ -10,7 +10,7 @@ use crate::error::Error;
 use crate::log::longest_line;
 use crate::replay::{replay, Status, Stopped};
 use crate::report::{Kind, Line, Lines, Refusal, Report, Values};
-use crate::step::{is_cut_record, Step, Steps};
+use crate::step::{can_begin_a_record, Step, Steps};
 
 /// How far log and report go at some time, and the clock then.
 #[derive(Clone, Copy)]
@@ -60,7 +60,6 @@ impl Kept {
         let endings = endings(&steps, kept.ask(&steps)?.lines());
         kept.keep(&steps);
         kept.accept(&endings, |_| ())?;
-        kept.published = kept.end.log;
         Ok(kept)
     }
 
@@ -168,14 +167,14 @@ fn whole_steps(bytes: &[u8]) -> Result<Vec<Step>, Error> {
     for step in Steps::of(bytes) {
         match step {
             Ok(step) => steps.push(step),
-            Err(malformed) if is_cut_record(&bytes[malformed.at..]) => {}
+            Err(malformed) if can_begin_a_record(&bytes[malformed.at..]) => {}
             Err(_) => return Err(MALFORMED),
         }
     }
     Ok(steps)
 }
 
-/// Steps that end all that is live behind these, in rising number: what was installed goes on to its publish, the rest is aborted.
+/// Steps that end all that is live behind these, in rising number: what was installed goes on to its publish, the rest aborts.
 fn endings(steps: &[Step], lines: Lines) -> Vec<Step> {
     let mut live = BTreeMap::new();
     for (step, line) in steps.iter().zip(lines) {

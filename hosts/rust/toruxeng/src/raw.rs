@@ -42,8 +42,8 @@ impl std::error::Error for RawError {}
 /// [`RawError::NoBuffer`] or [`RawError::BuffersOverlap`]. With length 0 any pointer will do; bytes need no alignment.
 ///
 /// # Safety
-/// A pointer that is not null, with a length above 0, is valid for so many bytes during the call: the log's for reading, the report's for
-/// reading and writing, and nobody else writes to either.
+/// A pointer that is not null, with a length above 0, is valid for so many bytes during the call: the log's for reading, the
+/// report's for reading and writing, and nobody else writes to either.
 pub unsafe fn replay_raw(log: *const u8, log_length: usize, report: *mut u8, report_length: usize) -> Result<usize, RawError> {
     let log_range = addresses(log, log_length)?;
     let report_range = addresses(report, report_length)?;
@@ -57,6 +57,8 @@ pub unsafe fn replay_raw(log: *const u8, log_length: usize, report: *mut u8, rep
 /// What a buffer covers; none at all with length 0, wherever it points.
 fn addresses(start: *const u8, length: usize) -> Result<Range<usize>, RawError> {
     let start = start as usize;
-    let end = start.checked_add(length).filter(|_| length <= isize::MAX as usize && (length == 0 || start != 0));
-    end.map(|end| start..end).ok_or(RawError::NoBuffer)
+    match start.checked_add(length) {
+        Some(end) if length == 0 || (start != 0 && length <= isize::MAX as usize) => Ok(start..end),
+        _ => Err(RawError::NoBuffer),
+    }
 }

@@ -78,7 +78,7 @@ pub fn replay<'a>(log: &[u8], report: &'a mut [u8]) -> Result<Report<'a>, Stoppe
 /// The function's answer in its two halves: bytes written, and the status where it is not 0.
 ///
 /// # Safety
-/// Each pointer is valid for its length during the call, or the length is 0; the two do not overlap. The function stays within them.
+/// Each pointer is valid for its length during the call, or the length is 0; the two do not overlap.
 pub(crate) unsafe fn call(log: *const u8, log_length: usize, report: *mut u8, report_length: usize) -> Result<usize, Stopped> {
     // SAFETY: the caller's promise
     let answer = unsafe { toruxeng_replay(log, log_length, report, report_length) };

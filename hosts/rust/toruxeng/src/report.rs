@@ -257,7 +257,7 @@ impl Verdict {
     }
 }
 
-/// Why a step was refused; [`Display`](fmt::Display) says it in words. Every refusal but [`Refusal::Stale`] left the store as it was.
+/// Why a step was refused, in words by [`Display`](fmt::Display). All but [`Refusal::Stale`] left the store as it was.
 #[derive(Clone, Copy, Debug, PartialEq, Eq, Hash, PartialOrd, Ord)]
 pub enum Refusal {
     /// open

@@ -218,12 +218,12 @@ impl fmt::Display for Malformed {
 
 impl std::error::Error for Malformed {}
 
-/// Whether the bytes are the front of a record but not all of it, as a kill may leave the last one.
-pub(crate) fn is_cut_record(bytes: &[u8]) -> bool {
+/// Whether a record can begin with these bytes; where they are no whole record, it was cut.
+pub(crate) fn can_begin_a_record(bytes: &[u8]) -> bool {
     let kinds = Kind::ALL.into_iter().filter(|&kind| widths(kind).is_some());
     let mut records = kinds.map(|kind| Step { kind, fields: [0; MOST_FIELDS] }.bytes());
     let head = &bytes[..bytes.len().min(LENGTH_BYTES + KIND_BYTES)];
-    records.any(|record| bytes.len() < record.len() && record.starts_with(head))
+    records.any(|record| record.starts_with(head))
 }
 
 /// The steps of a log, one by one; after the first fault nothing. Where an open may stand is the replay's to say.

@@ -1,8 +1,8 @@
 //! A store for an app: it keeps the log, and asks the engine by replaying it.
 //!
-//! The engine answers `validate 0 0` to a transaction that read nothing, so after a refused capture an app that looks at the verdict alone
-//! takes a read that never happened as clean. Here a verdict is only given by a [`Read`], and a read only exists where capture, collect
-//! and rows were all accepted.
+//! The engine answers `validate 0 0` to a transaction that read nothing, so after a refused capture an app that looks at the
+//! verdict alone takes a read that never happened as clean. Here a verdict is only given by a [`Read`], and a read only exists
+//! where capture, collect and rows were all accepted.
 
 use std::fmt;
 use std::sync::{Mutex, MutexGuard, PoisonError};
@@ -37,8 +37,8 @@ impl Store {
         Kept::open(rows, versions, buckets, clock).map(Store::of)
     }
 
-    /// A store from the bytes of one that was killed. A last record that is cut is dropped; any other fault, and a log without its
-    /// open, is status 15. Transactions that were installed are published, and all others that were live are aborted.
+    /// A store from the bytes of one that was killed. A last record that is cut is dropped; any other fault, and a log without
+    /// its open, is status 15. Transactions that were installed are published, and all others that were live are aborted.
     pub fn restart(bytes: &[u8]) -> Result<Store, Error> {
         Kept::restart(bytes).map(Store::of)
     }
@@ -47,8 +47,8 @@ impl Store {
         Store { kept: Mutex::new(kept) }
     }
 
-    /// A copy of the kept log, for [`Store::restart`]. What stands up to the last publish stays as it is; what is behind it may be taken
-    /// out again.
+    /// A copy of the kept log, for [`Store::restart`]. What stands up to the last publish stays as it is; what is behind it may
+    /// be taken out again.
     pub fn bytes(&self) -> Vec<u8> {
         self.kept().bytes().to_vec()
     }
@@ -84,8 +84,8 @@ fn rows_of(values: &[Values]) -> Vec<u32> {
     rows.flatten().collect()
 }
 
-/// A live transaction, Open between two calls; several may be live at once, at most eight. It is aborted when it is dropped, so an early
-/// return leaves none behind.
+/// A live transaction, Open between two calls; several may be live at once, at most eight. It is aborted when it is dropped, so
+/// an early return leaves none behind.
 ///
 /// A refusal leaves it as it was, and usable; but a stale read (8) marks it, and a marked one can only be aborted.
 #[derive(Debug)]
@@ -96,8 +96,8 @@ pub struct Transaction<'s> {
 }
 
 impl<'s> Transaction<'s> {
-    /// The rows of a key, as they were when the transaction began and as it wrote them itself. A read that is refused half way is taken back
-    /// as a whole.
+    /// The rows of a key, as they were when the transaction began and as it wrote them itself. A read that is refused half way,
+    /// by 11, is taken back as a whole, and the transaction is Open as before.
     pub fn read(&self, key: u64) -> Result<Read<'_>, Error> {
         let rows = self.store.kept().accept(&read_steps(self.number, key), rows_of)?;
         Ok(Read { transaction: self, rows })
@@ -117,8 +117,8 @@ impl<'s> Transaction<'s> {
         self.store.kept().accept(&[step], |_| ())
     }
 
-    /// Has the buckets and rows of the transaction to itself from here on. Where this is refused the transaction comes back as it was:
-    /// after 7 the same can be tried later, after 14 it must begin anew.
+    /// Has the buckets and rows of the transaction to itself from here on. Where this is refused the transaction comes back as it
+    /// was: after 7 the same can be tried later, after 14 it must begin anew.
     pub fn prepare(self) -> Result<Prepared<'s>, NotPrepared<'s>> {
         let prepared = self.write(Step::prepare(self.number));
         match prepared {
@@ -127,8 +127,8 @@ impl<'s> Transaction<'s> {
         }
     }
 
-    /// Makes the writes visible: prepare and all that follows, in one replay. Where prepare is refused the transaction is aborted;
-    /// [`Transaction::prepare`] gives it back.
+    /// Makes the writes visible: prepare and all that follows, in one replay. Where prepare is refused the transaction is
+    /// aborted; [`Transaction::prepare`] gives it back instead.
     pub fn publish(self) -> Result<(), Error> {
         let [install, end, publish] = publish_steps(self.number);
         self.store.kept().publish(self.number, &[Step::prepare(self.number), install, end, publish])
@@ -163,7 +163,7 @@ impl Drop for Transaction<'_> {
 ///
 /// Without a read there is none:
 ///
-/// ```compile_fail
+/// ```compile_fail,E0599
 /// # fn main() -> Result<(), toruxeng::Error> {
 /// # let store = toruxeng::Store::open(4, 8, 4, 1)?;
 /// let tap = store.begin()?;
@@ -175,7 +175,7 @@ impl Drop for Transaction<'_> {
 ///
 /// nor behind the end of the transaction:
 ///
-/// ```compile_fail
+/// ```compile_fail,E0505
 /// # fn main() -> Result<(), toruxeng::Error> {
 /// # let store = toruxeng::Store::open(4, 8, 4, 1)?;
 /// let tap = store.begin()?;
@@ -198,7 +198,7 @@ impl Read<'_> {
         &self.rows
     }
 
-    /// Whether this and every other read of the transaction still stands; refused with 7 while another transaction is about to publish.
+    /// Whether this and every other read of the transaction still stands; 7 while another transaction is about to publish.
     pub fn validate(&self) -> Result<Verdict, Error> {
         let Transaction { store, number } = self.transaction;
         store.kept().answer(&[Step::validate(*number)], |values| match values {
