@@ -2,6 +2,7 @@
 
 pub mod check;
 pub mod engine;
+pub mod orders;
 pub mod pack;
 pub mod replay;
 pub mod show;

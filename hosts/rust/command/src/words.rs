@@ -18,3 +18,15 @@ pub fn beside(pairs: &[(String, String)]) -> String {
     let width = pairs.iter().map(|(step, _)| step.len()).max().unwrap_or(0);
     pairs.iter().map(|(step, answer)| format!("{step:width$}  -> {answer}\n")).collect()
 }
+
+/// A number with commas: 2,018,016.
+pub fn grouped(number: u64) -> String {
+    let digits = number.to_string();
+    let threes = digits.as_bytes().rchunks(3).rev().map(|three| String::from_utf8_lossy(three));
+    threes.collect::<Vec<_>>().join(",")
+}
+
+/// 1 order, 462 orders.
+pub fn so_many(count: u64, what: &str) -> String {
+    format!("{} {what}{}", grouped(count), if count == 1 { "" } else { "s" })
+}

@@ -145,12 +145,26 @@ fn a_wrong_line_of_words_is_named() {
 
 #[test]
 fn wrong_usage_ends_with_2() {
-    let wrong: [&[&str]; 6] = [&[], &["frob"], &[""], &["replay"], &["check", "a", "b"], &["help", "me"]];
+    let wrong: [&[&str]; 12] = [
+        &[],
+        &["frob"],
+        &[""],
+        &["replay"],
+        &["check", "a", "b"],
+        &["help", "me"],
+        &["orders", "a"],
+        &["orders", "a", "b", "c", "d"],
+        &["orders", "a", "b", "--html"],
+        &["orders", "a", "b", "--html", "-"],
+        &["orders", "a", "b", "--html", "c", "--html", "d"],
+        &["orders", "-", "-"],
+    ];
     for arguments in wrong {
         let (code, written, said) = failure(arguments, b"");
         assert_eq!((code, written), (Some(2), String::new()), "{arguments:?}");
         assert!(said.ends_with("`toruxeng help` lists the commands\n"), "{said}");
     }
+    assert_eq!(failure(&["orders", "a", "b", "--colour"], b"").0, Some(2));
 }
 
 #[test]
@@ -188,7 +202,7 @@ fn a_closed_pipe_ends_quietly() {
 #[test]
 fn help_and_version_are_there() {
     let help = String::from_utf8(answer(&["help"], b"")).expect("text");
-    for command in ["replay", "check", "show", "pack", "help", "version"] {
+    for command in ["replay", "check", "show", "pack", "orders", "help", "version"] {
         assert!(help.contains(&format!("  toruxeng {command}")), "{command}");
     }
     assert_eq!(answer(&["version"], b""), format!("toruxeng {}\n", env!("CARGO_PKG_VERSION")).as_bytes());
