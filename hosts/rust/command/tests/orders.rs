@@ -206,14 +206,43 @@ fn no_order_accepts_a_tap_that_read_the_key_after_the_revocation_was_published()
     assert_eq!(outcomes_of(&files).1.validated_although_overtaken, Some(0));
 }
 
-/// A publish of another key between read and validate is counted: the line can be other than 0.
-#[test]
-fn a_read_validated_after_a_publish_of_another_key_is_counted() {
-    let reader =
-        "open 4 8 4 1\nbegin\nput 2 6 10\nprepare\ninstall\nend\npublish\n---\nbegin\ncapture 6\ncollect\nrows 4\nvalidate";
+/// A store with key 6 at row 2, a reader of it, and a writer of key 1 that has only its publish to do.
+fn beside_another_key(reader: &str) -> [(String, String); 2] {
+    let before = "open 4 8 4 1\nbegin\nput 2 6 10\nprepare\ninstall\nend\npublish\n---\n";
     let writer = "begin\nput 0 1 5\nprepare\ninstall\nend\n---\npublish";
-    let (_, outcomes) = outcomes_of(&[("reader".to_string(), reader.to_string()), ("writer".to_string(), writer.to_string())]);
-    assert_eq!((outcomes.orders, outcomes.validated_although_overtaken), (6, Some(1)));
+    [("reader".to_string(), before.to_string() + reader), ("writer".to_string(), writer.to_string())]
+}
+
+/// A publish of another key leaves the read standing, so the line can be other than 0.
+#[test]
+fn a_read_that_found_rows_and_stands_after_a_publish_behind_it_is_counted() {
+    let counted = |reader: &str| {
+        let outcomes = outcomes_of(&beside_another_key(reader)).1;
+        (outcomes.orders, outcomes.validated_although_overtaken)
+    };
+    assert_eq!(counted("begin\ncapture 6\ncollect\nrows 4\nvalidate"), (6, Some(1)));
+    // nothing found
+    assert_eq!(counted("begin\ncapture 10\ncollect\nrows 4\nvalidate"), (6, Some(0)));
+    // the first read is another transaction's
+    assert_eq!(counted("begin\ncapture 6\ncollect\nrows 4\nbegin\ncapture 6\ncollect\nrows 4\nvalidate"), (10, Some(1)));
+    // no validate at all
+    assert_eq!(counted("begin\ncapture 6\ncollect\nrows 4"), (5, None));
+}
+
+#[test]
+fn a_second_transaction_of_a_script_has_read_nothing_yet() {
+    let files = beside_another_key("begin\ncapture 6\ncollect\nrows 4\nvalidate\nabort\nbegin\nvalidate");
+    assert_counted_alike(&files);
+    let (scripts, outcomes) = outcomes_of(&files);
+    let printed = table(&scripts, &outcomes);
+    assert!(printed.contains("read row 2; verdict 0; aborted; verdict 0 of nothing read"), "{printed}");
+}
+
+#[test]
+fn candidates_are_told_where_they_are_not_the_rows() {
+    let (scripts, outcomes) = outcomes_of(&beside_another_key("begin\nerase 2\ncapture 6\ncollect\nrows 4"));
+    let printed = table(&scripts, &outcomes);
+    assert!(printed.contains("1 candidate; read no row"), "{printed}");
 }
 
 #[test]
