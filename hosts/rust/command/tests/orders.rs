@@ -327,7 +327,7 @@ fn a_script_that_is_not_good_is_told_with_its_line() {
         (open, "# nothing\ncollect\n", "line 2: a step before the script's first begin"),
         (open, "begin\n---\nbegin\n---\n", "line 4: a second line ---"),
         (open, "begin\n---\n", "which has no step to run"),
-        (open, "begin\n-- \n", "line 2: no step is called '--'"),
+        (open, "begin\n-- \n", "line 2: no step is called '--'\n"),
         ("open 0 8 4 1\n---\nbegin\n", "begin\n", "the open was refused"),
         (&many, &long, "the scripts have 71 steps together; at most 64"),
         (&many, &thirty, "scripts of 31 and 30 steps have more than 5,000,000 orders"),
