@@ -22,11 +22,13 @@ fn folder() -> PathBuf {
     PathBuf::from(env!("CARGO_MANIFEST_DIR")).join("../../../docs/orders")
 }
 
+fn kept_script(name: &str) -> (String, String) {
+    let text = fs::read_to_string(folder().join(format!("{name}.txt"))).expect("a script of docs/orders");
+    (name.to_string(), text)
+}
+
 fn tap_and_revocation() -> [(String, String); 2] {
-    ["tap", "revocation"].map(|name| {
-        let text = fs::read_to_string(folder().join(format!("{name}.txt"))).expect("a script of docs/orders");
-        (name.to_string(), text)
-    })
+    ["tap", "revocation"].map(kept_script)
 }
 
 fn short() -> [(String, String); 3] {
@@ -187,6 +189,12 @@ fn the_462_orders_of_the_example_are_those_of_the_twin() {
 #[test]
 fn three_scripts_are_counted_as_the_twin_does() {
     assert_counted_alike(&short());
+}
+
+#[test]
+#[ignore = "two million orders: more than a minute"]
+fn the_2_018_016_orders_of_two_taps_are_those_of_the_twin() {
+    assert_counted_alike(&["tap", "second_tap", "revocation"].map(kept_script));
 }
 
 /// The sentence of docs/ORDERS.md, by the twin.
