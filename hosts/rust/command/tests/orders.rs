@@ -22,11 +22,13 @@ fn folder() -> PathBuf {
     PathBuf::from(env!("CARGO_MANIFEST_DIR")).join("../../../docs/orders")
 }
 
+fn kept_script(name: &str) -> (String, String) {
+    let text = fs::read_to_string(folder().join(format!("{name}.txt"))).expect("a script of docs/orders");
+    (name.to_string(), text)
+}
+
 fn tap_and_revocation() -> [(String, String); 2] {
-    ["tap", "revocation"].map(|name| {
-        let text = fs::read_to_string(folder().join(format!("{name}.txt"))).expect("a script of docs/orders");
-        (name.to_string(), text)
-    })
+    ["tap", "revocation"].map(kept_script)
 }
 
 fn short() -> [(String, String); 3] {
@@ -189,6 +191,12 @@ fn three_scripts_are_counted_as_the_twin_does() {
     assert_counted_alike(&short());
 }
 
+#[test]
+#[ignore = "two million orders: more than a minute"]
+fn the_2_018_016_orders_of_two_taps_are_those_of_the_twin() {
+    assert_counted_alike(&["tap", "second_tap", "revocation"].map(kept_script));
+}
+
 /// The sentence of docs/ORDERS.md, by the twin.
 #[test]
 fn no_order_accepts_a_tap_that_read_the_key_after_the_revocation_was_published() {
@@ -206,14 +214,43 @@ fn no_order_accepts_a_tap_that_read_the_key_after_the_revocation_was_published()
     assert_eq!(outcomes_of(&files).1.validated_although_overtaken, Some(0));
 }
 
-/// A publish of another key between read and validate is counted: the line can be other than 0.
-#[test]
-fn a_read_validated_after_a_publish_of_another_key_is_counted() {
-    let reader =
-        "open 4 8 4 1\nbegin\nput 2 6 10\nprepare\ninstall\nend\npublish\n---\nbegin\ncapture 6\ncollect\nrows 4\nvalidate";
+/// A store with key 6 at row 2, a reader of it, and a writer of key 1 that has only its publish to do.
+fn beside_another_key(reader: &str) -> [(String, String); 2] {
+    let before = "open 4 8 4 1\nbegin\nput 2 6 10\nprepare\ninstall\nend\npublish\n---\n";
     let writer = "begin\nput 0 1 5\nprepare\ninstall\nend\n---\npublish";
-    let (_, outcomes) = outcomes_of(&[("reader".to_string(), reader.to_string()), ("writer".to_string(), writer.to_string())]);
-    assert_eq!((outcomes.orders, outcomes.validated_although_overtaken), (6, Some(1)));
+    [("reader".to_string(), before.to_string() + reader), ("writer".to_string(), writer.to_string())]
+}
+
+/// A publish of another key leaves the read standing, so the line can be other than 0.
+#[test]
+fn a_read_that_found_rows_and_stands_after_a_publish_behind_it_is_counted() {
+    let counted = |reader: &str| {
+        let outcomes = outcomes_of(&beside_another_key(reader)).1;
+        (outcomes.orders, outcomes.validated_although_overtaken)
+    };
+    assert_eq!(counted("begin\ncapture 6\ncollect\nrows 4\nvalidate"), (6, Some(1)));
+    // nothing found
+    assert_eq!(counted("begin\ncapture 10\ncollect\nrows 4\nvalidate"), (6, Some(0)));
+    // the first read is another transaction's
+    assert_eq!(counted("begin\ncapture 6\ncollect\nrows 4\nbegin\ncapture 6\ncollect\nrows 4\nvalidate"), (10, Some(1)));
+    // no validate at all
+    assert_eq!(counted("begin\ncapture 6\ncollect\nrows 4"), (5, None));
+}
+
+#[test]
+fn a_second_transaction_of_a_script_has_read_nothing_yet() {
+    let files = beside_another_key("begin\ncapture 6\ncollect\nrows 4\nvalidate\nabort\nbegin\nvalidate");
+    assert_counted_alike(&files);
+    let (scripts, outcomes) = outcomes_of(&files);
+    let printed = table(&scripts, &outcomes);
+    assert!(printed.contains("read row 2; verdict 0; aborted; verdict 0 of nothing read"), "{printed}");
+}
+
+#[test]
+fn candidates_are_told_where_they_are_not_the_rows() {
+    let (scripts, outcomes) = outcomes_of(&beside_another_key("begin\nerase 2\ncapture 6\ncollect\nrows 4"));
+    let printed = table(&scripts, &outcomes);
+    assert!(printed.contains("1 candidate; read no row"), "{printed}");
 }
 
 #[test]
@@ -298,7 +335,7 @@ fn a_script_that_is_not_good_is_told_with_its_line() {
         (open, "# nothing\ncollect\n", "line 2: a step before the script's first begin"),
         (open, "begin\n---\nbegin\n---\n", "line 4: a second line ---"),
         (open, "begin\n---\n", "which has no step to run"),
-        (open, "begin\n-- \n", "line 2: no step is called '--'"),
+        (open, "begin\n-- \n", "line 2: no step is called '--'\n"),
         ("open 0 8 4 1\n---\nbegin\n", "begin\n", "the open was refused"),
         (&many, &long, "the scripts have 71 steps together; at most 64"),
         (&many, &thirty, "scripts of 31 and 30 steps have more than 5,000,000 orders"),

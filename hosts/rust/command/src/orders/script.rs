@@ -19,7 +19,6 @@ pub struct Script {
 }
 
 /// A step of the transaction that the script began last; its number is known when the script runs.
-#[derive(Clone, Copy, PartialEq, Eq)]
 pub struct ScriptStep {
     unnumbered: Step,
 }
@@ -89,7 +88,7 @@ fn read_one(name: &str, bytes: &[u8], is_first: bool) -> Result<Script, String> 
     let steps = steps_of(behind)?;
     opened_once(&before, &steps, is_first)?;
     begun(&before, &steps)?;
-    let unnumbered = |steps: Vec<(usize, ScriptStep)>| steps.into_iter().map(|(_, step)| step).collect();
+    let unnumbered = |steps: Numbered| steps.into_iter().map(|(_, step)| step).collect();
     Ok(Script { name: name.to_string(), before: unnumbered(before), steps: unnumbered(steps) })
 }
 
@@ -100,7 +99,8 @@ fn steps_of(lines: &[(usize, &str)]) -> Result<Numbered, String> {
     let step = |&(number, line): &(usize, &str)| match ScriptStep::of_words(line) {
         Ok(step) => Ok((number, step)),
         Err(_) if line == LINE_BETWEEN => Err(format!("line {number}: a second line {LINE_BETWEEN}")),
-        Err(no_step) => Err(format!("line {number}: {no_step} (a script names no transaction)")),
+        Err(no_step @ NoStep::WrongCount { .. }) => Err(format!("line {number}: {no_step} (a script names no transaction)")),
+        Err(no_step) => Err(format!("line {number}: {no_step}")),
     };
     lines.iter().map(step).collect()
 }
