@@ -330,7 +330,7 @@ fn a_script_that_is_not_good_is_told_with_its_line() {
     for (number, (first, second, said)) in [
         ("begin\n", "begin\n", "must begin with an open"),
         ("open 4 8 4 1\nbegin\n", "begin\n", "must begin with an open"),
-        (open, "begin\ncapture 1 6\n", "line 2: capture takes 1 numbers, not 2 (a script names no transaction)"),
+        (open, "begin\ncapture 1 6\n", "line 2: capture takes 1 number, not 2 (a script names no transaction)"),
         (open, "begin\n\nopen 4 8 4 1\n", "line 3: the store is opened once"),
         (open, "# nothing\ncollect\n", "line 2: a step before the script's first begin"),
         (open, "begin\n---\nbegin\n---\n", "line 4: a second line ---"),

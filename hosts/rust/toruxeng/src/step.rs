@@ -148,7 +148,9 @@ impl fmt::Display for NoStep {
     fn fmt(&self, to: &mut fmt::Formatter) -> fmt::Result {
         match self {
             NoStep::UnknownWord(word) => write!(to, "no step is called '{word}'"),
-            NoStep::WrongCount { word, expected, found } => write!(to, "{word} takes {expected} numbers, not {found}"),
+            NoStep::WrongCount { word, expected, found } => {
+                write!(to, "{word} takes {expected} number{}, not {found}", if *expected == 1 { "" } else { "s" })
+            }
             NoStep::WrongNumber(number) => write!(to, "'{number}' is no number that fits here"),
         }
     }
