@@ -4,8 +4,6 @@
 
 #include "toruxeng.h"
 
-enum kind { OPEN = 1, BEGIN, CAPTURE, COLLECT, ROWS, PUT, ERASE, PREPARE, INSTALL, END, PUBLISH, VALIDATE, ABORT };
-
 struct log {
     uint8_t bytes[1024];
     size_t length;
@@ -24,7 +22,7 @@ static void field(struct log *log, uint64_t value, int bytes)
 }
 
 /* The length of what follows, then the kind. */
-static void record(struct log *log, enum kind kind, int bytes_of_fields)
+static void record(struct log *log, enum toruxeng_kind kind, int bytes_of_fields)
 {
     field(log, 2 + (uint64_t)bytes_of_fields, 2);
     field(log, kind, 2);
@@ -32,7 +30,7 @@ static void record(struct log *log, enum kind kind, int bytes_of_fields)
 
 static void open_store(struct log *log, uint32_t rows, uint32_t versions, uint32_t buckets, uint64_t clock)
 {
-    record(log, OPEN, 20);
+    record(log, TORUXENG_OPEN, 20);
     field(log, rows, 4);
     field(log, versions, 4);
     field(log, buckets, 4);
@@ -41,11 +39,11 @@ static void open_store(struct log *log, uint32_t rows, uint32_t versions, uint32
 
 static void begin(struct log *log)
 {
-    record(log, BEGIN, 0);
+    record(log, TORUXENG_BEGIN, 0);
 }
 
 /* A step that names its transaction and nothing else. */
-static void step(struct log *log, enum kind kind, uint64_t number)
+static void step(struct log *log, enum toruxeng_kind kind, uint64_t number)
 {
     record(log, kind, 8);
     field(log, number, 8);
@@ -53,21 +51,21 @@ static void step(struct log *log, enum kind kind, uint64_t number)
 
 static void capture(struct log *log, uint64_t number, uint64_t key)
 {
-    record(log, CAPTURE, 16);
+    record(log, TORUXENG_CAPTURE, 16);
     field(log, number, 8);
     field(log, key, 8);
 }
 
 static void rows(struct log *log, uint64_t number, uint32_t room)
 {
-    record(log, ROWS, 12);
+    record(log, TORUXENG_ROWS, 12);
     field(log, number, 8);
     field(log, room, 4);
 }
 
 static void put(struct log *log, uint64_t number, uint32_t row, uint64_t key, uint64_t payload)
 {
-    record(log, PUT, 28);
+    record(log, TORUXENG_PUT, 28);
     field(log, number, 8);
     field(log, row, 4);
     field(log, key, 8);
@@ -79,23 +77,23 @@ static void worked_example(struct log *log)
     open_store(log, 4, 8, 4, 1);
     begin(log);
     put(log, 1, 2, 6, 10);
-    step(log, PREPARE, 1);
-    step(log, INSTALL, 1);
-    step(log, END, 1);
-    step(log, PUBLISH, 1);
+    step(log, TORUXENG_PREPARE, 1);
+    step(log, TORUXENG_INSTALL, 1);
+    step(log, TORUXENG_END, 1);
+    step(log, TORUXENG_PUBLISH, 1);
     begin(log);
     capture(log, 3, 6);
-    step(log, COLLECT, 3);
+    step(log, TORUXENG_COLLECT, 3);
     rows(log, 3, 4);
     begin(log);
     put(log, 4, 0, 2, 7);
-    step(log, PREPARE, 4);
-    step(log, VALIDATE, 3);
-    step(log, INSTALL, 4);
-    step(log, END, 4);
-    step(log, PUBLISH, 4);
-    step(log, VALIDATE, 3);
-    step(log, PREPARE, 3);
+    step(log, TORUXENG_PREPARE, 4);
+    step(log, TORUXENG_VALIDATE, 3);
+    step(log, TORUXENG_INSTALL, 4);
+    step(log, TORUXENG_END, 4);
+    step(log, TORUXENG_PUBLISH, 4);
+    step(log, TORUXENG_VALIDATE, 3);
+    step(log, TORUXENG_PREPARE, 3);
 }
 
 int main(void)

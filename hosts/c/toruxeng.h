@@ -28,6 +28,23 @@ enum toruxeng_status {
     TORUXENG_BUFFERS_OVERLAP = 257 /* the checked entry alone: log and report share bytes */
 };
 
+/* The kinds of a log's records; docs/RULES.md, section 10, has their fields. */
+enum toruxeng_kind {
+    TORUXENG_OPEN = 1,
+    TORUXENG_BEGIN,
+    TORUXENG_CAPTURE,
+    TORUXENG_COLLECT,
+    TORUXENG_ROWS,
+    TORUXENG_PUT,
+    TORUXENG_ERASE,
+    TORUXENG_PREPARE,
+    TORUXENG_INSTALL,
+    TORUXENG_END,
+    TORUXENG_PUBLISH,
+    TORUXENG_VALIDATE,
+    TORUXENG_ABORT
+};
+
 /* Replays the log and writes one line for each step to the front of the report.
  *
  * log, log_length: the records, any bytes; only read.

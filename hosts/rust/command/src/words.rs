@@ -13,10 +13,10 @@ pub fn lines(text: &str) -> impl Iterator<Item = (usize, &str)> {
     })
 }
 
-/// Steps and their answers, a pair a line, the answers below each other.
+/// Steps and their answers, a pair a line, the answers below each other, behind what `lines` takes for a comment.
 pub fn beside(pairs: &[(String, String)]) -> String {
     let width = pairs.iter().map(|(step, _)| step.len()).max().unwrap_or(0);
-    pairs.iter().map(|(step, answer)| format!("{step:width$}  -> {answer}\n")).collect()
+    pairs.iter().map(|(step, answer)| format!("{step:width$}  # {answer}\n")).collect()
 }
 
 /// A number with commas: 2,018,016.

@@ -84,11 +84,11 @@ fn words_become_a_log_and_the_log_its_report() {
 fn show_gives_the_words_back_with_the_answers_below_each_other() {
     let log = worked_example();
     let shown = String::from_utf8(answer(&["show", "-"], &log)).expect("words are text");
-    let (words, answers): (Vec<&str>, Vec<&str>) = shown.lines().filter_map(|line| line.split_once("  -> ")).unzip();
+    let (words, answers): (Vec<&str>, Vec<&str>) = shown.lines().filter_map(|line| line.split_once("  # ")).unzip();
     assert_eq!(answers.join("\n") + "\n", PRINTED);
     assert!(words.iter().all(|word| word.len() == words[0].len()));
     assert_eq!(words[8].trim_end(), "capture 3 6");
-    assert_eq!(answer(&["pack", "-"], words.join("\n").as_bytes()), log);
+    assert_eq!(answer(&["pack", "-"], shown.as_bytes()), log);
 }
 
 #[test]

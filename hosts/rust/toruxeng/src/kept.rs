@@ -36,7 +36,7 @@ pub(crate) struct Kept {
     end: Place,
     /// Of the live transactions, and of those that ended in abort since the last publish; in the order of their begins.
     traces: Vec<Trace>,
-    /// Where the last publish ends, before which nothing is taken out.
+    /// Where the last publish ends, or the open or the restart, before which nothing is taken out.
     published: usize,
 }
 
@@ -44,7 +44,7 @@ impl Kept {
     pub(crate) fn open(rows: u32, versions: u32, buckets: u32, clock: u64) -> Result<Kept, Error> {
         let mut kept = Kept::empty(clock);
         kept.accept(&[Step::open(rows, versions, buckets, clock)], |_| ())?;
-        Ok(kept)
+        Ok(kept.published_here())
     }
 
     fn empty(clock: u64) -> Kept {
@@ -60,11 +60,20 @@ impl Kept {
         let endings = endings(&steps, kept.ask(&steps)?.lines());
         kept.keep(&steps);
         kept.accept(&endings, |_| ())?;
-        Ok(kept)
+        Ok(kept.published_here())
+    }
+
+    /// Of a log in which nothing is live.
+    fn published_here(self) -> Kept {
+        Kept { published: self.end.log, ..self }
     }
 
     pub(crate) fn bytes(&self) -> &[u8] {
         &self.log[..self.end.log]
+    }
+
+    pub(crate) fn published(&self) -> &[u8] {
+        &self.log[..self.published]
     }
 
     /// The number of the next transaction.

@@ -147,11 +147,11 @@ pub enum NoStep {
 impl fmt::Display for NoStep {
     fn fmt(&self, to: &mut fmt::Formatter) -> fmt::Result {
         match self {
-            NoStep::UnknownWord(word) => write!(to, "no step is called '{word}'"),
+            NoStep::UnknownWord(word) => write!(to, "no step is called '{}'", word.escape_debug()),
             NoStep::WrongCount { word, expected, found } => {
                 write!(to, "{word} takes {expected} number{}, not {found}", if *expected == 1 { "" } else { "s" })
             }
-            NoStep::WrongNumber(number) => write!(to, "'{number}' is no number that fits here"),
+            NoStep::WrongNumber(number) => write!(to, "'{}' is no number that fits here", number.escape_debug()),
         }
     }
 }

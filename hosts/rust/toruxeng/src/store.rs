@@ -47,10 +47,15 @@ impl Store {
         Store { kept: Mutex::new(kept) }
     }
 
-    /// A copy of the kept log, for [`Store::restart`]. What stands up to the last publish stays as it is; what is behind it may
-    /// be taken out again.
+    /// A copy of the kept log. What is behind the last publish may be taken out of it again, so a file is given
+    /// [`Store::published`].
     pub fn bytes(&self) -> Vec<u8> {
         self.kept().bytes().to_vec()
+    }
+
+    /// A copy of the kept log up to its last publish, for a file and [`Store::restart`]: it grows and never changes otherwise.
+    pub fn published(&self) -> Vec<u8> {
+        self.kept().published().to_vec()
     }
 
     pub fn begin(&self) -> Result<Transaction<'_>, Error> {
@@ -224,17 +229,33 @@ impl Prepared<'_> {
     }
 }
 
-/// A transaction whose prepare was refused; it is live as before.
+/// A transaction whose prepare was refused; it is live as before. `?` aborts it and hands the error on:
+///
+/// ```
+/// fn revoke(store: &toruxeng::Store, row: u32) -> Result<(), Box<dyn std::error::Error>> {
+///     let update = store.begin()?;
+///     update.erase(row)?;
+///     let prepared = update.prepare()?;
+///     Ok(prepared.publish()?)
+/// }
+/// # revoke(&toruxeng::Store::open(4, 8, 4, 1).expect("sizes in range"), 0).expect("nobody else writes");
+/// ```
 #[derive(Debug)]
 pub struct NotPrepared<'s> {
     pub transaction: Transaction<'s>,
     pub error: Error,
 }
 
-/// For `?`: the transaction is aborted.
 impl From<NotPrepared<'_>> for Error {
     fn from(refused: NotPrepared<'_>) -> Error {
         refused.error
+    }
+}
+
+/// A `NotPrepared` is itself no error of this kind, which must not borrow, as its transaction does.
+impl From<NotPrepared<'_>> for Box<dyn std::error::Error> {
+    fn from(refused: NotPrepared<'_>) -> Box<dyn std::error::Error> {
+        refused.error.into()
     }
 }
 

@@ -99,6 +99,41 @@ fn a_restarted_store_counts_on_from_the_clock_of_its_log() {
     assert_eq!(report.bytes(), b"open 0\nbegin 0 100\nabort 0\nbegin 0 101\nput 0\nprepare 0\ninstall 0\nend 0\npublish 0 102\n");
 }
 
+/// What an app does after a publish: the file gets what it does not have yet.
+fn save(store: &Store, file: &mut Vec<u8>) {
+    let published = store.published();
+    assert!(published.starts_with(file), "what a file has stays right");
+    file.extend(&published[file.len()..]);
+}
+
+#[test]
+fn a_file_of_what_was_published_restarts_as_the_store_was() {
+    let store = Store::open(4, 64, 4, 1).expect("sizes in range");
+    let mut file = Vec::new();
+    save(&store, &mut file);
+    assert_eq!(Store::restart(&file).and_then(|store| store.look(1)), Ok(vec![]));
+    let publish = |row: u32, key: Option<u64>| {
+        let update = store.begin().expect("a place is free");
+        key.map_or_else(|| update.erase(row), |key| update.put(row, key, 0)).expect("the row is there");
+        update.publish().expect("nobody else writes");
+    };
+    publish(0, Some(1));
+    publish(1, Some(2));
+    // a transaction that is live while the file is written, and given up afterwards
+    let given_up = store.begin().expect("a place is free");
+    given_up.erase(1).expect("row 1 is there");
+    save(&store, &mut file);
+    drop(given_up);
+    publish(0, None);
+    save(&store, &mut file);
+    let restarted = Store::restart(&file).expect("the file has its open");
+    for key in [1, 2] {
+        assert_eq!(restarted.look(key), store.look(key), "key {key}");
+    }
+    assert_eq!(restarted.look(2), Ok(vec![1]));
+    assert!(restarted.published().starts_with(&file));
+}
+
 #[test]
 fn what_no_kill_leaves_is_an_error() {
     let log = Log::open(4, 8, 4, 1).begin().bytes().to_vec();
