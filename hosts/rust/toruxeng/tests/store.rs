@@ -132,6 +132,10 @@ fn what_is_refused_is_not_kept_but_for_a_stale_read() {
     assert_eq!(tap.read(11).err(), Some(STALE));
     assert_eq!(read.validate(), Ok(Verdict::Marked));
     assert_eq!(kept_lines(&store).last(), Some(&(Kind::Capture, 8)));
+    let marked = store.bytes();
+    assert_eq!(tap.read(10).err(), Some(STALE));
+    assert_eq!(tap.read(11).err(), Some(STALE));
+    assert_eq!(store.bytes(), marked, "a second mark changes nothing");
     let refused = tap.prepare().expect_err("it is marked");
     assert_eq!(refused.error, CONFLICT);
     assert_eq!(Error::from(refused), CONFLICT);
