@@ -47,13 +47,14 @@ soak: kit
 	@for number in '$(STEPS)' '$(or $(SEED),0)'; do \
 	    case $$number in '' | *[!0-9]*) echo "STEPS and SEED are whole numbers, not '$$number'" >&2; exit 2 ;; esac; \
 	done
+	@hosts/targets '$(TARGET)'
 	@hosts/needs cargo gcc
 	@hosts/archive
-	@hosts/build $(TARGET)
-	@cd hosts/rust && TORUXENG_DRIVER=$(CURDIR)/target/hosts/$(TARGET)/driver cargo run --offline --quiet --release -p compare --bin soak $(STEPS) $(SEED)
+	@hosts/build '$(TARGET)'
+	@cd hosts/rust && TORUXENG_DRIVER='$(CURDIR)/target/hosts/$(TARGET)/driver' cargo run --offline --quiet --release -p compare --bin soak $(STEPS) $(SEED)
 
 bench: kit
-	@hosts/needs cargo
+	@hosts/needs cargo cc
 	@hosts/archive
 	@cd hosts/rust && cargo run --offline --quiet --release -p bench
 
