@@ -6,6 +6,8 @@ STEPS ?= 10000000
 SEED ?=
 
 .PHONY: help kit demo archive command hosts soak bench matched test
+# the targets share target/ and dist/
+.NOTPARALLEL:
 
 help:
 	@echo 'make demo     the worked example of document 01 as words with its report, and a tap against a revocation in three orders; seconds, proves nothing'
