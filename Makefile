@@ -23,7 +23,7 @@ help:
 
 # one line: which kit proves this and which is found; fails where the toolchain is missing or proves by another logic
 kit:
-	@have=$$(rt version 2>/dev/null) || have='no rt on the PATH'; \
+	@have=$$(rt version 2>&1) || have="no rt that runs: $$have"; \
 	echo "toruxeng is proved with '$(KIT)'; found: $$have" >&2; \
 	case "$$have" in *' $(LOGIC)') ;; *) exit 1 ;; esac
 
@@ -35,7 +35,7 @@ archive: kit
 	@ls dist/*/lib* dist/*/CONTENTS.txt
 
 command: kit
-	@hosts/needs cargo
+	@hosts/needs cargo cc
 	@hosts/archive
 	@cd hosts/rust && cargo build --offline --quiet --release -p command
 	@cp hosts/rust/target/release/toruxeng dist/toruxeng
