@@ -85,7 +85,7 @@ fn eight_are_live_at_once_and_a_ninth_is_refused() {
 }
 
 #[test]
-fn taps_alone_never_grow_the_log() {
+fn taps_alone_leave_nothing_in_the_log() {
     let store = loaded();
     let kept = store.bytes();
     for _ in 0..3 {
