@@ -199,7 +199,8 @@ impl Read<'_> {
         &self.rows
     }
 
-    /// Whether this and every other read of the transaction still stands; 7 while another transaction is about to publish.
+    /// Whether this and every other read of the transaction still stands; 7 while another transaction is prepared that needs a
+    /// bucket that was read, be it to publish a change or only a read of its own.
     pub fn validate(&self) -> Result<Verdict, Error> {
         let Transaction { store, number } = self.transaction;
         store.kept().answer(&[Step::validate(*number)], |values| match values {
@@ -232,7 +233,7 @@ pub struct NotPrepared<'s> {
     pub error: Error,
 }
 
-/// For `?`: the transaction is aborted.
+/// For `?`: the transaction is aborted. Towards another error type, `prepare().map_err(Error::from)?`.
 impl From<NotPrepared<'_>> for Error {
     fn from(refused: NotPrepared<'_>) -> Error {
         refused.error
