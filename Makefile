@@ -6,6 +6,8 @@ STEPS ?= 10000000
 SEED ?=
 
 .PHONY: help kit demo archive command hosts soak bench matched test
+# the targets share target/ and dist/
+.NOTPARALLEL:
 
 help:
 	@echo 'make demo     the worked example of document 01 as words with its report, and a tap against a revocation in three orders; seconds, proves nothing'
@@ -21,7 +23,7 @@ help:
 
 # one line: which kit proves this and which is found; fails where the toolchain is missing or proves by another logic
 kit:
-	@have=$$(rt version 2>/dev/null) || have='no rt on the PATH'; \
+	@have=$$(rt version 2>&1) || have="no rt that runs: $$have"; \
 	echo "toruxeng is proved with '$(KIT)'; found: $$have" >&2; \
 	case "$$have" in *' $(LOGIC)') ;; *) exit 1 ;; esac
 
@@ -33,7 +35,7 @@ archive: kit
 	@ls dist/*/lib* dist/*/CONTENTS.txt
 
 command: kit
-	@hosts/needs cargo
+	@hosts/needs cargo cc
 	@hosts/archive
 	@cd hosts/rust && cargo build --offline --quiet --release -p command
 	@cp hosts/rust/target/release/toruxeng dist/toruxeng
@@ -47,13 +49,14 @@ soak: kit
 	@for number in '$(STEPS)' '$(or $(SEED),0)'; do \
 	    case $$number in '' | *[!0-9]*) echo "STEPS and SEED are whole numbers, not '$$number'" >&2; exit 2 ;; esac; \
 	done
+	@hosts/targets '$(TARGET)'
 	@hosts/needs cargo gcc
 	@hosts/archive
-	@hosts/build $(TARGET)
-	@cd hosts/rust && TORUXENG_DRIVER=$(CURDIR)/target/hosts/$(TARGET)/driver cargo run --offline --quiet --release -p compare --bin soak $(STEPS) $(SEED)
+	@hosts/build '$(TARGET)'
+	@cd hosts/rust && TORUXENG_DRIVER='$(CURDIR)/target/hosts/$(TARGET)/driver' cargo run --offline --quiet --release -p compare --bin soak $(STEPS) $(SEED)
 
 bench: kit
-	@hosts/needs cargo
+	@hosts/needs cargo cc
 	@hosts/archive
 	@cd hosts/rust && cargo run --offline --quiet --release -p bench
 

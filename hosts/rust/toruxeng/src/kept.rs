@@ -27,6 +27,7 @@ struct Trace {
     /// Where its last record ends.
     end: usize,
     live: bool,
+    marked: bool,
 }
 
 pub(crate) struct Kept {
@@ -84,7 +85,7 @@ impl Kept {
     pub(crate) fn begin(&mut self) -> Result<u64, Error> {
         let before = self.end;
         self.accept(&[Step::begin()], |_| ())?;
-        self.traces.push(Trace { number: before.clock, before, end: self.end.log, live: true });
+        self.traces.push(Trace { number: before.clock, before, end: self.end.log, live: true, marked: false });
         Ok(before.clock)
     }
 
@@ -125,15 +126,25 @@ impl Kept {
         first
     }
 
-    /// Keeps the steps where all are accepted, and else none of them; only a stale capture stays, since it marks its transaction.
+    /// Keeps the steps where all are accepted, and else none of them; only the capture that marks its transaction stays.
     pub(crate) fn accept<T>(&mut self, steps: &[Step], of: impl FnOnce(&[Values]) -> T) -> Result<T, Error> {
         let answer = self.answer(steps, of);
         match answer {
             Ok(_) => self.keep(steps),
-            Err(Error::Refused(Refusal::Stale)) => self.keep(&steps[..1]),
+            Err(Error::Refused(Refusal::Stale)) => self.keep_mark(&steps[..1]),
             Err(_) => {}
         }
         answer
+    }
+
+    /// Keeps the first stale capture of a transaction; those behind it change nothing.
+    fn keep_mark(&mut self, capture: &[Step]) {
+        let number = capture.first().and_then(Step::number);
+        let unmarked = self.traces.iter_mut().find(|trace| Some(trace.number) == number && !trace.marked);
+        if let Some(trace) = unmarked {
+            trace.marked = true;
+            self.keep(capture);
+        }
     }
 
     /// What `of` makes of the steps' values, or the first refusal; nothing is kept.

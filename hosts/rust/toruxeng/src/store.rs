@@ -39,6 +39,7 @@ impl Store {
 
     /// A store from the bytes of one that was killed. A last record that is cut is dropped; any other fault, and a log without
     /// its open, is status 15. Transactions that were installed are published, and all others that were live are aborted.
+    /// Its [`Store::bytes`] are others than these then, and take their place before anything is appended.
     pub fn restart(bytes: &[u8]) -> Result<Store, Error> {
         Kept::restart(bytes).map(Store::of)
     }
@@ -203,7 +204,8 @@ impl Read<'_> {
         &self.rows
     }
 
-    /// Whether this and every other read of the transaction still stands; 7 while another transaction is about to publish.
+    /// Whether this and every other read of the transaction still stands; 7 while another transaction is prepared that needs a
+    /// bucket that was read, be it to publish a change or only a read of its own.
     pub fn validate(&self) -> Result<Verdict, Error> {
         let Transaction { store, number } = self.transaction;
         store.kept().answer(&[Step::validate(*number)], |values| match values {

@@ -61,8 +61,10 @@ fn buffers_may_touch_and_not_overlap() {
     // SAFETY: the report begins where the log ends
     assert_eq!(unsafe { replay_raw(start, length, start.add(length), 64) }, Ok("open 0\nbegin 0 1\n".len()));
     assert_eq!(bytes[..length], before[..length]);
+    bytes.copy_within(..length, 64);
+    let start = bytes.as_mut_ptr();
     // SAFETY: the log begins where the report ends
-    assert_eq!(unsafe { replay_raw(start.add(64), 0, start, 64) }, Ok(0));
+    assert_eq!(unsafe { replay_raw(start.add(64), length, start, 64) }, Ok("open 0\nbegin 0 1\n".len()));
 }
 
 #[test]

@@ -85,7 +85,7 @@ fn eight_are_live_at_once_and_a_ninth_is_refused() {
 }
 
 #[test]
-fn taps_alone_never_grow_the_log() {
+fn taps_alone_leave_nothing_in_the_log() {
     let store = loaded();
     let kept = store.bytes();
     for _ in 0..3 {
@@ -132,6 +132,10 @@ fn what_is_refused_is_not_kept_but_for_a_stale_read() {
     assert_eq!(tap.read(11).err(), Some(STALE));
     assert_eq!(read.validate(), Ok(Verdict::Marked));
     assert_eq!(kept_lines(&store).last(), Some(&(Kind::Capture, 8)));
+    let marked = store.bytes();
+    assert_eq!(tap.read(10).err(), Some(STALE));
+    assert_eq!(tap.read(11).err(), Some(STALE));
+    assert_eq!(store.bytes(), marked, "a second mark changes nothing");
     let refused = tap.prepare().expect_err("it is marked");
     assert_eq!(refused.error, CONFLICT);
     assert_eq!(Error::from(refused), CONFLICT);

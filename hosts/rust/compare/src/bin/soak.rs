@@ -39,7 +39,7 @@ fn asked() -> Option<(u64, u64)> {
     let mut numbers = std::env::args().skip(1).map(|argument| argument.parse::<u64>().ok());
     let steps = numbers.next()??;
     let by_time = || SystemTime::now().duration_since(UNIX_EPOCH).map_or(0, |time| time.as_secs());
-    let seed = numbers.next().map_or_else(|| Some(by_time()), |seed| seed)?;
+    let seed = numbers.next().unwrap_or_else(|| Some(by_time()))?;
     numbers.next().is_none().then_some((steps, seed))
 }
 
