@@ -53,11 +53,13 @@ soak: kit
 	@hosts/needs cargo gcc
 	@hosts/archive
 	@hosts/build '$(TARGET)'
+	@echo 'dist/$(TARGET) against the twin'
 	@cd hosts/rust && TORUXENG_DRIVER='$(CURDIR)/target/hosts/$(TARGET)/driver' cargo run --offline --quiet --release -p compare --bin soak $(STEPS) $(SEED)
 
 bench: kit
 	@hosts/needs cargo cc
 	@hosts/archive
+	@echo "dist/$$(uname -m)-unknown-linux-gnu beside the twin"
 	@cd hosts/rust && cargo run --offline --quiet --release -p bench
 
 matched: kit
