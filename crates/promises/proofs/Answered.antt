@@ -35,7 +35,7 @@ use Rattle.promises.proofs.Calls.{any-call}
 
 -- ---- an answer as it is told: the same number and values
 
-told-number : (a : machine.Answer) → numberOf (told a) ≡ answerNumber a
+pub told-number : (a : machine.Answer) → numberOf (told a) ≡ answerNumber a
 told-number machine.Done = refl
 told-number (machine.Number n) = refl
 told-number (machine.Stamp n) = refl

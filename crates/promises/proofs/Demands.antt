@@ -2,20 +2,22 @@
 -- All that a statement says is defined in specs/; each proof is one line. Calls that meet the premises stand in Runs.
 use Prim.Native.Nat.{ℕ}
 use mathlib.Core.Path.{_≡_}
+use mathlib.Core.Bool.{true}
 use mathlib.Core.List.{List, [], _∷_, _++_}
 use Rattle.model.specs.Store.{Collected}
 use Rattle.model.specs.Verdict.{Verdict}
 use Rattle.model.specs.Refusals.{validate, txnOf}
 use Rattle.model.specs.Machine.{step}
-use Rattle.model.specs.Demands.{StandingRead}
+use Rattle.model.specs.Given.{Lives}
+use Rattle.model.specs.Demands.{MarkedOpen, StandingRead}
 use Rattle.protocol.specs.declared.Answer.the-variants as tell
 use Rattle.protocol.specs.declared.Verdict.the-variants as verdict
-use Rattle.steps.specs.Words.{Words, sizesView}
+use Rattle.steps.specs.Words.{Words, sizesView, view}
 use Rattle.promises.specs.Calls.{Call, called, Typed, AnyCall}
-use Rattle.promises.specs.Demands.{ExactCall, Opening, openNumber, ExactOpen, after, storeAfter, Follows, reading, validating, JudgedCall, ReadCall}
+use Rattle.promises.specs.Demands.{ExactCall, Opening, openNumber, ExactOpen, after, storeAfter, Follows, reading, validating, MarkedCalls, JudgedCall, ReadCall}
 use Rattle.promises.proofs.Calls.{any-call}
 use Rattle.promises.proofs.Answered.{exactly, judges, opens-exactly}
-use Rattle.promises.proofs.Sequences.{follows, reads, stands}
+use Rattle.promises.proofs.Sequences.{follows, marked-open, stops, reads, stands}
 
 -- DEMAND 1, of a call on any words that the code's types allow: its number exactly when, in order; its values; what it leaves. And of open.
 pub exact-call : (w : Words) (c : Call) → Typed w → ExactCall w c
@@ -35,6 +37,13 @@ judged-call = judges
 -- After an accepted open and any calls the words fit and stand for the model's run of their steps.
 pub calls-follow : (o : Opening) → openNumber o ≡ 0 → (cs : List Call) → Follows o cs
 calls-follow = follows
+
+-- Every marked transaction is Open, so no call of rows meets one; and no more work is done in it, until it is aborted.
+pub calls-marked : (o : Opening) → openNumber o ≡ 0 → (cs : List Call) → MarkedOpen (view (after o cs))
+calls-marked = marked-open
+
+pub marked-calls : (o : Opening) → openNumber o ≡ 0 → (cs : List Call) (t : ℕ) → Lives (storeAfter o cs) t → txnOf (storeAfter o cs) t .marked ≡ true → MarkedCalls o cs t
+marked-calls = stops
 
 -- DEMAND 2, the read: rows that a call answers are a finished read, at the front of its list.
 pub read-call : (o : Opening) → openNumber o ≡ 0 → (cs : List Call) (t : ℕ) (lent : List ℕ) (n : ℕ) → called (after o cs) (reading t lent) .answer ≡ tell.Rows n → ReadCall o cs t lent n

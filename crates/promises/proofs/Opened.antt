@@ -46,7 +46,7 @@ module _ (rows versions buckets lists : List ℕ) (z : Sizes) (clock : ℕ) (l :
   done-by false b e = let q : _≡_ {A = ℕ} 0 1 = cc in absurd (omega arith)
 
   module _ (o : openOf rows versions buckets lists z clock .answer ≡ tell.Done) where
-    tests : (canOpen (sizesView z) clock ≡ true) × (tablesLent rows versions buckets lists z ≡ true)
+    pub tests : (canOpen (sizesView z) clock ≡ true) × (tablesLent rows versions buckets lists z ≡ true)
     unfolding openOf
     tests = done-by (canOpen (sizesView z) clock) (tablesLent rows versions buckets lists z) o
 

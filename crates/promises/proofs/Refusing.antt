@@ -171,8 +171,9 @@ module _ (z : Sizes) (t : Transaction) (clock used : ℕ) (b : Tables) where
   unfolding writeOf
   write-kept s w =
       guard (wrongPhase t 1) (λ e. rw e (inl refl))
-      (λ e. rw e (guard (not (ltb (w .row) (z .rows))) (λ e. rw e (inl refl))
-      (λ e. rw e (guard (leb mostWrites (t .«writes_n»)) (λ e. rw e (inl refl)) (λ e. rw e refl)))))
+      (λ e. rw e (guard (t .marked) (λ m. rw m (inl refl))
+      (λ m. rw m (guard (not (ltb (w .row) (z .rows))) (λ e. rw e (inl refl))
+      (λ e. rw e (guard (leb mostWrites (t .«writes_n»)) (λ e. rw e (inl refl)) (λ e. rw e refl)))))))
 
   install-kept : (o : Others) (n : ℕ) → KeptBy (ask.Install n) (doneBy z o t clock used (ask.Install n) b)
   unfolding installOf

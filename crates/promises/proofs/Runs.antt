@@ -1,11 +1,13 @@
--- An open and calls that meet the premises of the page of statements: a read that finds a row, another transaction that publishes meanwhile, a clear verdict. Assumes nothing.
+-- An open and calls that meet the premises of the page of statements: a read that finds a row, another transaction that publishes meanwhile, a clear verdict; and a capture that finds a stale stamp. Assumes nothing.
 use Prim.Native.Nat.{ℕ}
 use mathlib.Core.Path.{_≡_, refl, ap, _∙_}
+use mathlib.Core.Bool.{true}
 use mathlib.Core.List.{List, [], _∷_, _++_, map}
 use native.Mathlib.Omega.{arith}
 use lib.ListN.{replicate}
 use Rattle.model.specs.Store.{Collected}
 use Rattle.model.specs.Refusals.{txnOf}
+use Rattle.model.specs.Given.{Lives}
 use Rattle.model.specs.Shape.{goodSizes}
 use Rattle.model.specs.Machine.{run, canOpen}
 use Rattle.model.proofs.Reached as reached
@@ -58,3 +60,11 @@ collected = (reached.met .2, reached.met .3)
 pub validated : called (after o (before ++ (reading 3 list ∷ between))) (validating 3) .answer ≡ tell.Judged verdict.Clear
 unfolding run
 validated = answer-after o opens (before ++ (reading 3 list ∷ between)) (validating 3) ∙ ap told (reached.met .4)
+
+-- the calls after which transaction 3 is marked: the premises of marked-calls
+abbrev pub stale : List Call
+stale = without (ask.Begin ∷ ask.Put 1 2 6 10 ∷ ask.Prepare 1 ∷ ask.Install 1 ∷ ask.End 1 ∷ ask.Publish 1 ∷ ask.Begin ∷ ask.Begin ∷ ask.Put 4 0 2 7 ∷ ask.Prepare 4 ∷ ask.Install 4 ∷ ask.End 4 ∷ ask.Publish 4 ∷ ask.Capture 3 6 ∷ [])
+
+pub marked : Lives (storeAfter o stale) 3 × (txnOf (storeAfter o stale) 3 .marked ≡ true)
+unfolding run
+marked = (reached.met-marked .0, reached.met-marked .1)

@@ -1,6 +1,7 @@
 -- Any sequence of calls after an accepted open: the words fit and stand for the model's run; a read that is told, and a validation that finds it good. Assumes nothing.
 use Prim.Native.Nat.{ℕ, min}
 use mathlib.Core.Path.{_≡_, refl, sym, ap, subst, _∙_}
+use mathlib.Core.Bool.{true}
 use mathlib.Core.List.{List, [], _∷_, _++_, map-append}
 use native.Mathlib.Omega.{arith}
 use lib.ListN.{length, drop}
@@ -8,19 +9,21 @@ use Rattle.model.specs.Store.{Store, Collected, fresh}
 use Rattle.model.specs.Verdict as judged
 use Rattle.model.specs.Refusals.{Step as Asked, rows, validate, txnOf}
 use Rattle.model.specs.Machine as machine
-use Rattle.model.specs.Machine.{lentAfter, step, run}
-use Rattle.model.specs.Demands.{StandingRead}
-use Rattle.model.proofs.Promises.{finished-read, validated-read}
+use Rattle.model.specs.Machine.{lentAfter, at, step, run}
+use Rattle.model.specs.Given.{number, Lives}
+use Rattle.model.specs.Demands.{MarkedOpen, MarkedGives, StandingRead}
+use Rattle.model.proofs.Promises.{finished-read, validated-read, kept-marked, marked-stops}
 use Rattle.protocol.specs.declared.Answer.the-variants as tell
 use Rattle.protocol.specs.declared.Verdict.the-variants as verdict
 use Rattle.protocol.specs.View.{told}
+use Rattle.answers.specs.Answers.{numberOf}
 use Rattle.steps.specs.Words.{sizesView, view}
 use Rattle.bridge.proofs.Running.{Stands}
 use Rattle.promises.specs.Calls.{Call, asking, called, stepsOf}
-use Rattle.promises.specs.Demands.{Opening, openNumber, after, storeAfter, Follows, reading, validating, ReadCall}
-use Rattle.promises.proofs.Opened.{open-stands, open-view}
+use Rattle.promises.specs.Demands.{Opening, openNumber, after, storeAfter, Follows, reading, validating, MarkedCalls, ReadCall}
+use Rattle.promises.proofs.Opened.{tests, open-stands, open-view}
 use Rattle.promises.proofs.Calls.{stands-typed, sized-fit, called-as, calls-stand, calls-view}
-use Rattle.promises.proofs.Answered.{told-judged, open-done}
+use Rattle.promises.proofs.Answered.{told-number, told-judged, open-done}
 
 -- found rows are told by their count
 told-rows : (a : machine.Answer) (n : ℕ) → told a ≡ tell.Rows n → (rs : List ℕ) × (a ≡ machine.Rows rs) × (n ≡ length rs)
@@ -54,9 +57,13 @@ module _ (o : Opening) (e : openNumber o ≡ 0) where
   pub follows : (cs : List Call) → Follows o cs
   follows cs = let h = after-stands cs in record { typed = stands-typed _ h; fits = sized-fit _ (h .sized); stands-for = after-view cs }
 
+  -- calls behind calls
+  joined : (cs more : List Call) → storeAfter o (cs ++ more) ≡ run (storeAfter o cs) (stepsOf more)
+  joined cs more = ap (run (fresh (sizesView (o .sizes)) (o .clock))) (map-append asking cs more) ∙ run-append (fresh (sizesView (o .sizes)) (o .clock)) (stepsOf cs) (stepsOf more)
+
   steps-after : (cs : List Call) (c : Call) (between : List Call) → storeAfter o (cs ++ (c ∷ between)) ≡ run (step (storeAfter o cs) (asking c) .store) (stepsOf between)
   unfolding run
-  steps-after cs c between = ap (run (fresh (sizesView (o .sizes)) (o .clock))) (map-append asking cs (c ∷ between)) ∙ run-append (fresh (sizesView (o .sizes)) (o .clock)) (stepsOf cs) (stepsOf (c ∷ between))
+  steps-after cs c between = joined cs (c ∷ between)
 
   pub answer-after : (cs : List Call) (c : Call) → called (after o cs) c .answer ≡ told (step (storeAfter o cs) (asking c) .answer)
   answer-after cs c = rw (after-view cs) at (called-as (after o cs) (after-stands cs) c .answer)
@@ -77,6 +84,26 @@ module _ (o : Opening) (e : openNumber o ≡ 0) where
         handed = rw (reading-asks t lent) at (found-after cs (reading t lent)) ∙ (ap (λ (a : machine.Answer). lentAfter a lent) (w .1) ∙ ap (λ (m : ℕ). w .0 ++ drop m lent) (sym (w .2)));
         finished = finished-read (sizesView (o .sizes)) (o .clock) (stepsOf cs) t (length lent) (w .0) (w .1);
       }
+
+  -- ---- a marked transaction
+
+  pub marked-open : (cs : List Call) → MarkedOpen (view (after o cs))
+  marked-open cs = subst MarkedOpen (sym (after-view cs)) (kept-marked (sizesView (o .sizes)) (o .clock) (stepsOf cs))
+
+  number-after : (cs : List Call) (c : Call) → numberOf (called (after o cs) c .answer) ≡ number (storeAfter o cs) (asking c)
+  number-after cs c = ap numberOf (answer-after cs c) ∙ told-number (step (storeAfter o cs) (asking c) .answer)
+
+  pub stops : (cs : List Call) (t : ℕ) → Lives (storeAfter o cs) t → txnOf (storeAfter o cs) t .marked ≡ true → MarkedCalls o cs t
+  stops cs t l m =
+      let opens = tests (o .rows) (o .versions) (o .buckets) (o .lists) (o .sizes) (o .clock) (o .clock-in) (open-done o e) .0 in
+      let h = marked-stops (sizesView (o .sizes)) (o .clock) (stepsOf cs) opens (o .clock-in) t l m in
+      record {
+        gives = λ c named q. subst (MarkedGives (asking c)) (sym (number-after cs c)) (h .gives (asking c) named q);
+        judged = λ z. answer-after cs (validating t) ∙ ap told (h .judged (sym (number-after cs (validating t)) ∙ z));
+        stays = λ more d. ap (λ (s : Store). s .txns (at (storeAfter o cs) t)) (after-view (cs ++ more) ∙ joined cs more) ∙ h .stays (stepsOf more) d;
+      }
+
+  -- ---- a read, and a validation that finds it good
 
   -- the rows that were told are the ones found
   same-found : (cs : List Call) (t : ℕ) (lent : List ℕ) (n : ℕ) (q : called (after o cs) (reading t lent) .answer ≡ tell.Rows n) → reads cs t lent n q .found ≡ found-by cs t lent n q .0

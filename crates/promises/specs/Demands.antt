@@ -6,17 +6,19 @@ use mathlib.Core.Logic.{_↔_, _≢_, _⊎_}
 use mathlib.Core.List.{List, [], _++_}
 use lib.ListN.{length, drop}
 use Rattle.limits.specs.Limits.{mostRows, mostVersions, mostBuckets, lastNumber}
+use Rattle.model.specs.Lists.{Among}
 use Rattle.model.specs.Store.{Store, fresh}
 use Rattle.model.specs.Verdict.{Verdict}
 use Rattle.model.specs.Steps.{readBuckets}
-use Rattle.model.specs.Refusals.{rows, validate, txnOf}
-use Rattle.model.specs.Machine.{answerValues, lentAfter, step, run}
+use Rattle.model.specs.Refusals.{rows, validate, abort, txnOf}
+use Rattle.model.specs.Machine.{answerValues, lentAfter, at, actor, step, run}
 use Rattle.model.specs.Causes.{Cause}
-use Rattle.model.specs.Given.{_and_, Ready, BucketsFree, Outside, given, Given, documented}
+use Rattle.model.specs.Given.{_and_, Names, Ready, BucketsFree, Outside, given, Given, documented}
 use Rattle.model.specs.Leaves.{Leaves}
-use Rattle.model.specs.Demands.{FinishedRead}
+use Rattle.model.specs.Demands.{MarkedGives, FinishedRead}
 use Rattle.protocol.specs.declared.Step.the-variants as ask
 use Rattle.protocol.specs.declared.Answer.the-variants as tell
+use Rattle.protocol.specs.declared.Verdict.the-variants as verdict
 use Rattle.protocol.specs.View.{verdictTold}
 use Rattle.answers.specs.Answers.{numberOf, valuesOf}
 use Rattle.places.specs.declared.Sizes.{Sizes}
@@ -86,6 +88,12 @@ reading t lent = record { asks = ask.Rows t (length lent); lent = lent }
 
 abbrev pub validating : ℕ → Call
 validating t = record { asks = ask.Validate t; lent = [] }
+
+-- no more work in a marked transaction, after an accepted open and any calls: the number of each call that names it, and validate's verdict; its record stays as it is, whatever calls come, until one aborts it
+pub record MarkedCalls (o : Opening) (cs : List Call) (t : ℕ) : Type 0 where
+  pub gives : (c : Call) → Names (asking c) → actor (asking c) ≡ t → MarkedGives (asking c) (numberOf (called (after o cs) c .answer))
+  pub judged : numberOf (called (after o cs) (validating t) .answer) ≡ 0 → called (after o cs) (validating t) .answer ≡ tell.Judged verdict.Mark
+  pub stays : (more : List Call) → (Among (abort t) (stepsOf more) → ⊥) → view (after o (cs ++ more)) .txns (at (storeAfter o cs) t) ≡ txnOf (storeAfter o cs) t
 
 -- DEMAND 2
 
