@@ -2,9 +2,9 @@
 -- Assumes nothing.
 use Prim.Native.Nat.{ℕ, _+_, _-_, _%_, _/_, min}
 use mathlib.Core.Path.{refl}
-use mathlib.Core.Bool.{cond, not}
+use mathlib.Core.Bool.{false, cond, not}
 use mathlib.Core.List.{List, [], _∷_}
-use lib.Dec.{eqb}
+use lib.Dec.{eqb, leb}
 use lib.ListN.{getD}
 use Rattle.model.specs.Store.{rank, bucketIn, keyIn}
 use Rattle.tables.specs.Lists.{writes}
@@ -137,6 +137,30 @@ put-payload-for-key = apart (1, live 5 phase.Open, 0, 7, 9, roomFor writes) (λ 
 pub put-keyless : Excludes put (λ (rows, t, row, key, payload, lists). erase (rows, t, row, lists))
 unfolding computes
 put-keyless = apart (1, live 5 phase.Open, 0, 7, 9, roomFor writes) (λ (l : LeftLists). getD (l .lists) (writes .off + 1) 0) refl
+
+-- the same transaction without its mark
+abbrev unmarked : Transaction → Transaction
+unmarked t = record { number = t .number; snapshot = t .snapshot; marked = false; phase = t .phase; slot = t .slot; «reads_n» = t .«reads_n»; «writes_n» = t .«writes_n»; «records_n» = t .«records_n»; «candidates_n» = t .«candidates_n» }
+
+-- `put`: a marked transaction goes on writing
+pub put-mark-forgotten : Excludes put (λ (rows, t, row, key, payload, lists). put (rows, unmarked t, row, key, payload, lists))
+unfolding computes
+put-mark-forgotten = apart (1, withMark (live 5 phase.Open), 0, 7, 9, roomFor writes) (λ (l : LeftLists). numberIn (l .reply .answer)) refl
+
+-- `put`: 8 after 6
+pub put-row-before-mark : Excludes put (λ (rows, t, row, key, payload, lists). cond (leb rows row) (put (rows, unmarked t, row, key, payload, lists)) (put (rows, t, row, key, payload, lists)))
+unfolding computes
+put-row-before-mark = apart (1, withMark (live 5 phase.Open), 1, 7, 9, roomFor writes) (λ (l : LeftLists). numberIn (l .reply .answer)) refl
+
+-- `put`: 8 before 5
+pub put-mark-before-phase : Excludes put (λ (rows, t, row, key, payload, lists). cond (t .marked) (record { reply = refusedOf t 8; lists = lists }) (put (rows, t, row, key, payload, lists)))
+unfolding computes
+put-mark-before-phase = apart (1, withMark (live 5 phase.Prepared), 0, 7, 9, roomFor writes) (λ (l : LeftLists). numberIn (l .reply .answer)) refl
+
+-- `erase`: a marked transaction goes on erasing
+pub erase-mark-forgotten : Excludes erase (λ (rows, t, row, lists). erase (rows, unmarked t, row, lists))
+unfolding computes
+erase-mark-forgotten = apart (1, withMark (live 5 phase.Open), 0, roomFor writes) (λ (l : LeftLists). numberIn (l .reply .answer)) refl
 
 -- `erase`: written with the key 0
 pub erase-keyed : Excludes erase (λ (rows, t, row, lists). put (rows, t, row, 0, 0, lists))
