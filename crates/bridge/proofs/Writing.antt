@@ -15,7 +15,7 @@ use Rattle.limits.specs.Limits.{mostLive, mostWrites}
 use Rattle.model.specs.Store as model
 use Rattle.model.specs.Table.{update}
 use Rattle.model.specs.Steps as does
-use Rattle.model.specs.Refusals.{Step as Asked, WrongPhase, NoRow, ManyWrites, checks, refusal, inPhase, writeChecks}
+use Rattle.model.specs.Refusals.{Step as Asked, WrongPhase, Marked, NoRow, ManyWrites, checks, refusal, inPhase, writeChecks}
 use Rattle.model.specs.Machine.{gives, accepted, afterRefusal, carried}
 use Rattle.model.specs.Machine as machine
 use Rattle.protocol.specs.declared.Step.the-variants as ask
@@ -73,20 +73,22 @@ module _ (w : Words) (z : Sized w) (n : ℕ) (l : standing w n < mostLive) where
 
 -- one pending write more, for put and erase alike
 module _ (w : Words) (z : Sized w) (p : ℕ) (l : p < mostLive) (x : Write) (a : Asked) (e : accepted (view w) a ≡ gives (does.written (view w) p (writeView x)) machine.Done) where
-  written-at : (b c d : Bool) → leb mostWrites (txnAt w p .«writes_n») ≡ d
+  written-at : (b m c d : Bool) → leb mostWrites (txnAt w p .«writes_n») ≡ d
       → SameAt w p
       (inLists
       (cond b (record { reply = refusedOf (txnAt w p) 5; lists = w .tables .lists })
+      (cond m (record { reply = refusedOf (txnAt w p) 8; lists = w .tables .lists })
       (cond c (record { reply = refusedOf (txnAt w p) 6; lists = w .tables .lists })
       (cond d (record { reply = refusedOf (txnAt w p) 12; lists = w .tables .lists })
-      (record { reply = record { answer = tell.Done; txn = withWrites (txnAt w p) (txnAt w p .«writes_n» + 1) }; lists = stored lists.writes (w .tables .lists) (txnAt w p .slot) (txnAt w p .«writes_n») (writeWords x) }))))
+      (record { reply = record { answer = tell.Done; txn = withWrites (txnAt w p) (txnAt w p .«writes_n» + 1) }; lists = stored lists.writes (w .tables .lists) (txnAt w p .slot) (txnAt w p .«writes_n») (writeWords x) })))))
       (w .clock) (w .used) (w .tables))
-      (carried (view w) a (cond b (some WrongPhase) (cond c (some NoRow) (cond d (some ManyWrites) none))))
+      (carried (view w) a (cond b (some WrongPhase) (cond m (some Marked) (cond c (some NoRow) (cond d (some ManyWrites) none)))))
   unfolding carried afterRefusal
-  written-at true c d h = refused-same w z p WrongPhase
-  written-at false true d h = refused-same w z p NoRow
-  written-at false false true h = refused-same w z p ManyWrites
-  written-at false false false h = rw e
+  written-at true m c d h = refused-same w z p WrongPhase
+  written-at false true c d h = refused-same w z p Marked
+  written-at false false true d h = refused-same w z p NoRow
+  written-at false false false true h = refused-same w z p ManyWrites
+  written-at false false false false h = rw e
       (let k : txnAt w p .«writes_n» < mostWrites = leb-false mostWrites (txnAt w p .«writes_n») h in
       let s = sized-at w z p in
       let q = s .slot in
@@ -109,10 +111,10 @@ pub put-same : (w : Words) → Sized w → (n r k payload : ℕ) → Same w (ask
 unfolding checks accepted writeOf refusal
 put-same w z n r k payload = by-place w z (ask.Put n r k payload) refl (inPhase (view w) n 1) (writeChecks (view w) n r) refl
     (λ l d e. rw (writes-length (w .tables .lists) (txnAt w (standing w n)))
-    (written-at w z (standing w n) l (record { row = r; keyed = 1; key = k; payload = payload }) (asked (ask.Put n r k payload)) refl (not (eqb (model.rank (phaseView (txnAt w (standing w n) .phase))) 1)) (not (ltb r (w .sizes .rows))) (leb mostWrites (txnAt w (standing w n) .«writes_n»)) refl))
+    (written-at w z (standing w n) l (record { row = r; keyed = 1; key = k; payload = payload }) (asked (ask.Put n r k payload)) refl (not (eqb (model.rank (phaseView (txnAt w (standing w n) .phase))) 1)) (txnAt w (standing w n) .marked) (not (ltb r (w .sizes .rows))) (leb mostWrites (txnAt w (standing w n) .«writes_n»)) refl))
 
 pub erase-same : (w : Words) → Sized w → (n r : ℕ) → Same w (ask.Erase n r)
 unfolding checks accepted writeOf refusal
 erase-same w z n r = by-place w z (ask.Erase n r) refl (inPhase (view w) n 1) (writeChecks (view w) n r) refl
     (λ l d e. rw (writes-length (w .tables .lists) (txnAt w (standing w n)))
-    (written-at w z (standing w n) l (record { row = r; keyed = 0; key = 0; payload = 0 }) (asked (ask.Erase n r)) refl (not (eqb (model.rank (phaseView (txnAt w (standing w n) .phase))) 1)) (not (ltb r (w .sizes .rows))) (leb mostWrites (txnAt w (standing w n) .«writes_n»)) refl))
+    (written-at w z (standing w n) l (record { row = r; keyed = 0; key = 0; payload = 0 }) (asked (ask.Erase n r)) refl (not (eqb (model.rank (phaseView (txnAt w (standing w n) .phase))) 1)) (txnAt w (standing w n) .marked) (not (ltb r (w .sizes .rows))) (leb mostWrites (txnAt w (standing w n) .«writes_n»)) refl))

@@ -2,21 +2,23 @@
 use mathlib.Core.Path.{_≡_, refl, sym, ap, _∙_}
 use mathlib.Core.Bool.{Bool, true, false, cond, not, true≢false, false≢true}
 use mathlib.Core.Logic.{_↔_, inl, inr, ⊎-elim}
+use mathlib.Core.Option.{Option, none, some}
 use mathlib.Core.List.{List, [], _∷_}
 use Prim.Native.Nat.{ℕ, _+_, min}
+use native.Mathlib.Omega.{arith}
 use lib.ListN.{length}
 use Rattle.limits.specs.Limits.{mostRows, mostLive, mostRecords, mostWrites, lastNumber}
-use Rattle.model.specs.Lists.{member}
+use Rattle.model.specs.Lists.{all-of}
 use Rattle.model.specs.Store.{Sizes, Store}
 use Rattle.model.specs.Steps.{foundRows, recordsAfter, readBuckets, neededBuckets}
-use Rattle.model.specs.Refusals.{Refusal, Stale, WrongShape, NoSuch, WrongPhase, NoRow, ManyWrites, refusalNumber, Step, begin, capture, collect, rows, put, erase, prepare, install, end, publish, validate, abort, txnOf, liveCount, found, writeChecks, checks}
+use Rattle.model.specs.Refusals.{Refusal, Stale, WrongShape, NoSuch, WrongPhase, NoRow, Marked, ManyWrites, refusalNumber, Step, begin, capture, collect, rows, put, erase, prepare, install, end, publish, validate, abort, txnOf, liveCount, found, writeChecks, checks, refusal}
 use Rattle.model.specs.Shape.{rightShape}
-use Rattle.model.specs.Machine.{Refused, answerNumber, actor, at, step, canOpen}
+use Rattle.model.specs.Machine.{Refused, actor, isStale, gives, carried, step, stepIn, canOpen}
 use Rattle.model.specs.Given.{number, Lives, RightPhase, bucketFor, verdictOf, versionsAfter, openNumber, given, named, writing, Given, GivenOpen, StaleStamp}
-use Rattle.model.proofs.ListLaws.{among-member}
+use Rattle.model.proofs.Move.{never-stale}
+use Rattle.model.proofs.Unrefused.{refuses, accepted-answers}
 use Rattle.model.proofs.FirstTest.{Test, itself, opposite, either, less, at-most, equal, code}
 use Rattle.model.proofs.Conditions.{number-is, shape-test, lives-test, lives-number, in-phase, early, another, bucket-taken, row-taken, stale-test, read-test, cannot-open}
-use Rattle.model.proofs.Refused.{inOrder, gives-only}
 use Rattle.model.proofs.Outcomes.{capture-stale}
 
 module _ (n : ℕ) where
@@ -37,7 +39,7 @@ module _ (n : ℕ) where
   named-lines s a phase more p later = line _ WrongShape _ (shape-test s) (λ sh. line _ NoSuch _ (lives-test s (actor a)) (λ l. line _ WrongPhase more (opposite p) (λ ph. later l)))
 
   write-lines : (s : Store) (t r : ℕ) → code (writeChecks s t r) ≡ n ↔ writing s t r n
-  write-lines s t r = line _ NoRow _ (opposite (less r (s .sizes .rows))) (λ i. line _ ManyWrites [] (at-most mostWrites (length (txnOf s t .writes))) (λ few. no-line))
+  write-lines s t r = line _ Marked _ (itself (txnOf s t .marked)) (λ m. line _ NoRow _ (opposite (less r (s .sizes .rows))) (λ i. line _ ManyWrites [] (at-most mostWrites (length (txnOf s t .writes))) (λ few. no-line)))
 
 -- each step gives n exactly where its table does
 pub given-exactly : (s : Store) (a : Step) (n : ℕ) → number s a ≡ n ↔ Given s a n
@@ -66,21 +68,27 @@ one-line false why shut = (λ e. inl (why refl, sym e), λ w. ⊎-elim (λ y. sy
 pub open-exactly : (z : Sizes) (clock n : ℕ) → openNumber z clock ≡ n ↔ GivenOpen z clock n
 open-exactly z clock n = one-line (canOpen z clock) (cannot-open z clock .0) (cannot-open z clock .1)
 
--- a refusal that marks is a capture's that finds a stale stamp
-no-eight : (s : Store) (a : Step) → member 8 (inOrder a) ≡ false → step s a .answer ≡ Refused Stale → ⊥
-no-eight s a d e = true≢false (sym (among-member 8 (inOrder a) (rw (ap answerNumber e) at (gives-only s a))) ∙ d)
+-- a refusal that marks is a capture's that finds a stale stamp: no other step has one among its tests
+never-marks : (s : Store) (a : Step) → all-of (λ c. not (isStale (c .1))) (checks s a) ≡ true → step s a .answer ≡ Refused Stale → ⊥
+unfolding step stepIn carried
+never-marks s a p = go (rightShape s) (refusal (checks s a)) refl
+  where
+    go : (b : Bool) (o : Option Refusal) → refusal (checks s a) ≡ o → cond b (carried s a o) (gives s (Refused WrongShape)) .answer ≡ Refused Stale → ⊥
+    go true none e f = true≢false (sym (ap refuses f) ∙ accepted-answers s a)
+    go true (some r) e f = let q : r ≡ Stale = cc in never-stale (checks s a) r p e (rw q)
+    go false o e f = let z : _≡_ {A = ℕ} 0 1 = cc in omega arith
 
 pub only-stale-marks : (s : Store) (a : Step) → step s a .answer ≡ Refused Stale ↔ StaleStamp s a
-unfolding member
-only-stale-marks s begin = (no-eight s begin refl, λ w. absurd w)
+unfolding checks all-of
+only-stale-marks s begin = (never-marks s begin refl, λ w. absurd w)
 only-stale-marks s (capture t k) = capture-stale s t k
-only-stale-marks s (collect t) = (no-eight s (collect t) refl, λ w. absurd w)
-only-stale-marks s (rows t room) = (no-eight s (rows t room) refl, λ w. absurd w)
-only-stale-marks s (put t r k payload) = (no-eight s (put t r k payload) refl, λ w. absurd w)
-only-stale-marks s (erase t r) = (no-eight s (erase t r) refl, λ w. absurd w)
-only-stale-marks s (prepare t) = (no-eight s (prepare t) refl, λ w. absurd w)
-only-stale-marks s (install t) = (no-eight s (install t) refl, λ w. absurd w)
-only-stale-marks s (end t) = (no-eight s (end t) refl, λ w. absurd w)
-only-stale-marks s (publish t) = (no-eight s (publish t) refl, λ w. absurd w)
-only-stale-marks s (validate t) = (no-eight s (validate t) refl, λ w. absurd w)
-only-stale-marks s (abort t) = (no-eight s (abort t) refl, λ w. absurd w)
+only-stale-marks s (collect t) = (never-marks s (collect t) refl, λ w. absurd w)
+only-stale-marks s (rows t room) = (never-marks s (rows t room) refl, λ w. absurd w)
+only-stale-marks s (put t r k payload) = (never-marks s (put t r k payload) refl, λ w. absurd w)
+only-stale-marks s (erase t r) = (never-marks s (erase t r) refl, λ w. absurd w)
+only-stale-marks s (prepare t) = (never-marks s (prepare t) refl, λ w. absurd w)
+only-stale-marks s (install t) = (never-marks s (install t) refl, λ w. absurd w)
+only-stale-marks s (end t) = (never-marks s (end t) refl, λ w. absurd w)
+only-stale-marks s (publish t) = (never-marks s (publish t) refl, λ w. absurd w)
+only-stale-marks s (validate t) = (never-marks s (validate t) refl, λ w. absurd w)
+only-stale-marks s (abort t) = (never-marks s (abort t) refl, λ w. absurd w)

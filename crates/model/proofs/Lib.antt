@@ -41,6 +41,7 @@ pub mod Events
 pub mod Snapshots
 pub mod Traces
 pub mod Answering
+pub mod Marked
 pub mod Keeping
 pub mod Standing
 pub mod Promises

@@ -42,7 +42,7 @@ pub stale-eight : (s : Store) (a : Step) → StaleStamp s a → number s a ≡ 8
 stale-eight s a w = ap answerNumber (only-stale-marks s a .1 w)
 
 -- a step meets a stale stamp or it does not
-stale-or-not : (s : Store) (a : Step) → StaleStamp s a ⊎ (StaleStamp s a → ⊥)
+pub stale-or-not : (s : Store) (a : Step) → StaleStamp s a ⊎ (StaleStamp s a → ⊥)
 stale-or-not s begin = inr (λ w. w)
 stale-or-not s (capture t k) = elim (ℕ-discrete (number s (capture t k)) 8) [
   | yes e ↦ let w = capture-8 s t k .0 e in ⊎-elim (λ m. inr (λ p. true≢false (sym m ∙ p .1 .0))) (λ p. inl (w .0, p)) (w .1)

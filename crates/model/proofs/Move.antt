@@ -16,7 +16,7 @@ use Rattle.model.specs.Store.{Store, Txn, Write, Ended, rank, bucketOf}
 use Rattle.model.specs.Seeing.{live, Live}
 use Rattle.model.specs.Verdict.{verdict, verdictNumber}
 use Rattle.model.specs.Steps.{begun, stale, captured, collected, readDone, written, prepared, installed, becomes, published, ended, hasRead, recordsAfter, pendingRows, neededBuckets}
-use Rattle.model.specs.Refusals.{Refusal, Step, begin, capture, collect, rows, put, erase, prepare, install, end, publish, validate, abort, placeOf, txnOf, liveCount, byAnother, reserved, found, checks, refusal}
+use Rattle.model.specs.Refusals.{Refusal, Step, begin, capture, collect, rows, put, erase, prepare, install, end, publish, validate, abort, placeOf, txnOf, liveCount, byAnother, reserved, found, inPhase, writeChecks, checks, refusal}
 use Rattle.model.specs.Shape.{rightShape}
 use Rattle.model.specs.Machine.{at, actor, accepted, isStale, afterRefusal, carried, step, stepIn, run}
 use Rattle.model.proofs.ListLaws.{and-l, and-r, or-l, or-r, first-holds, first-free}
@@ -73,7 +73,7 @@ passes-to-stale true q r cs n y e = let p : q ≡ r = cc in absurd (false≢true
 passes-to-stale false q r cs n y e = (refl, e)
 
 -- a list of tests with no such refusal
-never-stale : (cs : List (Bool × Refusal)) (r : Refusal) → all-of (λ c. not (isStale (c .1))) cs ≡ true → refusal cs ≡ some r → isStale r ≡ true → ⊥
+pub never-stale : (cs : List (Bool × Refusal)) (r : Refusal) → all-of (λ c. not (isStale (c .1))) cs ≡ true → refusal cs ≡ some r → isStale r ≡ true → ⊥
 unfolding refusal all-of
 never-stale [] r a e y = let z : _≡_ {A = ℕ} 0 1 = cc in omega arith
 never-stale (c ∷ cs) r a e y = go (c .0) refl (λ f. never-stale cs r (and-r (not (isStale (c .1))) (all-of (λ d. not (isStale (d .1))) cs) a) f y)
@@ -168,22 +168,23 @@ rows-move s t room = plain-move s (rows t room) refl λ e.
     let b = passes _ _ _ (a .1) in
     did-rows (at s t) (f .alive) (eqb-true _ _ (f .phase-is)) (ltb-false _ _ (b .0))
 
+-- put and erase have the same tests
+write-move : (s : Store) (t : ℕ) (w : Write) → refusal (found s t (inPhase s t 1) (writeChecks s t (w .row))) ≡ none → Move s (at s t) (written s (at s t) w)
+write-move s t w e =
+    let f = finds s t _ _ e in
+    let a = passes _ _ _ (f .rest) in
+    let b = passes _ _ _ (a .1) in
+    let c = passes _ _ _ (b .1) in
+    did-write (at s t) w (f .alive) (eqb-true _ _ (f .phase-is)) (ltb-true _ _ (not-false _ (b .0))) (leb-false _ _ (c .0))
+
 in-move : (s : Store) (a : Step) → Move s (at s (actor a)) (stepIn s a .store)
 unfolding checks accepted all-of
 in-move s begin = begin-move s
 in-move s (capture t k) = capture-move s t k
 in-move s (collect t) = plain-move s (collect t) refl λ e. let f = finds s t _ _ e in did-collect (at s t) (f .alive) (eqb-true _ _ (f .phase-is))
 in-move s (rows t room) = rows-move s t room
-in-move s (put t r k payload) = plain-move s (put t r k payload) refl λ e.
-    let f = finds s t _ _ e in
-    let a = passes _ _ _ (f .rest) in
-    let b = passes _ _ _ (a .1) in
-    did-write (at s t) _ (f .alive) (eqb-true _ _ (f .phase-is)) (ltb-true _ _ (not-false _ (a .0))) (leb-false _ _ (b .0))
-in-move s (erase t r) = plain-move s (erase t r) refl λ e.
-    let f = finds s t _ _ e in
-    let a = passes _ _ _ (f .rest) in
-    let b = passes _ _ _ (a .1) in
-    did-write (at s t) _ (f .alive) (eqb-true _ _ (f .phase-is)) (ltb-true _ _ (not-false _ (a .0))) (leb-false _ _ (b .0))
+in-move s (put t r k payload) = plain-move s (put t r k payload) refl λ e. write-move s t _ e
+in-move s (erase t r) = plain-move s (erase t r) refl λ e. write-move s t _ e
 in-move s (prepare t) = prepare-move s t
 in-move s (install t) = plain-move s (install t) refl λ e. let f = finds s t _ _ e in did-install (at s t) (f .alive) (eqb-true _ _ (f .phase-is))
 in-move s (end t) = plain-move s (end t) refl λ e. let f = finds s t _ _ e in did-end (at s t) (f .alive) (eqb-true _ _ (f .phase-is))

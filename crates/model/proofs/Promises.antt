@@ -14,11 +14,12 @@ use Rattle.model.specs.Refusals.{Step, rows, validate, prepare, txnOf}
 use Rattle.model.specs.Machine.{Rows, Judged, Done, step, run, canOpen}
 use Rattle.model.specs.History.{history}
 use Rattle.model.specs.Causes.{Cause}
-use Rattle.model.specs.Given.{_and_, Ready, BucketsFree, openNumber, GivenOpen}
-use Rattle.model.specs.Demands.{ExactAnswer, MarkLives, Shapely, NothingLost, DistinctAt, KeptVersion, HistoryStands, UpstreamSees, FinishedRead, StandingRead}
+use Rattle.model.specs.Given.{_and_, Lives, Ready, BucketsFree, openNumber, GivenOpen}
+use Rattle.model.specs.Demands.{ExactAnswer, MarkLives, Shapely, NothingLost, DistinctAt, MarkedOpen, NoMoreWork, KeptVersion, HistoryStands, UpstreamSees, FinishedRead, StandingRead}
 use Rattle.model.proofs.Exact.{open-exactly}
 use Rattle.model.proofs.Marking.{mark-lives}
 use Rattle.model.proofs.Distinct.{distinct-opened}
+use Rattle.model.proofs.Marked.{marked-opened, no-more-work}
 use Rattle.model.proofs.Answering.{exact, judges}
 use Rattle.model.proofs.Keeping.{shapely, nothing-lost, lasting, history-stands, upstream-sees}
 use Rattle.model.proofs.Standing.{finished, validated, prepared}
@@ -70,6 +71,14 @@ kept-held = nothing-lost
 -- The index reads of each transaction are of distinct buckets.
 pub kept-reads : (z : Sizes) (clock : ℕ) (before : List Step) → DistinctAt (run (fresh z clock) before)
 kept-reads = distinct-opened
+
+-- Every marked transaction is Open, so `rows` never meets one.
+pub kept-marked : (z : Sizes) (clock : ℕ) (before : List Step) → MarkedOpen (run (fresh z clock) before)
+kept-marked = marked-opened
+
+-- No more work is done in a marked transaction, until it is aborted.
+pub marked-stops : (z : Sizes) (clock : ℕ) (before : List Step) → canOpen z clock ≡ true → clock ≤ lastNumber → let s = run (fresh z clock) before in (t : ℕ) → Lives s t → txnOf s t .marked ≡ true → NoMoreWork s t
+marked-stops = no-more-work
 
 -- A version's xmin, next, key and payload never change once it is made, and its xmax changes once, from 0.
 pub kept-versions : (z : Sizes) (clock : ℕ) (before : List Step) → canOpen z clock ≡ true → clock ≤ lastNumber → (more : List Step) (p : ℕ) → let s = run (fresh z clock) before in 1 ≤ p → p ≤ s .chains .used → KeptVersion (s .chains) (run s more .chains) p

@@ -10,14 +10,14 @@ use lib.Dec.{ltb}
 use borrow.Author.Tests.{ltb-true}
 use Rattle.limits.specs.Limits.{mostLive}
 use Rattle.model.specs.Store.{Sizes, Store, Collected, fresh, rank}
-use Rattle.model.specs.Verdict.{Clear}
-use Rattle.model.specs.Refusals.{Step, begin, capture, collect, rows, put, prepare, install, end, publish, validate, txnOf}
+use Rattle.model.specs.Verdict.{Clear, Mark}
+use Rattle.model.specs.Refusals.{Step, begin, capture, collect, rows, put, erase, prepare, install, end, publish, validate, abort, txnOf}
 use Rattle.model.specs.Seeing.{Live, seen, shows, snapshotNow}
 use Rattle.model.specs.Machine.{Done, Rows, Judged, step, run, canOpen}
 use Rattle.model.specs.Upstream.{postingsOf, remove, insert, postingReplay}
 use Rattle.model.specs.History.{addEvents, stepEvents, historyOver, history}
 use Rattle.model.specs.Holding.{Unpublished}
-use Rattle.model.specs.Given.{StaleStamp}
+use Rattle.model.specs.Given.{number, Lives, StaleStamp}
 use Rattle.model.proofs.Computes.{computes}
 use Rattle.model.proofs.Numbers.{in-place}
 use Rattle.model.proofs.Good.{opened-good}
@@ -63,13 +63,18 @@ pub met-stale : StaleStamp s₃ (capture 3 6)
 unfolding computes
 met-stale = ((refl, (0, omega arith, refl, omega arith), refl), (refl, (inl refl, omega arith)))
 
--- the mark lasts through a put, and the transaction goes on: the premises of mark-life
+-- the mark lasts through an accepted step, and the transaction goes on: the premises of mark-life
 abbrev pub s₄ : Store
 s₄ = step s₃ (capture 3 6) .store
 
-pub met-mark : (s₄ .txns 0 .number ≡ 3) × (step s₄ (put 3 1 5 8) .store .txns 0 .number ≡ 3) × (s₄ .txns 0 .marked ≡ true) × (step s₄ (put 3 1 5 8) .store .txns 0 .marked ≡ true)
+pub met-mark : (s₄ .txns 0 .number ≡ 3) × (step s₄ (validate 3) .store .txns 0 .number ≡ 3) × (s₄ .txns 0 .marked ≡ true) × (step s₄ (validate 3) .store .txns 0 .marked ≡ true)
 unfolding computes
 met-mark = (refl, refl, refl, refl)
+
+-- the premises of marked-stops, and what it says there: 8 to a put and an erase, of a row that is not there too; validate and abort still work
+pub met-marked : Lives s₄ 3 × (txnOf s₄ 3 .marked ≡ true) × (number s₄ (put 3 1 5 8) ≡ 8) × (number s₄ (put 3 4 5 8) ≡ 8) × (number s₄ (erase 3 1) ≡ 8) × (number s₄ (erase 3 4) ≡ 8) × (step s₄ (validate 3) .answer ≡ Judged Mark) × (number s₄ (abort 3) ≡ 0)
+unfolding computes
+met-marked = ((0, omega arith, refl, omega arith), refl, refl, refl, refl, refl, refl, refl)
 
 -- a version that ends: transaction 3 writes row 2 again; key and payload of the old version stay, and its xmax turns from 0 to 3
 abbrev pub over : List Step

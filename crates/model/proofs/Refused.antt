@@ -17,14 +17,14 @@ use Rattle.model.specs.Given.{_and_, number, Shaped, Lives, Names, Right
 use Rattle.model.proofs.FirstTest.{given-among, itself, opposite, either, less, at-most, equal, stop, skip, stop-or, pass}
 use Rattle.model.proofs.Conditions.{all-tests, number-is, shape-test, lives-number, past, ready-only, cannot-open, unknown, wrong-phase, no-sixteen, in-phase, early, another, bucket-taken, row-taken, stale-test, read-test}
 
--- the numbers that a step can give, in the order of its tests; capture's first 8 is the mark's, its second a stale stamp's
+-- the numbers that a step can give, in the order of its tests; capture's second 8 is a stale stamp's, every other 8 the mark's
 abbrev pub inOrder : Step → List ℕ
 inOrder begin = 16 ∷ 3 ∷ 2 ∷ 0 ∷ []
 inOrder (capture t k) = 16 ∷ 4 ∷ 5 ∷ 8 ∷ 7 ∷ 8 ∷ 9 ∷ 0 ∷ []
 inOrder (collect t) = 16 ∷ 4 ∷ 5 ∷ 0 ∷ []
 inOrder (rows t room) = 16 ∷ 4 ∷ 5 ∷ 10 ∷ 11 ∷ 0 ∷ []
-inOrder (put t r k payload) = 16 ∷ 4 ∷ 5 ∷ 6 ∷ 12 ∷ 0 ∷ []
-inOrder (erase t r) = 16 ∷ 4 ∷ 5 ∷ 6 ∷ 12 ∷ 0 ∷ []
+inOrder (put t r k payload) = 16 ∷ 4 ∷ 5 ∷ 8 ∷ 6 ∷ 12 ∷ 0 ∷ []
+inOrder (erase t r) = 16 ∷ 4 ∷ 5 ∷ 8 ∷ 6 ∷ 12 ∷ 0 ∷ []
 inOrder (prepare t) = 16 ∷ 4 ∷ 5 ∷ 7 ∷ 14 ∷ 13 ∷ 0 ∷ []
 inOrder (install t) = 16 ∷ 4 ∷ 5 ∷ 0 ∷ []
 inOrder (end t) = 16 ∷ 4 ∷ 5 ∷ 0 ∷ []
@@ -126,30 +126,38 @@ pub rows-0 : (s : Store) (t room : ℕ) → number s (rows t room) ≡ 0 ↔ Rea
 unfolding checks all-of
 rows-0 s t room = rw (number-is s (rows t room)) (past 0 s (rows t room) _ _ (omega arith) (in-phase s t 3) (λ l. skip 0 _ _ _ (less (min room mostRows) (length (foundRows s (txnOf s t)))) (omega arith) (λ f. pass _ _ (less mostRecords (length (recordsAfter s (txnOf s t)))) (omega arith))))
 
--- put, erase: 6 where the row is not below the row count, then 12 for a 17th pending write
-pub put-6 : (s : Store) (t r k payload : ℕ) → number s (put t r k payload) ≡ 6 ↔ Ready s (put t r k payload) and (s .sizes .rows ≤ r)
+-- put, erase: 8 by the mark, then 6 where the row is not below the row count, then 12 for a 17th pending write
+pub put-8 : (s : Store) (t r k payload : ℕ) → number s (put t r k payload) ≡ 8 ↔ Ready s (put t r k payload) and (txnOf s t .marked ≡ true)
 unfolding checks all-of
-put-6 s t r k payload = rw (number-is s (put t r k payload)) (past 6 s (put t r k payload) _ _ (omega arith) (in-phase s t 1) (λ l. stop 6 _ _ _ (opposite (less r (s .sizes .rows))) (omega arith) refl))
+put-8 s t r k payload = rw (number-is s (put t r k payload)) (past 8 s (put t r k payload) _ _ (omega arith) (in-phase s t 1) (λ l. stop 8 _ _ _ (itself (txnOf s t .marked)) (omega arith) refl))
 
-pub put-12 : (s : Store) (t r k payload : ℕ) → number s (put t r k payload) ≡ 12 ↔ Ready s (put t r k payload) and (r < s .sizes .rows) and (mostWrites ≤ length (txnOf s t .writes))
+pub put-6 : (s : Store) (t r k payload : ℕ) → number s (put t r k payload) ≡ 6 ↔ Ready s (put t r k payload) and (txnOf s t .marked ≡ false) and (s .sizes .rows ≤ r)
 unfolding checks all-of
-put-12 s t r k payload = rw (number-is s (put t r k payload)) (past 12 s (put t r k payload) _ _ (omega arith) (in-phase s t 1) (λ l. skip 12 _ _ _ (opposite (less r (s .sizes .rows))) (omega arith) (λ i. stop 12 _ _ _ (at-most mostWrites (length (txnOf s t .writes))) (omega arith) refl)))
+put-6 s t r k payload = rw (number-is s (put t r k payload)) (past 6 s (put t r k payload) _ _ (omega arith) (in-phase s t 1) (λ l. skip 6 _ _ _ (itself (txnOf s t .marked)) (omega arith) (λ m. stop 6 _ _ _ (opposite (less r (s .sizes .rows))) (omega arith) refl)))
 
-pub put-0 : (s : Store) (t r k payload : ℕ) → number s (put t r k payload) ≡ 0 ↔ Ready s (put t r k payload) and (r < s .sizes .rows) and (length (txnOf s t .writes) < mostWrites)
+pub put-12 : (s : Store) (t r k payload : ℕ) → number s (put t r k payload) ≡ 12 ↔ Ready s (put t r k payload) and (txnOf s t .marked ≡ false) and (r < s .sizes .rows) and (mostWrites ≤ length (txnOf s t .writes))
 unfolding checks all-of
-put-0 s t r k payload = rw (number-is s (put t r k payload)) (past 0 s (put t r k payload) _ _ (omega arith) (in-phase s t 1) (λ l. skip 0 _ _ _ (opposite (less r (s .sizes .rows))) (omega arith) (λ i. pass _ _ (at-most mostWrites (length (txnOf s t .writes))) (omega arith))))
+put-12 s t r k payload = rw (number-is s (put t r k payload)) (past 12 s (put t r k payload) _ _ (omega arith) (in-phase s t 1) (λ l. skip 12 _ _ _ (itself (txnOf s t .marked)) (omega arith) (λ m. skip 12 _ _ _ (opposite (less r (s .sizes .rows))) (omega arith) (λ i. stop 12 _ _ _ (at-most mostWrites (length (txnOf s t .writes))) (omega arith) refl))))
 
-pub erase-6 : (s : Store) (t r : ℕ) → number s (erase t r) ≡ 6 ↔ Ready s (erase t r) and (s .sizes .rows ≤ r)
+pub put-0 : (s : Store) (t r k payload : ℕ) → number s (put t r k payload) ≡ 0 ↔ Ready s (put t r k payload) and (txnOf s t .marked ≡ false) and (r < s .sizes .rows) and (length (txnOf s t .writes) < mostWrites)
 unfolding checks all-of
-erase-6 s t r = rw (number-is s (erase t r)) (past 6 s (erase t r) _ _ (omega arith) (in-phase s t 1) (λ l. stop 6 _ _ _ (opposite (less r (s .sizes .rows))) (omega arith) refl))
+put-0 s t r k payload = rw (number-is s (put t r k payload)) (past 0 s (put t r k payload) _ _ (omega arith) (in-phase s t 1) (λ l. skip 0 _ _ _ (itself (txnOf s t .marked)) (omega arith) (λ m. skip 0 _ _ _ (opposite (less r (s .sizes .rows))) (omega arith) (λ i. pass _ _ (at-most mostWrites (length (txnOf s t .writes))) (omega arith)))))
 
-pub erase-12 : (s : Store) (t r : ℕ) → number s (erase t r) ≡ 12 ↔ Ready s (erase t r) and (r < s .sizes .rows) and (mostWrites ≤ length (txnOf s t .writes))
+pub erase-8 : (s : Store) (t r : ℕ) → number s (erase t r) ≡ 8 ↔ Ready s (erase t r) and (txnOf s t .marked ≡ true)
 unfolding checks all-of
-erase-12 s t r = rw (number-is s (erase t r)) (past 12 s (erase t r) _ _ (omega arith) (in-phase s t 1) (λ l. skip 12 _ _ _ (opposite (less r (s .sizes .rows))) (omega arith) (λ i. stop 12 _ _ _ (at-most mostWrites (length (txnOf s t .writes))) (omega arith) refl)))
+erase-8 s t r = rw (number-is s (erase t r)) (past 8 s (erase t r) _ _ (omega arith) (in-phase s t 1) (λ l. stop 8 _ _ _ (itself (txnOf s t .marked)) (omega arith) refl))
 
-pub erase-0 : (s : Store) (t r : ℕ) → number s (erase t r) ≡ 0 ↔ Ready s (erase t r) and (r < s .sizes .rows) and (length (txnOf s t .writes) < mostWrites)
+pub erase-6 : (s : Store) (t r : ℕ) → number s (erase t r) ≡ 6 ↔ Ready s (erase t r) and (txnOf s t .marked ≡ false) and (s .sizes .rows ≤ r)
 unfolding checks all-of
-erase-0 s t r = rw (number-is s (erase t r)) (past 0 s (erase t r) _ _ (omega arith) (in-phase s t 1) (λ l. skip 0 _ _ _ (opposite (less r (s .sizes .rows))) (omega arith) (λ i. pass _ _ (at-most mostWrites (length (txnOf s t .writes))) (omega arith))))
+erase-6 s t r = rw (number-is s (erase t r)) (past 6 s (erase t r) _ _ (omega arith) (in-phase s t 1) (λ l. skip 6 _ _ _ (itself (txnOf s t .marked)) (omega arith) (λ m. stop 6 _ _ _ (opposite (less r (s .sizes .rows))) (omega arith) refl)))
+
+pub erase-12 : (s : Store) (t r : ℕ) → number s (erase t r) ≡ 12 ↔ Ready s (erase t r) and (txnOf s t .marked ≡ false) and (r < s .sizes .rows) and (mostWrites ≤ length (txnOf s t .writes))
+unfolding checks all-of
+erase-12 s t r = rw (number-is s (erase t r)) (past 12 s (erase t r) _ _ (omega arith) (in-phase s t 1) (λ l. skip 12 _ _ _ (itself (txnOf s t .marked)) (omega arith) (λ m. skip 12 _ _ _ (opposite (less r (s .sizes .rows))) (omega arith) (λ i. stop 12 _ _ _ (at-most mostWrites (length (txnOf s t .writes))) (omega arith) refl))))
+
+pub erase-0 : (s : Store) (t r : ℕ) → number s (erase t r) ≡ 0 ↔ Ready s (erase t r) and (txnOf s t .marked ≡ false) and (r < s .sizes .rows) and (length (txnOf s t .writes) < mostWrites)
+unfolding checks all-of
+erase-0 s t r = rw (number-is s (erase t r)) (past 0 s (erase t r) _ _ (omega arith) (in-phase s t 1) (λ l. skip 0 _ _ _ (itself (txnOf s t .marked)) (omega arith) (λ m. skip 0 _ _ _ (opposite (less r (s .sizes .rows))) (omega arith) (λ i. pass _ _ (at-most mostWrites (length (txnOf s t .writes))) (omega arith)))))
 
 -- prepare: 7 where a needed bucket or a pending row is another's, 14 where the verdict is not 0, 13 where versions run out
 pub prepare-7 : (s : Store) (t : ℕ) → number s (prepare t) ≡ 7 ↔ Ready s (prepare t) and (BucketTaken s t (neededBuckets s (txnOf s t)) ⊎ RowTaken s t)

@@ -126,9 +126,9 @@ given number Case n below = (Case × (n ≡ number)) ⊎ ((Case → ⊥) × belo
 abbrev pub named : Store → Step → ℕ → Type 0 → Type 0
 named s a n below = given 16 (rightShape s ≡ false) n (given 4 (Lives s (actor a) → ⊥) n (given 5 (RightPhase s a → ⊥) n below))
 
--- put, erase: the row, then a 17th pending write
+-- put, erase: the mark, then the row, then a 17th pending write
 abbrev pub writing : Store → ℕ → ℕ → ℕ → Type 0
-writing s t r n = given 6 (s .sizes .rows ≤ r) n (given 12 (mostWrites ≤ length (txnOf s t .writes)) n (n ≡ 0))
+writing s t r n = given 8 (txnOf s t .marked ≡ true) n (given 6 (s .sizes .rows ≤ r) n (given 12 (mostWrites ≤ length (txnOf s t .writes)) n (n ≡ 0)))
 
 -- the number n that a step gives: the tests of document 01 from the first to the last, and 0 where none holds
 abbrev pub Given : Store → Step → ℕ → Type 0

@@ -73,9 +73,9 @@ unfoldable pub reserved : Sizes → (ℕ → Txn) → ℕ → ℕ
 reserved z txns zero = 0
 reserved z txns (suc n) = reserved z txns n + reservedBy z (txns n)
 
--- put, erase: a row below the row count, and not a 17th pending write
+-- put, erase: not marked, a row below the row count, and not a 17th pending write
 abbrev pub writeChecks : Store → ℕ → ℕ → List (Bool × Refusal)
-writeChecks s t r = (not (ltb r (s .sizes .rows)), NoRow) ∷ (leb mostWrites (length (txnOf s t .writes)), ManyWrites) ∷ []
+writeChecks s t r = (txnOf s t .marked, Marked) ∷ (not (ltb r (s .sizes .rows)), NoRow) ∷ (leb mostWrites (length (txnOf s t .writes)), ManyWrites) ∷ []
 
 -- 4, and then 5 where the phase is not the one that the step needs
 abbrev pub found : Store → ℕ → Bool → List (Bool × Refusal) → List (Bool × Refusal)

@@ -106,16 +106,17 @@ captureAt t b k buckets lists =
 abbrev pub captureOf : ℕ → Transaction → ℕ → List ℕ → List ℕ → Left
 captureOf bucketCount t k buckets lists = captureAt t (k % bucketCount) k buckets lists
 
--- ---- put, erase: wrong phase, row not below the row count, a 17th pending write; else it is appended
+-- ---- put, erase: wrong phase, mark, row not below the row count, a 17th pending write; else it is appended
 unfoldable pub writeOf : ℕ → Transaction → Write → List ℕ → LeftLists
 writeOf rowCount t w lists =
     cond (not (eqb (rank (phaseView (t .phase))) 1)) (record { reply = refusedOf t 5; lists = lists })
+    (cond (t .marked) (record { reply = refusedOf t 8; lists = lists })
     (cond (not (ltb (w .row) rowCount)) (record { reply = refusedOf t 6; lists = lists })
     (cond (leb mostWrites (t .«writes_n»)) (record { reply = refusedOf t 12; lists = lists })
     (record {
       reply = record { answer = tell.Done; txn = withWrites t (t .«writes_n» + 1) };
       lists = stored writes lists (t .slot) (t .«writes_n») (w .row ∷ w .keyed ∷ w .key ∷ w .payload ∷ []);
-    })))
+    }))))
 
 -- ---- collect
 

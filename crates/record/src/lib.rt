@@ -265,6 +265,9 @@ impl Transaction {
         if phase_rank(phase) != OPEN {
             return refused(self, WRONG_PHASE);
         }
+        if self.marked {
+            return refused(self, MARKED);
+        }
         if row >= row_count {
             return refused(self, NO_ROW);
         }
