@@ -9,9 +9,9 @@
 #include <stddef.h>
 #include <stdint.h>
 
-#define TORUXENG_VERSION "0.2.0"
+#define TORUXENG_VERSION "0.3.0"
 #define TORUXENG_VERSION_MAJOR 0
-#define TORUXENG_VERSION_MINOR 2
+#define TORUXENG_VERSION_MINOR 3
 #define TORUXENG_VERSION_PATCH 0
 
 #ifdef __cplusplus

@@ -19,6 +19,7 @@ pub fn at_a_limit(steps: u64, random: &mut Random) -> Vec<u8> {
         rows_out_of_range,
         old_snapshot,
         overtaken,
+        marked,
         begun_between,
         sizes,
     ]);
@@ -252,6 +253,44 @@ fn overtaken(random: &mut Random) -> Writer {
     }
     let _ = writer.step(Step::Validate { number: reader });
     writer.commit(reader);
+    writer
+}
+
+/// A stale stamp marks a transaction that may have all its writes pending; behind that it goes on writing, in range and out of it.
+fn marked(random: &mut Random) -> Writer {
+    let mut writer = ample(random);
+    let Some(number) = writer.begin() else { return writer };
+    for _ in 0..random.one_of(&[0, 1, 15, 16]) {
+        let _ = writer.step(Step::Put { number, row: random.below(4) as u32, key: random.below(9), payload: 0 });
+    }
+    if random.percent(50) {
+        writer.read(number, 2, 256);
+    }
+    writer.put_and_publish(0, 1, 0);
+    let _ = writer.step(Step::Capture { number, key: 1 });
+    if random.percent(50) {
+        // validate and prepare need the bucket that was read
+        if let Some(other) = writer.begin() {
+            let _ = writer.step(Step::Capture { number: other, key: 2 });
+        }
+    }
+    for _ in 0..random.from_to(2, 9) {
+        let row = random.one_of(&[0, 255, 256, u32::MAX]);
+        let key = random.from_to(1, 3);
+        let _ = writer.step(random.one_of(&[
+            Step::Put { number, row, key, payload: 1 },
+            Step::Put { number, row, key, payload: 1 },
+            Step::Erase { number, row },
+            Step::Erase { number, row },
+            Step::Capture { number, key },
+            Step::Validate { number },
+            Step::Prepare { number },
+        ]));
+    }
+    if random.percent(50) {
+        let _ = writer.step(Step::Abort { number });
+        let _ = writer.step(Step::Put { number, row: 0, key: 1, payload: 1 });
+    }
     writer
 }
 

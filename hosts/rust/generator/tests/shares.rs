@@ -1,8 +1,9 @@
 //! The families together give every answer that a log can get, and mostly accepted steps where they are meant to.
 
-use std::collections::BTreeMap;
+use std::collections::{BTreeMap, BTreeSet};
 
 use generator::{log, room, Family, Random};
+use twin::Step;
 
 const LOGS: u64 = 4000;
 const STEPS: u64 = 60;
@@ -14,8 +15,8 @@ const NUMBERS: [(&str, &[u32]); 14] = [
     ("capture", &[0, 4, 5, 7, 8, 9]),
     ("collect", &[0, 4, 5]),
     ("rows", &[0, 4, 5, 10, 11]),
-    ("put", &[0, 4, 5, 6, 12]),
-    ("erase", &[0, 4, 5, 6, 12]),
+    ("put", &[0, 4, 5, 6, 8, 12]),
+    ("erase", &[0, 4, 5, 6, 8, 12]),
     ("prepare", &[0, 4, 5, 7, 13, 14]),
     ("install", &[0, 4, 5]),
     ("end", &[0, 4, 5]),
@@ -25,14 +26,45 @@ const NUMBERS: [(&str, &[u32]); 14] = [
     ("bad", &[15]),
 ];
 
+/// The same of a transaction behind the capture that marked it: it is Open until it is aborted.
+const NUMBERS_MARKED: [(&str, &[u32]); 11] = [
+    ("capture", &[8]),
+    ("collect", &[5]),
+    ("rows", &[5]),
+    ("put", &[8]),
+    ("erase", &[8]),
+    ("prepare", &[7, 14]),
+    ("install", &[5]),
+    ("end", &[5]),
+    ("publish", &[5]),
+    ("validate", &[0, 7]),
+    ("abort", &[0]),
+];
+
+/// What comes less often tries too little.
+const OFTEN: u64 = 20;
+
 /// The longest lines, as the host wrapper counts on them.
 const LONGEST_ROWS_LINE: usize = 330;
 const LONGEST_OTHER_LINE: usize = 60;
 
+/// How often each line's word and number came.
+type Lines = BTreeMap<(String, u32), u64>;
+
+/// Each word has just these numbers, and each of them often.
+fn assert_numbers(lines: &Lines, numbers: &[(&str, &[u32])]) {
+    for (word, numbers) in numbers {
+        let found: Vec<u32> = lines.keys().filter(|(other, _)| other == word).map(|&(_, number)| number).collect();
+        assert_eq!(found, *numbers, "{word}");
+    }
+    let rarest = lines.iter().min_by_key(|(_, count)| **count).expect("there are lines");
+    assert!(*rarest.1 >= OFTEN, "{rarest:?} is too rare to try anything");
+}
+
 /// How often each line's word and number came, verdicts as a third part, and how often each status.
 #[derive(Default)]
 struct Counts {
-    lines: BTreeMap<(String, u32), u64>,
+    lines: Lines,
     verdicts: BTreeMap<u32, u64>,
     statuses: BTreeMap<u64, u64>,
 }
@@ -64,6 +96,69 @@ impl Counts {
     }
 }
 
+/// The transaction that a step names.
+fn number_of(step: &Step) -> Option<u64> {
+    match *step {
+        Step::Open { .. } | Step::Begin => None,
+        Step::Capture { number, .. }
+        | Step::Collect { number }
+        | Step::Rows { number, .. }
+        | Step::Put { number, .. }
+        | Step::Erase { number, .. }
+        | Step::Prepare { number }
+        | Step::Install { number }
+        | Step::End { number }
+        | Step::Publish { number }
+        | Step::Validate { number }
+        | Step::Abort { number } => Some(number),
+    }
+}
+
+/// The lines of marked transactions.
+#[derive(Default)]
+struct Marked {
+    lines: Lines,
+    /// The refused writes by word, whether the row is out of range (6) and whether 16 writes are pending (12).
+    writes: BTreeMap<(String, bool, bool), u64>,
+}
+
+impl Marked {
+    fn add(&mut self, log: &[u8]) {
+        let report = String::from_utf8(twin::whole_report(log).1).expect("a report is text");
+        let mut rest = log;
+        let mut row_count = 0;
+        let mut pending: BTreeMap<u64, u64> = BTreeMap::new();
+        let mut marked = BTreeSet::new();
+        for line in report.lines() {
+            let Some((step, next)) = twin::read_record(rest) else { return };
+            rest = next;
+            if let Step::Open { rows, .. } = step {
+                row_count = rows;
+            }
+            let Some(number) = number_of(&step) else { continue };
+            let (word, answer) = line.split_once(' ').expect("a line has its number");
+            let answer: u32 = answer.split(' ').next().and_then(|answer| answer.parse().ok()).expect("a number");
+            if marked.contains(&number) {
+                *self.lines.entry((word.to_string(), answer)).or_default() += 1;
+            }
+            let writes = pending.entry(number).or_default();
+            match (step, answer) {
+                (Step::Put { .. } | Step::Erase { .. }, 0) => *writes += 1,
+                (Step::Put { row, .. } | Step::Erase { row, .. }, 8) => {
+                    *self.writes.entry((word.to_string(), row >= row_count, *writes == 16)).or_default() += 1;
+                }
+                (Step::Capture { .. }, 8) => {
+                    marked.insert(number);
+                }
+                (Step::Abort { .. }, 0) => {
+                    marked.remove(&number);
+                }
+                _ => {}
+            }
+        }
+    }
+}
+
 fn counts(families: &[Family]) -> Counts {
     let mut random = Random::of_seed(1);
     let mut counts = Counts::default();
@@ -81,14 +176,24 @@ fn counts(families: &[Family]) -> Counts {
 #[test]
 fn every_answer_occurs() {
     let counts = counts(&Family::ALL);
-    for (word, numbers) in NUMBERS {
-        let found: Vec<u32> = counts.lines.keys().filter(|(other, _)| other == word).map(|&(_, number)| number).collect();
-        assert_eq!(found, numbers, "{word}");
-    }
+    assert_numbers(&counts.lines, &NUMBERS);
     assert_eq!(counts.verdicts.keys().copied().collect::<Vec<_>>(), [0, 1, 2, 3]);
     assert_eq!(counts.statuses.keys().copied().collect::<Vec<_>>(), [0, 1, 10, 15]);
-    let rarest = counts.lines.iter().min_by_key(|(_, count)| **count).expect("there are lines");
-    assert!(*rarest.1 >= 20, "{rarest:?} is too rare to try anything");
+}
+
+#[test]
+fn every_answer_to_a_marked_transaction_occurs() {
+    let mut random = Random::of_seed(1);
+    let mut marked = Marked::default();
+    for family in [Family::Mixed, Family::Contended, Family::Limits] {
+        for _ in 0..LOGS {
+            let steps = random.from_to(1, STEPS);
+            marked.add(&log(family, steps, &mut random));
+        }
+    }
+    assert_numbers(&marked.lines, &NUMBERS_MARKED);
+    assert_eq!(marked.writes.len(), 8, "put and erase, each with 6 and with 12 or without: {:?}", marked.writes);
+    assert!(marked.writes.values().all(|&count| count >= OFTEN), "{:?}", marked.writes);
 }
 
 #[test]

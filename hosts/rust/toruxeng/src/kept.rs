@@ -131,19 +131,19 @@ impl Kept {
         let answer = self.answer(steps, of);
         match answer {
             Ok(_) => self.keep(steps),
-            Err(Error::Refused(Refusal::Stale)) => self.keep_mark(&steps[..1]),
+            Err(Error::Refused(Refusal::Stale)) => self.keep_mark(steps),
             Err(_) => {}
         }
         answer
     }
 
-    /// Keeps the first stale capture of a transaction; those behind it change nothing.
-    fn keep_mark(&mut self, capture: &[Step]) {
-        let number = capture.first().and_then(Step::number);
-        let unmarked = self.traces.iter_mut().find(|trace| Some(trace.number) == number && !trace.marked);
+    /// Keeps the first stale capture of a transaction; those behind it, and the puts and erases that get 8, change nothing.
+    fn keep_mark(&mut self, steps: &[Step]) {
+        let Some(capture) = steps.first().filter(|step| step.kind() == Kind::Capture) else { return };
+        let unmarked = self.traces.iter_mut().find(|trace| Some(trace.number) == capture.number() && !trace.marked);
         if let Some(trace) = unmarked {
             trace.marked = true;
-            self.keep(capture);
+            self.keep(&steps[..1]);
         }
     }
 

@@ -257,7 +257,8 @@ impl Verdict {
     }
 }
 
-/// Why a step was refused, in words by [`Display`](fmt::Display). All but [`Refusal::Stale`] left the store as it was.
+/// Why a step was refused, in words by [`Display`](fmt::Display). It left the store as it was, but that the first stale capture
+/// ([`Refusal::Stale`]) of a transaction marked it.
 #[derive(Clone, Copy, Debug, PartialEq, Eq, Hash, PartialOrd, Ord)]
 pub enum Refusal {
     /// open
@@ -274,7 +275,7 @@ pub enum Refusal {
     RowOutOfRange = 6,
     /// capture, validate, prepare
     Taken = 7,
-    /// capture
+    /// capture, put, erase
     Stale = 8,
     /// capture
     IndexReadsFull = 9,
@@ -352,7 +353,7 @@ impl Refusal {
             Refusal::WrongPhase => "the transaction is in another phase",
             Refusal::RowOutOfRange => "there is no such row",
             Refusal::Taken => "another transaction holds a bucket or has claimed a row that is needed",
-            Refusal::Stale => "the bucket changed since the transaction began, which is marked now",
+            Refusal::Stale => "a bucket changed since the transaction began, which is marked",
             Refusal::IndexReadsFull => "16 buckets were read already",
             Refusal::RoomTooShort => "more rows match than the room given",
             Refusal::ReadRecordsFull => "more than 64 versions would be read",

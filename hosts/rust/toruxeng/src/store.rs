@@ -93,7 +93,8 @@ fn rows_of(values: &[Values]) -> Vec<u32> {
 /// A live transaction, Open between two calls; several may be live at once, at most eight. It is aborted when it is dropped, so
 /// an early return leaves none behind.
 ///
-/// A refusal leaves it as it was, and usable; but a stale read (8) marks it, and a marked one can only be aborted.
+/// A refusal leaves it as it was, and usable; but a stale read (8) marks it. A marked one can only be aborted: every read, put and
+/// erase in it gets 8, and changes nothing.
 #[derive(Debug)]
 #[must_use = "a transaction is aborted when it is dropped"]
 pub struct Transaction<'s> {

@@ -143,6 +143,28 @@ fn what_is_refused_is_not_kept_but_for_a_stale_read() {
 }
 
 #[test]
+fn a_marked_transaction_takes_no_more_work_and_is_aborted() {
+    let store = loaded();
+    let tap = store.begin().expect("a place is free");
+    tap.put(2, 12, 0).expect("it is not marked yet");
+    revocation(&store).publish().expect("the tap holds nothing");
+    assert_eq!(tap.read(11).err(), Some(STALE));
+    let marked = store.bytes();
+    assert_eq!(tap.put(2, 12, 1), Err(STALE));
+    assert_eq!(tap.erase(2), Err(STALE));
+    assert_eq!(tap.put(128, 12, 1), Err(STALE), "8 comes before 6");
+    assert_eq!(store.bytes(), marked, "nothing of them is kept");
+
+    let other = store.begin().expect("a place is free");
+    other.put(2, 13, 0).expect("the mark is the tap's");
+    other.publish().expect("the tap claims nothing");
+    tap.abort();
+    assert_eq!(kept_lines(&store).last(), Some(&(Kind::Abort, 0)));
+    assert_eq!((store.look(12), store.look(13)), (Ok(vec![]), Ok(vec![2])));
+    assert_eq!(free_places(&store), 8);
+}
+
+#[test]
 fn a_read_that_is_refused_half_way_leaves_its_transaction_usable() {
     let store = loaded();
     for first in (0..80).step_by(16) {

@@ -309,6 +309,9 @@ impl Store {
 
     fn write(&mut self, number: u64, write: PendingWrite) -> Answer {
         let transaction = self.transaction(number, is_open)?;
+        if transaction.marked {
+            return Err(8);
+        }
         if write.row as usize >= self.rows.len() {
             return Err(6);
         }
