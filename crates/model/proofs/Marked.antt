@@ -79,24 +79,23 @@ module _ (s : Store) (t : ℕ) (g : Shaped s) (o : MarkedOpen s) (l : Lives s t)
   not-rank : (u n : ℕ) → u ≡ t → n ≢ 1 → rank (txnOf s u .phase) ≡ n → ⊥
   not-rank u n e d r = d (sym r ∙ (rw e is-open))
 
-  prepare-gives : MarkedGives (prepare t) (number s (prepare t))
+  prepare-gives : MarkedGives s (prepare t) (number s (prepare t))
   prepare-gives =
       ⊎-elim (λ w. absurd (true≢false (sym g ∙ w .0))) (λ w.
       ⊎-elim (λ w. absurd (w .0 l)) (λ w.
       ⊎-elim (λ w. absurd (w .0 is-open)) (λ w.
-      ⊎-elim (λ w. inl (w .1)) (λ w.
-      ⊎-elim (λ w. inr (w .1)) (λ w. absurd (w .0 (λ e. omega (arith, ap verdictNumber judged-marked))))
+      ⊎-elim (λ w. inl w) (λ w.
+      ⊎-elim (λ v. inr (w .0, v .1)) (λ v. absurd (v .0 (λ e. omega (arith, ap verdictNumber judged-marked))))
       (w .1)) (w .1)) (w .1)) (w .1)) (given-exactly s (prepare t) (number s (prepare t)) .0 refl)
 
-  validate-gives : MarkedGives (validate t) (number s (validate t))
+  validate-gives : MarkedGives s (validate t) (number s (validate t))
   validate-gives =
       ⊎-elim (λ w. absurd (true≢false (sym g ∙ w .0))) (λ w.
       ⊎-elim (λ w. absurd (w .0 l)) (λ w.
       ⊎-elim (λ w. absurd (w .0 is-open)) (λ w.
-      ⊎-elim (λ w. inl (w .1)) (λ w. inr (w .1))
-      (w .1)) (w .1)) (w .1)) (given-exactly s (validate t) (number s (validate t)) .0 refl)
+      w .1) (w .1)) (w .1)) (given-exactly s (validate t) (number s (validate t)) .0 refl)
 
-  gives : (a : Step) → Names a → actor a ≡ t → MarkedGives a (number s a)
+  gives : (a : Step) → Names a → actor a ≡ t → MarkedGives s a (number s a)
   gives begin no-name e = absurd no-name
   gives (capture u k) named e = rw e (capture-8 s t k .1 ((g, l, is-open), inl m))
   gives (collect u) named e = five (collect u) named e (not-rank u 2 e (omega arith))
@@ -130,7 +129,7 @@ module _ (s : Store) (t : ℕ) (g : Shaped s) (o : MarkedOpen s) (l : Lives s t)
   at-place (rows u room) d z p = absurd (omega (arith, z, gives (rows u room) tt (asks (rows u room) tt z p)))
   at-place (put u r k payload) d z p = absurd (omega (arith, z, gives (put u r k payload) tt (asks (put u r k payload) tt z p)))
   at-place (erase u r) d z p = absurd (omega (arith, z, gives (erase u r) tt (asks (erase u r) tt z p)))
-  at-place (prepare u) d z p = absurd (⊎-elim (λ e. omega (arith, z, e)) (λ e. omega (arith, z, e)) (gives (prepare u) tt (asks (prepare u) tt z p)))
+  at-place (prepare u) d z p = absurd (⊎-elim (λ w. omega (arith, z, w .1)) (λ w. omega (arith, z, w .1)) (gives (prepare u) tt (asks (prepare u) tt z p)))
   at-place (install u) d z p = absurd (omega (arith, z, gives (install u) tt (asks (install u) tt z p)))
   at-place (end u) d z p = absurd (omega (arith, z, gives (end u) tt (asks (end u) tt z p)))
   at-place (publish u) d z p = absurd (omega (arith, z, gives (publish u) tt (asks (publish u) tt z p)))

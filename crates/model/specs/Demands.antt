@@ -10,14 +10,14 @@ use Rattle.model.specs.Lists.{member, pick, Among, Rising}
 use Rattle.model.specs.Store.{Sizes, Chains, IndexRead, ReadRecord, Txn, Open, Collected, Store, rank, sameKey}
 use Rattle.model.specs.Verdict.{Mark}
 use Rattle.model.specs.Seeing.{Live, seen, visible, firstVisible, versionOf, keyAt, pending, matches, recordOf, shows, snapshotNow}
-use Rattle.model.specs.Steps.{hasRead, postedRows, oldKey, keyBefore}
+use Rattle.model.specs.Steps.{hasRead, postedRows, oldKey, keyBefore, readBuckets, neededBuckets}
 use Rattle.model.specs.Upstream.{creatorVisible, rowVisible, firstRow, pointer, matchesRow, Event, postingsOf, postingReplay, liveRows, snapshotRows, Coherent, stampAt, rawCandidates}
 use Rattle.model.specs.Refusals.{Step, begin, capture, collect, rows, put, erase, prepare, install, end, publish, validate, abort, Refusal, WrongShape, txnOf}
 use Rattle.model.specs.Shape.{rightShape}
 use Rattle.model.specs.Machine.{Judged, Refused, lentAfter, at, actor, accepted, step, stepIn, run}
 use Rattle.model.specs.History.{changing}
 use Rattle.model.specs.Holding.{Writes, Wants, Claims, Unpublished}
-use Rattle.model.specs.Given.{number, Names, Given, StaleStamp, documented}
+use Rattle.model.specs.Given.{number, Names, BucketTaken, RowTaken, given, Given, StaleStamp, documented}
 use Rattle.model.specs.Effects.{SameVersion}
 use Rattle.model.specs.Leaves.{Leaves, MarksOnly}
 
@@ -69,24 +69,24 @@ DistinctAt s = (j : ℕ) → Distinct (s .txns j .reads)
 abbrev pub MarkedOpen : Store → Type 0
 MarkedOpen s = (i : ℕ) → s .txns i .marked ≡ true → s .txns i .phase ≡ Open
 
--- the numbers left to the steps of a marked transaction: 8 to work, 5 to what needs another phase, 7 or 14 to prepare; validate and abort still work
-abbrev pub MarkedGives : Step → ℕ → Type 0
-MarkedGives begin n = ⊥
-MarkedGives (capture t k) n = n ≡ 8
-MarkedGives (collect t) n = n ≡ 5
-MarkedGives (rows t room) n = n ≡ 5
-MarkedGives (put t r k payload) n = n ≡ 8
-MarkedGives (erase t r) n = n ≡ 8
-MarkedGives (prepare t) n = (n ≡ 7) ⊎ (n ≡ 14)
-MarkedGives (install t) n = n ≡ 5
-MarkedGives (end t) n = n ≡ 5
-MarkedGives (publish t) n = n ≡ 5
-MarkedGives (validate t) n = (n ≡ 7) ⊎ (n ≡ 0)
-MarkedGives (abort t) n = n ≡ 0
+-- the numbers left to the steps of a marked transaction: 8 to work, 5 to what needs another phase, 7 or else 14 to prepare; validate and abort still work
+abbrev pub MarkedGives : Store → Step → ℕ → Type 0
+MarkedGives s begin n = ⊥
+MarkedGives s (capture t k) n = n ≡ 8
+MarkedGives s (collect t) n = n ≡ 5
+MarkedGives s (rows t room) n = n ≡ 5
+MarkedGives s (put t r k payload) n = n ≡ 8
+MarkedGives s (erase t r) n = n ≡ 8
+MarkedGives s (prepare t) n = given 7 (BucketTaken s t (neededBuckets s (txnOf s t)) ⊎ RowTaken s t) n (n ≡ 14)
+MarkedGives s (install t) n = n ≡ 5
+MarkedGives s (end t) n = n ≡ 5
+MarkedGives s (publish t) n = n ≡ 5
+MarkedGives s (validate t) n = given 7 (BucketTaken s t (readBuckets (txnOf s t))) n (n ≡ 0)
+MarkedGives s (abort t) n = n ≡ 0
 
 -- no more work in the marked transaction t: what its steps give, and that its record stays as it is, whatever steps come, until it is aborted
 pub record NoMoreWork (s : Store) (t : ℕ) : Type 0 where
-  pub gives : (a : Step) → Names a → actor a ≡ t → MarkedGives a (number s a)
+  pub gives : (a : Step) → Names a → actor a ≡ t → MarkedGives s a (number s a)
   pub judged : number s (validate t) ≡ 0 → step s (validate t) .answer ≡ Judged Mark
   pub stays : (more : List Step) → (Among (abort t) more → ⊥) → run s more .txns (at s t) ≡ txnOf s t
 

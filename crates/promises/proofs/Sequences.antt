@@ -98,7 +98,7 @@ module _ (o : Opening) (e : openNumber o ≡ 0) where
       let opens = tests (o .rows) (o .versions) (o .buckets) (o .lists) (o .sizes) (o .clock) (o .clock-in) (open-done o e) .0 in
       let h = marked-stops (sizesView (o .sizes)) (o .clock) (stepsOf cs) opens (o .clock-in) t l m in
       record {
-        gives = λ c named q. subst (MarkedGives (asking c)) (sym (number-after cs c)) (h .gives (asking c) named q);
+        gives = λ c named q. subst (MarkedGives (storeAfter o cs) (asking c)) (sym (number-after cs c)) (h .gives (asking c) named q);
         judged = λ z. answer-after cs (validating t) ∙ ap told (h .judged (sym (number-after cs (validating t)) ∙ z));
         stays = λ more d. ap (λ (s : Store). s .txns (at (storeAfter o cs) t)) (after-view (cs ++ more) ∙ joined cs more) ∙ h .stays (stepsOf more) d;
       }

@@ -91,7 +91,7 @@ validating t = record { asks = ask.Validate t; lent = [] }
 
 -- no more work in a marked transaction, after an accepted open and any calls: the number of each call that names it, and validate's verdict; its record stays as it is, whatever calls come, until one aborts it
 pub record MarkedCalls (o : Opening) (cs : List Call) (t : ℕ) : Type 0 where
-  pub gives : (c : Call) → Names (asking c) → actor (asking c) ≡ t → MarkedGives (asking c) (numberOf (called (after o cs) c .answer))
+  pub gives : (c : Call) → Names (asking c) → actor (asking c) ≡ t → MarkedGives (storeAfter o cs) (asking c) (numberOf (called (after o cs) c .answer))
   pub judged : numberOf (called (after o cs) (validating t) .answer) ≡ 0 → called (after o cs) (validating t) .answer ≡ tell.Judged verdict.Mark
   pub stays : (more : List Call) → (Among (abort t) (stepsOf more) → ⊥) → view (after o (cs ++ more)) .txns (at (storeAfter o cs) t) ≡ txnOf (storeAfter o cs) t
 

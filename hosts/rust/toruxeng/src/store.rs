@@ -94,7 +94,7 @@ fn rows_of(values: &[Values]) -> Vec<u32> {
 /// an early return leaves none behind.
 ///
 /// A refusal leaves it as it was, and usable; but a stale read (8) marks it. A marked one can only be aborted: every read, put and
-/// erase in it gets 8, and changes nothing.
+/// erase in it gets 8, prepare and publish get 14, or 7, and nothing changes.
 #[derive(Debug)]
 #[must_use = "a transaction is aborted when it is dropped"]
 pub struct Transaction<'s> {
@@ -125,7 +125,7 @@ impl<'s> Transaction<'s> {
     }
 
     /// Has the buckets and rows of the transaction to itself from here on. Where this is refused the transaction comes back as it
-    /// was: after 7 the same can be tried later, after 14 it must begin anew.
+    /// was: after 7 the same can be tried later, unless it is marked; after 14 it must begin anew.
     pub fn prepare(self) -> Result<Prepared<'s>, NotPrepared<'s>> {
         let prepared = self.write(Step::prepare(self.number));
         match prepared {
