@@ -7,7 +7,7 @@ use mathlib.Core.List.{List, [], _∷_, _++_}
 use Prim.Native.Nat.{ℕ, _≤_, _<_}
 use native.Mathlib.Omega.{arith}
 use lib.Dec.{ltb, leb}
-use borrow.Author.Tests.{eq-eqb, ne-eqb, ltb-true, ltb-false, leb-true}
+use borrow.Author.Tests.{eq-eqb, ne-eqb, leb-true}
 use Rattle.model.specs.Lists.{least, every, Among, Rising}
 use Rattle.model.specs.Table.{update, updateAll, update-same, update-other, cond-elim}
 use Rattle.model.specs.Store.{Sizes, Phase, Open, Holding, Collected, Prepared, Installed, Ended, Txn, Store, rank, sameKey, bucketOf, Write, bucketIn}
@@ -19,7 +19,7 @@ use Rattle.model.specs.Machine.{at, actor, accepted, step}
 use Rattle.model.specs.Given.{number, Shaped, Lives, bucketFor, stampFor}
 use Rattle.model.specs.Effects.{Stamps, posts, Takes, Frees, Claimed, Unclaimed}
 use Rattle.model.specs.Leaves.{TakenAt, Captures, askerAfter, IndexAfter, HeldAfter, Leaves}
-use Rattle.model.proofs.ListLaws.{and-l, and-r, is-false, among-left, among-right, among-cases, among-member, not-member, join-which, which-join, pick-which, pick-rising}
+use Rattle.model.proofs.ListLaws.{and-l, and-r, is-false, among-left, among-right, among-cases, among-member, not-member, least-own, least-each, join-which, which-join, pick-which, pick-rising}
 use Rattle.model.proofs.Numbers.{active-which, which-active}
 use Rattle.model.proofs.SeeingLaws.{same-key, key-same, key-bucket, read-bucket, bucket-read}
 use Rattle.model.proofs.Making.{last-write, makes-all, makes-none}
@@ -28,16 +28,6 @@ use Rattle.model.proofs.Refused.{capture-0, put-0, erase-0, prepare-0, 
 use Rattle.model.proofs.Outcomes.{done-does}
 
 -- THE SNAPSHOT THAT BEGIN TAKES
-
-least-own : (n : ℕ) (xs : List ℕ) → least n xs ≤ n
-unfolding least
-least-own n [] = omega arith
-least-own n (x ∷ xs) = cond-elim (λ m. least m xs ≤ n) (ltb x n) x n (λ e. omega (arith, least-own x xs, ltb-true x n e)) (λ e. least-own n xs)
-
-least-each : (n : ℕ) (xs : List ℕ) (m : ℕ) → Among m xs → least n xs ≤ m
-unfolding least
-least-each n (x ∷ xs) m (inl d) = cond-elim (λ k. least k xs ≤ m) (ltb x n) x n (λ e. omega (arith, least-own x xs)) (λ e. omega (arith, least-own n xs, ltb-false x n e))
-least-each n (x ∷ xs) m (inr w) = least-each (cond (ltb x n) x n) xs m w
 
 least-one : (n : ℕ) (xs : List ℕ) → (least n xs ≡ n) ⊎ Among (least n xs) xs
 unfolding least

@@ -6,10 +6,10 @@ use mathlib.Core.List.{List, [], _∷_, _++_, map}
 use Prim.Native.Nat.{ℕ, zero, suc, _+_, _≤_, _<_}
 use native.Mathlib.Omega.{arith}
 use native.Mathlib.Decide.{ℕ-discrete}
-use lib.Dec.{eqb}
+use lib.Dec.{eqb, ltb}
 use lib.ListN.{length}
-use borrow.Author.Tests.{eqb-true, eq-eqb}
-use Rattle.model.specs.Lists.{member, pick, first, every, some-of, all-of, join, Among, Rising}
+use borrow.Author.Tests.{eqb-true, eq-eqb, ltb-true, ltb-false}
+use Rattle.model.specs.Lists.{member, least, pick, first, every, some-of, all-of, join, Among, Rising}
 use Rattle.model.specs.Table.{cond-elim}
 
 -- tests joined by `and` and `or`
@@ -127,6 +127,21 @@ among-member x (y ∷ ys) (inr m) = or-right (eqb x y) _ (among-member x ys m)
 
 pub not-member : (x : ℕ) (ys : List ℕ) → (Among x ys → ⊥) → member x ys ≡ false
 not-member x ys h = is-false _ (λ e. h (member-among x ys e))
+
+-- the least is at most the number and each of the list
+pub least-own : (n : ℕ) (xs : List ℕ) → least n xs ≤ n
+unfolding least
+least-own n [] = omega arith
+least-own n (x ∷ xs) = cond-elim (λ m. least m xs ≤ n) (ltb x n) x n (λ e. omega (arith, least-own x xs, ltb-true x n e)) (λ e. least-own n xs)
+
+pub least-each : (n : ℕ) (xs : List ℕ) (m : ℕ) → Among m xs → least n xs ≤ m
+unfolding least
+least-each n (x ∷ xs) m (inl d) = cond-elim (λ k. least k xs ≤ m) (ltb x n) x n (λ e. omega (arith, least-own x xs)) (λ e. omega (arith, least-own n xs, ltb-false x n e))
+least-each n (x ∷ xs) m (inr w) = least-each (cond (ltb x n) x n) xs m w
+
+-- so a number below the least is none of the list's
+pub below-least : (n : ℕ) (xs : List ℕ) (m : ℕ) → m < least n xs → member m xs ≡ false
+below-least n xs m l = not-member m xs (λ w. omega (arith, least-each n xs m w))
 
 pub rising-from : (j k : ℕ) (rs : List ℕ) → j ≤ k → Rising k rs → Rising j rs
 rising-from j k [] h g = tt

@@ -1,7 +1,7 @@
 -- Where upstream's definitions of seeing, writing and matching equal ours: as they stand, or for every live transaction of a reached store. Assumes nothing.
 use mathlib.Core.Path.{_≡_, refl, sym, ap, _∙_}
 use mathlib.Core.Bool.{Bool, true, false, cond, not, _&&_, _||_}
-use mathlib.Core.Logic.{inl, inr, ⊎-elim}
+use mathlib.Core.Logic.{⊎-elim}
 use mathlib.Core.Option.{Option, none, some}
 use mathlib.Core.List.{List, [], _∷_}
 use Prim.Native.Nat.{ℕ, zero, suc, _≤_, _<_}
@@ -10,14 +10,13 @@ use native.Mathlib.Decide.{ℕ-discrete}
 use lib.Dec.{eqb, ltb, leb}
 use lib.ListN.{length, getD}
 use borrow.Author.Tests.{eqb-true, eq-eqb, ne-eqb, ltb-true, ltb-false, leb-true, leb-false}
-use Rattle.model.specs.Lists.{member, least, Among}
-use Rattle.model.specs.Table.{cond-elim}
+use Rattle.model.specs.Lists.{member}
 use Rattle.model.specs.Store.{Chains, Index, IndexRead, Snapshot, Write, ReadRecord, Txn, Store, sameKey}
 use Rattle.model.specs.Seeing.{seen, visible, known, walk, firstVisible, versionOf, keyAt, lastWriteFrom, lastWrite, pending, writtenKey, shownKey, matches, Live}
 use Rattle.model.specs.Verdict.{badRead, badRecord}
 use Rattle.model.specs.Steps.{recorded, recording}
 use Rattle.model.specs.Upstream.{creatorVisible, rowVisible, firstRow, lastOf, keyOf, selected, holdsKey, matchesRow, recordingOf, readConflict, readGood, pointer}
-use Rattle.model.proofs.ListLaws.{and-l, and-r, or-right, or-cases, same-test}
+use Rattle.model.proofs.ListLaws.{and-l, and-r, or-right, or-cases, same-test, least-own, least-each}
 use Rattle.model.proofs.Numbers.{Snapped}
 use Rattle.model.proofs.SeeingLaws.{keyAt-zero, keyAt-key}
 use Rattle.model.proofs.Told.{which-seen}
@@ -42,17 +41,6 @@ good-same i n r = go (eqb (i .stamp (r .bucket)) (r .stamp)) (ltb (i .stamp (r .
     go false true = refl
     go false false = refl
 
--- the least is at most each
-least-first : (n : ℕ) (xs : List ℕ) → least n xs ≤ n
-unfolding least
-least-first n [] = omega arith
-least-first n (x ∷ xs) = cond-elim (λ m. least m xs ≤ n) (ltb x n) x n (λ e. omega (arith, ltb-true x n e, least-first x xs)) (λ e. least-first n xs)
-
-least-each : (n : ℕ) (xs : List ℕ) (y : ℕ) → Among y xs → least n xs ≤ y
-unfolding least
-least-each n (x ∷ xs) y (inl e) = cond-elim (λ m. least m xs ≤ y) (ltb x n) x n (λ t. omega (arith, least-first x xs)) (λ t. omega (arith, ltb-false x n t, least-first n xs))
-least-each n (x ∷ xs) y (inr m) = cond-elim (λ q. least q xs ≤ y) (ltb x n) x n (λ t. least-each x xs y m) (λ t. least-each n xs y m)
-
 -- a number is not seen at or above xmax, or among the active
 unseen-is : (v : Snapshot) (m : ℕ) → leb (v .xmax) m || member m (v .active) ≡ not (seen v m)
 unfolding seen
@@ -74,8 +62,8 @@ module _ (x : Txn) (g : Snapped (x .number) (x .snapshot)) where
   own-seen : (m : ℕ) → m ≡ x .number → seen (x .snapshot) m ≡ true
   own-seen m e = which-seen (x .snapshot) m (omega (arith, g .xmax-is)) (λ a. omega (arith, g .active-below m a))
 
-  low-seen : (m : ℕ) → m < x .snapshot .xmin → seen (x .snapshot) m ≡ true
-  low-seen m l = which-seen (x .snapshot) m (omega (arith, g .xmax-is, g .xmin-is, least-first (x .number) (x .snapshot .active))) (λ a. omega (arith, g .xmin-is, least-each (x .number) (x .snapshot .active) m a))
+  pub low-seen : (m : ℕ) → m < x .snapshot .xmin → seen (x .snapshot) m ≡ true
+  low-seen m l = which-seen (x .snapshot) m (omega (arith, g .xmax-is, g .xmin-is, least-own (x .number) (x .snapshot .active))) (λ a. omega (arith, g .xmin-is, least-each (x .number) (x .snapshot .active) m a))
 
   pub creator-seen : (m : ℕ) → creatorVisible x m ≡ seen (x .snapshot) m
   unfolding creatorVisible seen
