@@ -1,5 +1,4 @@
 // What the shape asks of one transaction's record and its lists.
-use limits::MOST_ACTIVE;
 use limits::MOST_INDEX_READS;
 use limits::MOST_RECORDS;
 use limits::MOST_ROWS;
@@ -10,6 +9,7 @@ use record::INSTALLED;
 use record::Transaction;
 use record::bucket_in;
 use record::phase_rank;
+use scans::least_of;
 use tables::head_at;
 use tables::lists::candidate_at;
 use tables::lists::read_bucket_at;
@@ -18,10 +18,6 @@ use tables::lists::record_row_at;
 use tables::lists::write_row_at;
 use tables::xmin_at;
 ghost use mathlib.Core.Path.{_≡_};
-ghost use mathlib.Core.Bool.{cond};
-ghost use lib.Dec.{ltb};
-ghost use lib.ListN.{take};
-ghost use Rattle.model.specs.Lists.{least};
 ghost use Rattle.fits.specs.Fits.{countsFit, writesIn, recordIn, recordsIn, candidatesIn, readsIn, rangesFit, headedBy, rowsHeaded, headsFit, txnFits, placeFits};
 
 // Whether counts are within limits.
@@ -166,32 +162,6 @@ fn heads_fit(rows_table: &[u64], versions: &[u64], lists: &[u64], t: Transaction
         return true;
     }
     rows_headed(rows_table, versions, lists, t.slot, t.writes_n, t.number)
-}
-
-// The lesser of two numbers.
-fn lower(x: u64, n: u64) -> u64
-    ensures { λ r. ⌜ r ≡ cond (ltb x n) x n ⌝ }
-{
-    if x < n {
-        return x;
-    }
-    n
-}
-
-// The least of a number and the first n active numbers.
-fn least_of(number: u64, active: [u64; MOST_ACTIVE], n: usize) -> u64
-    ensures { λ r. ⌜ r ≡ least number (take n active) ⌝ }
-{
-    let mut lowest = number;
-    let mut i = 0;
-    while i < MOST_ACTIVE {
-        if n <= i {
-            return lowest;
-        }
-        lowest = lower(active[i], lowest);
-        i += 1;
-    }
-    lowest
 }
 
 // Whether a live transaction has its shape.

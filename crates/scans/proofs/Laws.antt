@@ -3,15 +3,15 @@
 use Prim.Native.Nat.{ℕ, _+_, _<_, _≤_, min}
 use mathlib.Core.Path.{_≡_, refl, sym, _∙_}
 use mathlib.Core.List.{List, map}
-use mathlib.Core.Bool.{false, cond, _||_}
+use mathlib.Core.Bool.{false, cond, _&&_, _||_}
 use native.Mathlib.Numerals.{add-one}
-use native.Mathlib.Decide.{ℕ-discrete}
+use native.Mathlib.Decide.{ℕ-discrete, decLt}
 use native.Mathlib.Omega.{arith}
-use borrow.Author.Tests.{eq-eqb, ne-eqb}
-use lib.Dec.{eqb}
+use borrow.Author.Tests.{eq-eqb, ne-eqb, lt-ltb, le-ltb}
+use lib.Dec.{eqb, ltb}
 use lib.ListN.{length, drop, take, getD, length-take, drop-of-length-le}
 use lib.Seq.{drop-cons, getD-take}
-use Rattle.model.specs.Lists.{member}
+use Rattle.model.specs.Lists.{member, least}
 use Rattle.tables.specs.Lists.{Kind, startOf, entryAt, listAt}
 use Rattle.tables.proofs.Spans.{list-at, list-length, list-map}
 use Rattle.scans.specs.declared.Found.the-variants.{At, Nothing}
@@ -52,6 +52,21 @@ module _ (a : List ℕ) (n i x : ℕ) where
 
   pub active-end : min n (length a) ≤ i → member x (drop i (take n a)) ≡ false
   active-end h = member-end (take n a) i x (rw length-take h)
+
+  -- a place past the count takes no part in the least
+  pub least-next : i < length a → least x (drop i (take n a)) ≡ least (cond (ltb i n && ltb (getD a i 0) x) (getD a i 0) x) (drop (i + 1) (take n a))
+  unfolding least
+  least-next k = elim (decLt i n) [
+    | yes h ↦ let m : i < length (take n a) = rw length-take (omega arith) in rw (lt-ltb i n h, add-one, drop-cons (take n a) i 0, getD-take n a i 0 h)
+    | no h ↦
+        let m : length (take n a) ≤ i = rw length-take (omega (arith, h)) in
+        let m′ : length (take n a) ≤ i + 1 = omega arith in
+        rw (le-ltb i n (omega (arith, h)), drop-of-length-le (take n a) m, drop-of-length-le (take n a) m′)
+  ]
+
+  pub least-end : length a ≤ i → least x (drop i (take n a)) ≡ x
+  unfolding least
+  least-end h = let m : length (take n a) ≤ i = rw length-take (omega arith) in rw (drop-of-length-le (take n a) m)
 
 -- a field of every entry of a slot's list: how many there are, and which stands at a place
 module _ {A : Type 0} (g : A → ℕ) (f : List ℕ → A) (k : Kind) (xs : List ℕ) (s n : ℕ) where

@@ -1,7 +1,12 @@
 // Scans of a snapshot's active numbers and of a transaction's lists.
 ghost use mathlib.Core.Path.{_≡_};
+ghost use mathlib.Core.Bool.{cond, _&&_};
 ghost use Prim.Native.Nat.{min};
+ghost use lib.Dec.{ltb};
+ghost use lib.ListN.{take};
+ghost use Rattle.model.specs.Lists.{least};
 ghost use Rattle.scans.specs.Scans.{isActive, latestPending, recordPlace, alreadyRecorded, readPrefix};
+use limits::MOST_ACTIVE;
 use limits::MOST_INDEX_READS;
 use limits::MOST_RECORDS;
 use limits::MOST_WRITES;
@@ -30,6 +35,31 @@ pub fn active_contains(active: &[u64], count: usize, id: u64) -> bool
         i += 1;
     }
     false
+}
+
+// The lesser of x and n, where x stands at a place below the count; else n.
+fn lower(x: u64, n: u64, i: usize, count: usize) -> u64
+    ensures { λ r. ⌜ r ≡ cond (ltb i count && ltb x n) x n ⌝ }
+{
+    if i < count {
+        if x < n {
+            return x;
+        }
+    }
+    n
+}
+
+// The least of a number and the first `count` active numbers. The loop has no way out but its end: so the compiler works it out once for all rows of a read.
+pub fn least_of(number: u64, active: [u64; MOST_ACTIVE], count: usize) -> u64
+    ensures { λ r. ⌜ r ≡ least number (take count active) ⌝ }
+{
+    let mut lowest = number;
+    let mut i = 0;
+    while i < MOST_ACTIVE {
+        lowest = lower(active[i], lowest, i, count);
+        i += 1;
+    }
+    lowest
 }
 
 // A count, or the room of its list where that is less.

@@ -5,7 +5,8 @@ use mathlib.Core.Path.{refl}
 use mathlib.Core.Bool.{Bool}
 use mathlib.Core.List.{List, [], _∷_, map}
 use Rattle.limits.specs.Limits.{mostIndexReads, mostWrites, mostRecords}
-use Rattle.model.specs.Lists.{member}
+use lib.ListN.{take}
+use Rattle.model.specs.Lists.{member, least}
 use Rattle.tables.specs.Lists.{records, readsOf, writesOf, recordsOf}
 use Rattle.scans.specs.declared.Found.{Found}
 use Rattle.scans.specs.Scans as spec
@@ -17,6 +18,9 @@ use Rattle.tightness.proofs.Small.{starting, twice}
 -- what the contracts of the scans ask for
 abbrev activeContains : List ℕ × ℕ × ℕ → Bool
 activeContains (active, n, x) = spec.isActive active n x
+
+abbrev leastOf : ℕ × List ℕ × ℕ → ℕ
+leastOf (x, active, n) = least x (take n active)
 
 abbrev latestPending : List ℕ × ℕ × ℕ × ℕ → Found
 latestPending (lists, slot, n, row) = spec.latestPending lists slot n row
@@ -36,6 +40,16 @@ active-contains-behind = apart (5 ∷ [], 0, 5) bit refl
 pub active-contains-first : Excludes activeContains (λ (active, n, x). activeContains (active, min n 1, x))
 unfolding computes
 active-contains-first = apart (4 ∷ 5 ∷ [], 2, 5) bit refl
+
+-- `least_of`: the number alone
+pub least-of-number-alone : Excludes leastOf (λ (x, active, n). x)
+unfolding computes
+least-of-number-alone = apart (5, 3 ∷ [], 1) itself refl
+
+-- `least_of`: numbers behind the first n count
+pub least-of-behind : Excludes leastOf (λ (x, active, n). least x active)
+unfolding computes
+least-of-behind = apart (5, 3 ∷ [], 0) itself refl
 
 -- `latest_pending`: the first write of the row
 pub latest-pending-first : Excludes latestPending (λ (lists, slot, n, row). spec.firstPlace (spec.rowsWritten (writesOf lists slot (min n mostWrites))) row)
