@@ -1,7 +1,8 @@
 -- What a snapshot sees, and the first visible version of a chain.
-use Prim.Native.Nat.{ℕ, zero, suc, _/_}
+use Prim.Native.Nat.{ℕ, zero, suc, _<_, _/_}
+use mathlib.Core.Path.{_≡_}
 use mathlib.Core.List.{List}
-use mathlib.Core.Bool.{Bool, cond, not, _&&_, _||_}
+use mathlib.Core.Bool.{Bool, false, cond, not, _&&_, _||_}
 use lib.ListN.{length, take}
 use lib.Dec.{eqb, leb, ltb}
 use Rattle.tables.specs.Fields.{versionWords, xminOf, xmaxOf, nextOf}
@@ -21,6 +22,10 @@ seenBy active xmax n = ltb n xmax && not (member n active)
 -- a version is visible if its xmin is seen and its xmax is 0 or not seen
 abbrev pub visibleTo : List ℕ → ℕ → ℕ → ℕ → Bool
 visibleTo active xmax xminᵥ xmaxᵥ = seenBy active xmax xminᵥ && (eqb xmaxᵥ 0 || not (seenBy active xmax xmaxᵥ))
+
+-- no active number is below low
+abbrev pub NoneBelow : ℕ → List ℕ → Type 0
+NoneBelow low active = (n : ℕ) → n < low → member n active ≡ false
 
 -- one step of the walk, where `rest` is the walk from the next pointer; a next that does not fall is 0
 unfoldable pub stepFrom : List ℕ → List ℕ → ℕ → (ℕ → ℕ) → ℕ → ℕ

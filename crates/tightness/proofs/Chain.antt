@@ -15,7 +15,7 @@ use Rattle.record.specs.declared.Phase.the-variants as phase
 use Rattle.tightness.specs.Wrong.{Excludes}
 use Rattle.tightness.proofs.Apart.{apart, bit}
 use Rattle.tightness.proofs.Computes.{computes}
-use Rattle.tightness.proofs.Small.{live, threeActive}
+use Rattle.tightness.proofs.Small.{live, threeActive, threeBelow, fromXmin}
 
 -- what the contracts of `seen`, `visible` and `first_visible` ask for
 abbrev seen : ℕ × List ℕ × ℕ × ℕ → Bool
@@ -69,3 +69,8 @@ first-visible-unused = apart (versions₂, 0, live 5 phase.Open .snapshot, 1) po
 pub first-visible-active : Excludes first (λ (versions, used, s, p). cond (known versions used p) (pointer (walkFrom versions [] (s .xmax) p)) Nothing)
 unfolding computes
 first-visible-active = apart (versions₂, 2, threeActive 6, 1) pointerIn refl
+
+-- `first_visible`: xmin is trusted, so that no active number below it is looked up
+pub first-visible-xmin-trusted : Excludes first (λ (versions, used, s, p). cond (known versions used p) (pointer (walkFrom versions (fromXmin s) (s .xmax) p)) Nothing)
+unfolding computes
+first-visible-xmin-trusted = apart (versions₂, 2, threeBelow 6, 1) pointerIn refl

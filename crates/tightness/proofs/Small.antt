@@ -6,9 +6,11 @@ use mathlib.Core.Bool.{true, false}
 use mathlib.Core.List.{List, [], _∷_, _++_}
 use lib.ListN.{replicate, set}
 use Rattle.limits.specs.Limits.{mostActive}
+use Rattle.model.specs.Lists.{member, pick}
 use Rattle.model.specs.Store.{bucketIn}
 use Rattle.tables.specs.Fields.{rowWords, versionWords, bucketWords}
 use Rattle.tables.specs.Lists.{Kind, writes, listsWords}
+use Rattle.chain.specs.Chain.{activeOf}
 use Rattle.chain.specs.declared.Snapshot.{Snapshot}
 use Rattle.record.specs.View.{phaseView}
 use Rattle.record.specs.Methods.{withWrites}
@@ -42,6 +44,14 @@ writer ph = withWrites (live 1 ph) 1
 -- the snapshot of this xmax in which 3 is active
 abbrev pub threeActive : ℕ → Snapshot
 threeActive xmax = record { xmin = 3; xmax = xmax; active = 3 ∷ replicate (mostActive - 1) 0; «active_n» = 1 }
+
+-- the same with an xmin above 3: no begin takes it
+abbrev pub threeBelow : ℕ → Snapshot
+threeBelow xmax = record { xmin = 4; xmax = xmax; active = 3 ∷ replicate (mostActive - 1) 0; «active_n» = 1 }
+
+-- a snapshot's active numbers that are not below its xmin
+abbrev pub fromXmin : Snapshot → List ℕ
+fromXmin s = pick (λ n. member n (activeOf s)) (s .xmin) (s .xmax)
 
 -- slot 0's lists up to a list's start, and these words there
 abbrev pub starting : Kind → List ℕ → List ℕ

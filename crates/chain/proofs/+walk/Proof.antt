@@ -12,15 +12,13 @@ use borrow.Fn.PlainCycle.{Measures, is, falls, and}
 use Rattle.chain.proofs.walk.Reads as walk
 use Rattle.chain.proofs.walk.Kinds as walk-kinds
 use Rattle.chain.proofs.+walk.Lts-walk as walk-lts
-use Rattle.chain.proofs.visible.Reads as visible-reads
+use Rattle.chain.proofs.visible_at.Reads as visible-at-reads
 use Rattle.tables.proofs.next_at.Reads as next-at-reads
-use Rattle.tables.proofs.xmax_at.Reads as xmax-at-reads
-use Rattle.tables.proofs.xmin_at.Reads as xmin-at-reads
 use Rattle.chain.proofs.+walk.{statement}
 use Rattle.chain.proofs.+walk.Tie.{close}
 
 abbrev μ-walk : Measures 3 walk-kinds.ps ℕ
-μ-walk κs a = a .1 .1 .1 .1 .0
+μ-walk κs a = a .1 .1 .1 .1 .1 .0
 
 abbrev walk-at : ℕ → In 3 walk-kinds.ps
 walk-at t = and 3 walk-kinds.ps (is 3 walk-kinds.ps μ-walk t) walk.Pre
@@ -29,12 +27,8 @@ abbrev walk-below : ℕ → In 3 walk-kinds.ps
 walk-below t = and 3 walk-kinds.ps (falls 3 walk-kinds.ps _<_ μ-walk t) walk.Pre
 
 walk-returns : (t : ℕ) → walk-lts.Need-returns (
-  xmin-at-reads.Asked,
-  xmin-at-reads.Learnt,
-  xmax-at-reads.Asked,
-  xmax-at-reads.Learnt,
-  visible-reads.Asked,
-  visible-reads.Learnt,
+  visible-at-reads.Asked,
+  visible-at-reads.Learnt,
   next-at-reads.Asked,
   next-at-reads.Learnt,
   walk-below t,
@@ -43,70 +37,30 @@ walk-returns : (t : ℕ) → walk-lts.Need-returns (
 unfolding stepFrom
 walk-returns t c = rw (walk-step, eq-eqb _ _ (c .if1 .taken))
 
-walk-xmin-at-requires : (t : ℕ) → walk-lts.Need-xmin-at-requires (
-  xmin-at-reads.Asked,
-  xmin-at-reads.Learnt,
-  xmax-at-reads.Asked,
-  xmax-at-reads.Learnt,
-  visible-reads.Asked,
-  visible-reads.Learnt,
+walk-visible-at-requires : (t : ℕ) → walk-lts.Need-visible-at-requires (
+  visible-at-reads.Asked,
+  visible-at-reads.Learnt,
   next-at-reads.Asked,
   next-at-reads.Learnt,
   walk-below t,
   walk.Post,
 ) (walk-at t) walk.Post
-walk-xmin-at-requires t c κs = search needs
-
-walk-xmax-at-requires : (t : ℕ) → walk-lts.Need-xmax-at-requires (
-  xmin-at-reads.Asked,
-  xmin-at-reads.Learnt,
-  xmax-at-reads.Asked,
-  xmax-at-reads.Learnt,
-  visible-reads.Asked,
-  visible-reads.Learnt,
-  next-at-reads.Asked,
-  next-at-reads.Learnt,
-  walk-below t,
-  walk.Post,
-) (walk-at t) walk.Post
-walk-xmax-at-requires t c κs = search needs
-
-walk-visible-requires : (t : ℕ) → walk-lts.Need-visible-requires (
-  xmin-at-reads.Asked,
-  xmin-at-reads.Learnt,
-  xmax-at-reads.Asked,
-  xmax-at-reads.Learnt,
-  visible-reads.Asked,
-  visible-reads.Learnt,
-  next-at-reads.Asked,
-  next-at-reads.Learnt,
-  walk-below t,
-  walk.Post,
-) (walk-at t) walk.Post
-walk-visible-requires t c κs = search needs
+walk-visible-at-requires t c κs = c .before .before .before .pre .1
 
 walk-returns-2 : (t : ℕ) → walk-lts.Need-returns-2 (
-  xmin-at-reads.Asked,
-  xmin-at-reads.Learnt,
-  xmax-at-reads.Asked,
-  xmax-at-reads.Learnt,
-  visible-reads.Asked,
-  visible-reads.Learnt,
+  visible-at-reads.Asked,
+  visible-at-reads.Learnt,
   next-at-reads.Asked,
   next-at-reads.Learnt,
   walk-below t,
   walk.Post,
 ) (walk-at t) walk.Post
 unfolding stepFrom
-walk-returns-2 t c = rw (walk-step, ne-eqb _ _ (c .before .before .before .before .before .before .before .if1 .left), ← c .before .before .before .before .before .xmin-at .ensures, ← c .before .before .before .xmax-at .ensures, ← c .before .visible .ensures, c .if2 .taken)
+walk-returns-2 t c = rw (walk-step, ne-eqb _ _ (c .before .before .before .before .if1 .left), ← c .before .visible-at .ensures, c .if2 .taken)
 
 walk-next-at-requires : (t : ℕ) → walk-lts.Need-next-at-requires (
-  xmin-at-reads.Asked,
-  xmin-at-reads.Learnt,
-  xmax-at-reads.Asked,
-  xmax-at-reads.Learnt,
-  visible-reads.Asked,
-  visible-reads.Learnt,
+  visible-at-reads.Asked,
+  visible-at-reads.Learnt,
   next-at-reads.Asked,
   next-at-reads.Learnt,
   walk-below t,
@@ -115,26 +69,18 @@ walk-next-at-requires : (t : ℕ) → walk-lts.Need-next-at-requires (
 walk-next-at-requires t c κs = search needs
 
 walk-walk-requires : (t : ℕ) → walk-lts.Need-walk-requires (
-  xmin-at-reads.Asked,
-  xmin-at-reads.Learnt,
-  xmax-at-reads.Asked,
-  xmax-at-reads.Learnt,
-  visible-reads.Asked,
-  visible-reads.Learnt,
+  visible-at-reads.Asked,
+  visible-at-reads.Learnt,
   next-at-reads.Asked,
   next-at-reads.Learnt,
   walk-below t,
   walk.Post,
 ) (walk-at t) walk.Post
-walk-walk-requires t c κs = (omega arith, tt)
+walk-walk-requires t c κs = (omega arith, c .before .before .before .before .before .before .before .before .pre .1)
 
 walk-returns-3 : (t : ℕ) → walk-lts.Need-returns-3 (
-  xmin-at-reads.Asked,
-  xmin-at-reads.Learnt,
-  xmax-at-reads.Asked,
-  xmax-at-reads.Learnt,
-  visible-reads.Asked,
-  visible-reads.Learnt,
+  visible-at-reads.Asked,
+  visible-at-reads.Learnt,
   next-at-reads.Asked,
   next-at-reads.Learnt,
   walk-below t,
@@ -142,31 +88,23 @@ walk-returns-3 : (t : ℕ) → walk-lts.Need-returns-3 (
 ) (walk-at t) walk.Post
 unfolding stepFrom
 walk-returns-3 t c =
-    c .walk .ensures ∙ sym (rw (walk-step, ne-eqb _ _ (c .before .before .before .before .before .before .before .before .before .before .before .if1 .left), ← c .before .before .before .before .before .before .before .before .before .xmin-at .ensures, ← c .before .before .before .before .before .before .before .xmax-at .ensures, ← c .before .before .before .before .before .visible .ensures, c .before .before .before .before .if2 .left, ← c .before .before .next-at .ensures, lt-ltb _ _ (c .before .if3 .taken)))
+    c .walk .ensures ∙ sym (rw (walk-step, ne-eqb _ _ (c .before .before .before .before .before .before .before .before .if1 .left), ← c .before .before .before .before .before .visible-at .ensures, c .before .before .before .before .if2 .left, ← c .before .before .next-at .ensures, lt-ltb _ _ (c .before .if3 .taken)))
 
 walk-returns-4 : (t : ℕ) → walk-lts.Need-returns-4 (
-  xmin-at-reads.Asked,
-  xmin-at-reads.Learnt,
-  xmax-at-reads.Asked,
-  xmax-at-reads.Learnt,
-  visible-reads.Asked,
-  visible-reads.Learnt,
+  visible-at-reads.Asked,
+  visible-at-reads.Learnt,
   next-at-reads.Asked,
   next-at-reads.Learnt,
   walk-below t,
   walk.Post,
 ) (walk-at t) walk.Post
 unfolding stepFrom
-walk-returns-4 t c = rw (walk-step, ne-eqb _ _ (c .before .before .before .before .before .before .before .before .before .before .if1 .left), ← c .before .before .before .before .before .before .before .before .xmin-at .ensures, ← c .before .before .before .before .before .before .xmax-at .ensures, ← c .before .before .before .before .visible .ensures, c .before .before .before .if2 .left, ← c .before .next-at .ensures, le-ltb _ _ (c .if3 .left))
+walk-returns-4 t c = rw (walk-step, ne-eqb _ _ (c .before .before .before .before .before .before .before .if1 .left), ← c .before .before .before .before .visible-at .ensures, c .before .before .before .if2 .left, ← c .before .next-at .ensures, le-ltb _ _ (c .if3 .left))
 
 pub +walk-spec : {M : Type 1} → statement M
 +walk-spec = close μ-walk λ t. walk-lts.spec (
-  xmin-at-reads.Asked,
-  xmin-at-reads.Learnt,
-  xmax-at-reads.Asked,
-  xmax-at-reads.Learnt,
-  visible-reads.Asked,
-  visible-reads.Learnt,
+  visible-at-reads.Asked,
+  visible-at-reads.Learnt,
   next-at-reads.Asked,
   next-at-reads.Learnt,
   walk-below t,
@@ -175,9 +113,7 @@ pub +walk-spec : {M : Type 1} → statement M
     (walk-at t)
     walk.Post
     (walk-returns t)
-    (walk-xmin-at-requires t)
-    (walk-xmax-at-requires t)
-    (walk-visible-requires t)
+    (walk-visible-at-requires t)
     (walk-returns-2 t)
     (walk-next-at-requires t)
     (walk-walk-requires t)

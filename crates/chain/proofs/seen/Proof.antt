@@ -1,18 +1,15 @@
 -- `chain::seen` meets its contract.
 -- Assumes nothing.
-use borrow.Author.Tests.{lt-ltb, le-ltb}
-use borrow.Author.Needs.{needs}
+use native.Mathlib.Omega.{arith}
 use Rattle.chain.proofs.seen.Statement.{statement}
 use Rattle.chain.proofs.seen.Tie as tie
 
-active-contains-requires : tie.Need-active-contains-requires
-active-contains-requires c κs = search needs
+-- no number is below 0
+seen-above-requires : tie.Need-seen-above-requires
+seen-above-requires c κs = λ n l. absurd (omega arith)
 
 returns : tie.Need-returns
-returns c = rw (lt-ltb _ _ (c .before .if1 .taken), ← c .active-contains .ensures)
-
-returns-2 : tie.Need-returns-2
-returns-2 c = rw (le-ltb _ _ (c .if1 .left))
+returns c = c .seen-above .ensures
 
 pub seen-spec : {M : Type 1} → statement M
-seen-spec = tie.close (tie.spec active-contains-requires returns returns-2)
+seen-spec = tie.close (tie.spec seen-above-requires returns)
