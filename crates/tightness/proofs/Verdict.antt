@@ -10,6 +10,7 @@ use Rattle.protocol.specs.declared.Verdict.the-variants as verdict
 use Rattle.tables.specs.Lists.{records}
 use Rattle.scans.specs.declared.Found.{Found}
 use Rattle.scans.specs.declared.Found.the-variants.{Nothing}
+use Rattle.chain.specs.declared.Snapshot.{Snapshot}
 use Rattle.record.specs.declared.Phase.the-variants as phase
 use Rattle.record.specs.declared.Transaction.{Transaction}
 use Rattle.record.specs.View.{snapshotView, recordsIn}
@@ -18,7 +19,7 @@ use Rattle.verdict.specs.Judged.{versionsView, verdictOf, firstWhere, badIn, ch
 use Rattle.tightness.specs.Wrong.{Excludes}
 use Rattle.tightness.proofs.Apart.{apart, placeFound}
 use Rattle.tightness.proofs.Computes.{computes}
-use Rattle.tightness.proofs.Small.{live, threeActive, starting}
+use Rattle.tightness.proofs.Small.{live, threeActive, threeBelow, fromXmin, starting}
 
 -- what the contracts of `has_serialization_conflict` and `verdict` ask for
 abbrev conflict : List ℕ × List ℕ × Transaction → Found
@@ -27,11 +28,11 @@ conflict (versions, lists, t) = changedRecord versions lists t
 abbrev judge : List ℕ × List ℕ × List ℕ × Transaction → Verdict
 judge (versions, buckets, lists, t) = verdictOf versions buckets lists t
 
--- transaction 5, with this snapshot xmax and 3 active, which has read row 0 at version 1, of xmin 2
-abbrev reader : ℕ → Transaction
-reader xmax = record {
+-- transaction 5, with this snapshot, which has read row 0 at version 1, of xmin 2
+abbrev readerIn : Snapshot → Transaction
+readerIn s = record {
   number = 5;
-  snapshot = threeActive xmax;
+  snapshot = s;
   marked = false;
   phase = phase.Open;
   slot = 0;
@@ -40,6 +41,10 @@ reader xmax = record {
   «records_n» = 1;
   «candidates_n» = 0;
 }
+
+-- its snapshot has this xmax, and 3 active
+abbrev reader : ℕ → Transaction
+reader xmax = readerIn (threeActive xmax)
 
 abbrev read : List ℕ
 read = starting records (0 ∷ 1 ∷ 2 ∷ [])
@@ -57,6 +62,11 @@ has-serialization-conflict-own-number = apart (endedBy 5, read, reader 5) placeF
 pub has-serialization-conflict-active-ignored : Excludes conflict (λ (versions, lists, t). firstWhere (judged.badRecord (versionsView versions) (t .number) (record { xmin = t .snapshot .xmin; xmax = t .snapshot .xmax; active = [] })) 0 (recordsIn lists t))
 unfolding computes
 has-serialization-conflict-active-ignored = apart (endedBy 3, read, reader 6) placeFound refl
+
+-- `has_serialization_conflict`: xmin is trusted, so that no active number below it is looked up
+pub has-serialization-conflict-xmin-trusted : Excludes conflict (λ (versions, lists, t). firstWhere (judged.badRecord (versionsView versions) (t .number) (record { xmin = t .snapshot .xmin; xmax = t .snapshot .xmax; active = fromXmin (t .snapshot) })) 0 (recordsIn lists t))
+unfolding computes
+has-serialization-conflict-xmin-trusted = apart (endedBy 3, read, readerIn (threeBelow 6)) placeFound refl
 
 -- `has_serialization_conflict`: the place is counted from 1
 pub has-serialization-conflict-from-1 : Excludes conflict (λ (versions, lists, t). firstWhere (badIn versions t) 1 (recordsIn lists t))

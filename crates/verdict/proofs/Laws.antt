@@ -7,16 +7,20 @@ use mathlib.Core.List.{List, map}
 use native.Mathlib.Numerals.{add-one}
 use native.Mathlib.Decide.{decLt}
 use native.Mathlib.Omega.{arith}
-use lib.Dec.{eqb, leb}
+use borrow.Author.Tests.{ltb-true}
+use lib.Dec.{eqb, leb, ltb}
 use lib.ListN.{length, getD, take, drop, drop-of-length-le}
 use lib.Seq.{take-all}
 use Rattle.limits.specs.Limits.{mostActive}
-use Rattle.model.specs.Lists.{member}
+use Rattle.model.specs.Lists.{member, least}
 use Rattle.model.specs.Table.{cond-elim}
 use Rattle.model.specs.Verdict.{badRecord}
+use Rattle.model.proofs.ListLaws.{below-least}
 use Rattle.tables.specs.Fields.{xminOf, xmaxOf}
 use Rattle.tables.specs.declared.lists.ReadRecord.{ReadRecord}
-use Rattle.record.specs.View.{recordView, recordsIn}
+use Rattle.chain.specs.Chain.{activeOf}
+use Rattle.chain.specs.declared.Snapshot.{Snapshot}
+use Rattle.record.specs.View.{snapshotView, recordView, recordsIn}
 use Rattle.record.specs.declared.Transaction.{Transaction}
 use Rattle.tables.specs.Lists.{Kind, records, recordOf, startOf, entryAt, listAt, recordAt}
 use Rattle.tables.proofs.Spans.{list-map, list-drop, list-length, list-at}
@@ -51,30 +55,31 @@ looked-same active n x e = elim (decLt n mostActive) [
   | no h ↦ let m : min n mostActive ≡ mostActive = omega arith in rw (m, take-all mostActive active (omega arith), take-all n active (omega arith))
 ]
 
-pub looked-few : (e n : ℕ) → lookedFor e n ≤ mostActive
-looked-few e n = cond-elim (λ m. m ≤ mostActive) (eqb e 0) 0 (min n mostActive) (λ t. omega arith) (λ t. omega arith)
+pub looked-few : (e : ℕ) (s : Snapshot) → lookedFor e s ≤ mostActive
+looked-few e s = cond-elim (λ m. m ≤ mostActive) (eqb e 0 || ltb e (least (s .xmin) (activeOf s))) 0 (min (s .«active_n») mostActive) (λ t. omega arith) (λ t. omega arith)
 
--- a read record is bad where it has changed outright, or where who ended it is active
-module _ (versions active : List ℕ) (n xmin xmax count : ℕ) (r : ReadRecord) (long : length active ≡ mostActive) where
-  bad-by : (x : ℕ) (own none : Bool) → eqb x n ≡ own → eqb x 0 ≡ none → (d : Bool)
-      → (d || (not (eqb x 0) && not (eqb x n) && (leb xmax x || member x (take count active))))
-      ≡ ((d || (not (eqb (cond own 0 x) 0) && leb xmax (cond own 0 x))) || member (cond own 0 x) (take (cond (eqb (cond own 0 x) 0) 0 (min count mostActive)) active))
+-- a read record is bad where it has changed outright, or where who ended it is active; a number below the least of xmin and the active numbers is not
+module _ (versions : List ℕ) (n : ℕ) (s : Snapshot) (r : ReadRecord) (long : length (s .active) ≡ mostActive) where
+  bad-by : (x : ℕ) (own none low : Bool) → eqb x n ≡ own → eqb x 0 ≡ none → ltb x (least (s .xmin) (activeOf s)) ≡ low → (d : Bool)
+      → (d || (not (eqb x 0) && not (eqb x n) && (leb (s .xmax) x || member x (activeOf s))))
+      ≡ ((d || (not (eqb (cond own 0 x) 0) && leb (s .xmax) (cond own 0 x))) || member (cond own 0 x) (take (lookedFor (cond own 0 x) s) (s .active)))
   unfolding member
-  bad-by x true none eo ez d = rw (eo, and-false) (sym (or-false (d || false)))
-  bad-by x false true eo ez d = rw (ez) (sym (or-false (d || false)))
-  bad-by x false false eo ez d = rw (eo, ez, looked-same active count x long) (sym (or-assoc d (leb xmax x) (member x (take count active))))
+  bad-by x true none low eo ez el d = rw (eo, and-false) (sym (or-false (d || false)))
+  bad-by x false true low eo ez el d = rw (ez) (sym (or-false (d || false)))
+  bad-by x false false true eo ez el d = rw (eo, ez, el, below-least (s .xmin) (activeOf s) x (ltb-true _ _ el), or-false (leb (s .xmax) x)) (sym (or-false (d || leb (s .xmax) x)))
+  bad-by x false false false eo ez el d = rw (eo, ez, el, looked-same (s .active) (s .«active_n») x long) (sym (or-assoc d (leb (s .xmax) x) (member x (activeOf s))))
 
-  pub bad-split : badRecord (versionsView versions) n (record { xmin = xmin; xmax = xmax; active = take count active }) (recordView r)
-      ≡ (outright versions r (endedBy versions (r .ptr) n) xmax || member (endedBy versions (r .ptr) n) (take (lookedFor (endedBy versions (r .ptr) n) count) active))
+  pub bad-split : badRecord (versionsView versions) n (snapshotView s) (recordView r)
+      ≡ (outright versions r (endedBy versions (r .ptr) n) (s .xmax) || member (endedBy versions (r .ptr) n) (take (lookedFor (endedBy versions (r .ptr) n) s) (s .active)))
   unfolding badRecord
-  bad-split = bad-by (xmaxOf versions (r .ptr)) _ _ refl refl (not (eqb (xminOf versions (r .ptr)) (r .xmin)))
+  bad-split = bad-by (xmaxOf versions (r .ptr)) _ _ _ refl refl refl (not (eqb (xminOf versions (r .ptr)) (r .xmin)))
 
 -- the scan of the read records at place i, where x is read there and e ended its version
 module _ (versions lists : List ℕ) (t : Transaction) (long : length (t .snapshot .active) ≡ mostActive) (i : ℕ) (x : ReadRecord) (e : ℕ) where
   pub records-next : x ≡ recordAt lists (t .slot) i → e ≡ endedBy versions (x .ptr) (t .number) → i < t .«records_n»
       → firstWhere (badIn versions t) i (drop i (recordsIn lists t))
-      ≡ cond (outright versions x e (t .snapshot .xmax) || member e (take (lookedFor e (t .snapshot .«active_n»)) (t .snapshot .active))) (At i)
+      ≡ cond (outright versions x e (t .snapshot .xmax) || member e (take (lookedFor e (t .snapshot)) (t .snapshot .active))) (At i)
       (firstWhere (badIn versions t) (i + 1) (drop (i + 1) (recordsIn lists t)))
   records-next ex ee h =
       where-next (badIn versions t) recordView recordOf records lists (t .slot) (t .«records_n») i x ex h
-      ∙ rw (bad-split versions (t .snapshot .active) (t .number) (t .snapshot .xmin) (t .snapshot .xmax) (t .snapshot .«active_n») x long, ee)
+      ∙ rw (bad-split versions (t .number) (t .snapshot) x long, ee)

@@ -2,8 +2,9 @@
 use Prim.Native.Nat.{ℕ, suc, min}
 use mathlib.Core.Bool.{Bool, cond, not, _&&_, _||_}
 use mathlib.Core.List.{List, [], _∷_}
-use lib.Dec.{eqb, leb}
+use lib.Dec.{eqb, leb, ltb}
 use Rattle.limits.specs.Limits.{mostActive}
+use Rattle.model.specs.Lists.{least}
 use Rattle.model.specs.Store as model
 use Rattle.model.specs.Verdict as judged
 use Rattle.protocol.specs.View.{verdictTold}
@@ -14,6 +15,8 @@ use Rattle.tables.specs.Lists.{readAt, recordAt}
 use Rattle.tables.specs.declared.lists.ReadRecord.{ReadRecord}
 use Rattle.scans.specs.declared.Found.{Found}
 use Rattle.scans.specs.declared.Found.the-variants.{At, Nothing}
+use Rattle.chain.specs.Chain.{activeOf}
+use Rattle.chain.specs.declared.Snapshot.{Snapshot}
 use Rattle.record.specs.declared.Transaction.{Transaction}
 use Rattle.record.specs.View.{snapshotView, readsIn, recordsIn, chainsView, indexView, txnView}
 
@@ -62,6 +65,6 @@ endedBy versions ptr n = cond (eqb (xmaxOf versions ptr) n) 0 (xmaxOf versions p
 abbrev pub outright : List ℕ → ReadRecord → ℕ → ℕ → Bool
 outright versions r ended xmax = not (eqb (xminOf versions (r .ptr)) (r .xmin)) || (not (eqb ended 0) && leb xmax ended)
 
--- how many of the active numbers are looked at
-abbrev pub lookedFor : ℕ → ℕ → ℕ
-lookedFor ended n = cond (eqb ended 0) 0 (min n mostActive)
+-- how many of the active numbers are looked at: none for 0, and for a number below the snapshot's xmin and all of them
+abbrev pub lookedFor : ℕ → Snapshot → ℕ
+lookedFor ended s = cond (eqb ended 0 || ltb ended (least (s .xmin) (activeOf s))) 0 (min (s .«active_n») mostActive)

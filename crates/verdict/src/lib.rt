@@ -1,9 +1,11 @@
 // The verdict on a transaction: the mark, the first index read whose bucket changed, the first read record that changed.
 use buckets::stamp_precedes_snapshot;
+use chain::Snapshot;
 use limits::MOST_ACTIVE;
 use protocol::Verdict;
 use record::Transaction;
 use scans::Found;
+use scans::least_of;
 use tables::lists::IndexRead;
 use tables::lists::ReadRecord;
 use tables::lists::read_at;
@@ -65,15 +67,19 @@ fn changed_outright(versions: &[u64], read: ReadRecord, ended: u64, xmax: u64) -
     xmax <= ended
 }
 
-// How many of the active numbers are looked at: none where no other number ended the version.
-fn looked_for(ended: u64, active_n: usize) -> usize
-    ensures { λ r. ⌜ r ≡ lookedFor ended «active_n» ⌝ }
+// How many of the active numbers are looked at: none where no other number ended the version, or where that number is below them all.
+fn looked_for(ended: u64, s: Snapshot) -> usize
+    ensures { λ r. ⌜ r ≡ lookedFor ended s ⌝ }
 {
     if ended == 0 {
         return 0;
     }
-    if active_n < MOST_ACTIVE {
-        active_n
+    let active = s.active;
+    if ended < least_of(s.xmin, active, s.active_n) {
+        return 0;
+    }
+    if s.active_n < MOST_ACTIVE {
+        s.active_n
     } else {
         MOST_ACTIVE
     }
@@ -92,7 +98,7 @@ pub fn has_serialization_conflict(versions: &[u64], lists: &[u64], t: Transactio
         if changed_outright(versions, read, ended, snapshot.xmax) {
             break 'records;
         }
-        let most = looked_for(ended, snapshot.active_n);
+        let most = looked_for(ended, snapshot);
         let mut j = 0;
         while j < most {
             if active[j] == ended {

@@ -49,10 +49,10 @@ loop-holds : tie.Need-loop-holds Inv-loop μ-loop Inv-records μ-records
 loop-holds c = (omega arith, refl)
 
 mul-if3 : tie.Need-mul-if3 Inv-loop μ-loop Inv-records μ-records
-mul-if3 c = let m = c .before .before .looked-for .ensures in omega (arith, looked-few (c .before .before .before .before .before .ended-by .result) (c .before .before .before .before .before .before .before .before .before .before .before .before .before .before .args .t .snapshot .«active_n»))
+mul-if3 c = let m = c .before .before .looked-for .ensures in omega (arith, looked-few (c .before .before .before .before .before .ended-by .result) (c .before .before .before .before .before .before .before .before .before .before .before .before .before .before .args .t .snapshot))
 
 array-read-if3 : tie.Need-array-read-if3 Inv-loop μ-loop Inv-records μ-records
-array-read-if3 c = let m = c .before .before .looked-for .ensures in omega (arith, looked-few (c .before .before .before .before .before .ended-by .result) (c .before .before .before .before .before .before .before .before .before .before .before .before .before .before .args .t .snapshot .«active_n»))
+array-read-if3 c = let m = c .before .before .looked-for .ensures in omega (arith, looked-few (c .before .before .before .before .before .ended-by .result) (c .before .before .before .before .before .before .before .before .before .before .before .before .before .before .args .t .snapshot))
 
 add-j : tie.Need-add-j Inv-loop μ-loop Inv-records μ-records
 add-j c = search needs
@@ -65,7 +65,7 @@ loop-again c = let a = c .before .before .before .before .before .before .before
     let l = c .before .before .loop in
     let m = c .before .before .before .looked-for .ensures in
     let o = c .before .before .before .before .before .before .before .before .before .before .records .inv in
-    (omega arith, l .inv .1 ∙ rw (active-next (a .t .snapshot .active) (c .before .before .before .looked-for .result) (l .j) (c .before .before .before .before .before .before .ended-by .result) (omega arith) (omega (arith, o .1, looked-few (c .before .before .before .before .before .before .ended-by .result) (a .t .snapshot .«active_n»))), ne-eqb _ _ (c .if3 .left)))
+    (omega arith, l .inv .1 ∙ rw (active-next (a .t .snapshot .active) (c .before .before .before .looked-for .result) (l .j) (c .before .before .before .before .before .before .ended-by .result) (omega arith) (omega (arith, o .1, looked-few (c .before .before .before .before .before .before .ended-by .result) (a .t .snapshot))), ne-eqb _ _ (c .if3 .left)))
 
 add-i : tie.Need-add-i Inv-loop μ-loop Inv-records μ-records
 add-i c = search needs
@@ -86,7 +86,7 @@ returns c = let a = c .before .before .before .before .before .before .before .b
     ⊎-elim (λ w. absurd (omega arith))
     (⊎-elim
     (λ w. rw (o .inv .2, records-next (a .versions .now) (a .lists .now) (a .t) (o .inv .1) (o .i) (w .1 .result) (w .2 .result) (w .1 .ensures) (w .2 .ensures) h, ← w .3 .ensures, w .4 .taken))
-    (λ w. rw (o .inv .2, records-next (a .versions .now) (a .lists .now) (a .t) (o .inv .1) (o .i) (w .1 .result) (w .2 .result) (w .1 .ensures) (w .2 .ensures) h, ← w .3 .ensures, w .4 .left, ← w .5 .ensures, w .6 .inv .1, active-next (a .t .snapshot .active) (w .5 .result) (w .6 .j) (w .2 .result) (w .7 .taken) (omega (arith, w .5 .ensures, o .inv .1, w .7 .taken, looked-few (w .2 .result) (a .t .snapshot .«active_n»))), eq-eqb _ _ (w .8 .taken))))
+    (λ w. rw (o .inv .2, records-next (a .versions .now) (a .lists .now) (a .t) (o .inv .1) (o .i) (w .1 .result) (w .2 .result) (w .1 .ensures) (w .2 .ensures) h, ← w .3 .ensures, w .4 .left, ← w .5 .ensures, w .6 .inv .1, active-next (a .t .snapshot .active) (w .5 .result) (w .6 .j) (w .2 .result) (w .7 .taken) (omega (arith, w .5 .ensures, o .inv .1, w .7 .taken, looked-few (w .2 .result) (a .t .snapshot))), eq-eqb _ _ (w .8 .taken))))
     (c .before .before .if1 .came)
 
 returns-2 : tie.Need-returns-2 Inv-loop μ-loop Inv-records μ-records
