@@ -10,13 +10,14 @@ use Rattle.model.specs.Seeing.{Live}
 use Rattle.model.specs.Refusals.{Step}
 use Rattle.model.specs.Machine.{run, canOpen}
 use Rattle.model.specs.History.{history}
-use Rattle.model.specs.Demands.{Shapely, NothingLost, KeptVersion, HistoryStands, UpstreamSees}
+use Rattle.model.specs.Demands.{Shapely, NothingLost, KeptVersion, HistoryStands, LeastXmins, UpstreamSees}
+use Rattle.model.proofs.ListLaws.{below-least}
 use Rattle.model.proofs.SeeingLaws.{pending-which, which-pendingRows}
 use Rattle.model.proofs.Good.{opened-good, right-shape, step-in}
 use Rattle.model.proofs.Lasting.{lasts-run}
 use Rattle.model.proofs.Written.{posted-old}
 use Rattle.model.proofs.Unrefused.{never-misshapen}
-use Rattle.model.proofs.UpstreamLaws.{creator-seen, visible-same, first-same, matches-same}
+use Rattle.model.proofs.UpstreamLaws.{low-seen, creator-seen, visible-same, first-same, matches-same}
 use Rattle.model.proofs.Events.{replay-live, recorded-opened, candidates-raw}
 use Rattle.model.proofs.Snapshots.{snapshot-same}
 use Rattle.model.proofs.Traces.{traced-opened}
@@ -47,6 +48,13 @@ module _ (z : Sizes) (clock : ℕ) (before : List Step) (e : canOpen z clock ≡
     stamps-are = h .stamps;
     candidates-are = candidates-raw _ _ h;
     snapshots-are = λ j r a. snapshot-same _ _ (opened-good z clock before e l) (traced-opened z clock before e l) j a r;
+  }
+
+  pub least-xmins : LeastXmins (run (fresh z clock) before)
+  least-xmins j a = let x = run (fresh z clock) before .txns j in let g = opened-good z clock before e l .numbers .snapped j a in record {
+    least-is = g .xmin-is;
+    below-seen = low-seen x g;
+    below-inactive = λ n h. below-least (x .number) (x .snapshot .active) n (rw (← g .xmin-is) h);
   }
 
   pub upstream-sees : let s = run (fresh z clock) before in (j : ℕ) → Live (s .txns j) → UpstreamSees s (s .txns j)

@@ -15,13 +15,13 @@ use Rattle.model.specs.Machine.{Rows, Judged, Done, step, run, canOpen}
 use Rattle.model.specs.History.{history}
 use Rattle.model.specs.Causes.{Cause}
 use Rattle.model.specs.Given.{_and_, Lives, Ready, BucketsFree, openNumber, GivenOpen}
-use Rattle.model.specs.Demands.{ExactAnswer, MarkLives, Shapely, NothingLost, DistinctAt, MarkedOpen, NoMoreWork, KeptVersion, HistoryStands, UpstreamSees, FinishedRead, StandingRead}
+use Rattle.model.specs.Demands.{ExactAnswer, MarkLives, Shapely, NothingLost, DistinctAt, MarkedOpen, NoMoreWork, KeptVersion, HistoryStands, LeastXmins, UpstreamSees, FinishedRead, StandingRead}
 use Rattle.model.proofs.Exact.{open-exactly}
 use Rattle.model.proofs.Marking.{mark-lives}
 use Rattle.model.proofs.Distinct.{distinct-opened}
 use Rattle.model.proofs.Marked.{marked-opened, no-more-work}
 use Rattle.model.proofs.Answering.{exact, judges}
-use Rattle.model.proofs.Keeping.{shapely, nothing-lost, lasting, history-stands, upstream-sees}
+use Rattle.model.proofs.Keeping.{shapely, nothing-lost, lasting, history-stands, least-xmins, upstream-sees}
 use Rattle.model.proofs.Standing.{finished, validated, prepared}
 
 -- DEMAND 1, of any step at any store: each number exactly when, in order; what the step answers; what it leaves, part by part; and of open
@@ -87,6 +87,10 @@ kept-versions = lasting
 -- The index is upstream's history of the run.
 pub kept-history : (z : Sizes) (clock : ℕ) (before : List Step) → canOpen z clock ≡ true → clock ≤ lastNumber → HistoryStands (run (fresh z clock) before) (history (fresh z clock) before)
 kept-history = history-stands
+
+-- A live transaction sees every number below its xmin, which is the least of its active numbers and its own.
+pub kept-xmin : (z : Sizes) (clock : ℕ) (before : List Step) → canOpen z clock ≡ true → clock ≤ lastNumber → LeastXmins (run (fresh z clock) before)
+kept-xmin = least-xmins
 
 -- A live transaction sees what upstream's definitions say.
 pub kept-seeing : (z : Sizes) (clock : ℕ) (before : List Step) → canOpen z clock ≡ true → clock ≤ lastNumber → let s = run (fresh z clock) before in (j : ℕ) → Live (s .txns j) → UpstreamSees s (s .txns j)

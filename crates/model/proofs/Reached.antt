@@ -1,4 +1,4 @@
--- Runs that meet the premises of the page of statements: a read that finds a row, another transaction that publishes meanwhile, a clear verdict; a stale stamp and a mark that lasts; a version that ends; and the history of a run. Assumes nothing.
+-- Runs that meet the premises of the page of statements: a read that finds a row, another transaction that publishes meanwhile, a clear verdict; a stale stamp and a mark that lasts; a version that ends; two live at once; and the history of a run. Assumes nothing.
 use mathlib.Core.Path.{_≡_, refl}
 use mathlib.Core.Bool.{true, false}
 use mathlib.Core.Logic.{inl}
@@ -101,3 +101,8 @@ met-snapshot = (omega (arith, numbered), λ w u. absurd (omega (arith, u .1, ltb
   where
     opened : canOpen sizes 1 ≡ true
     opened = met .0
+
+-- the premises of kept-xmin: 5 is active where 6 begins, so xmin is 5, with numbers below it
+pub met-xmin : let x = run (fresh sizes 5) (begin ∷ begin ∷ []) .txns 1 in (canOpen sizes 5 ≡ true) × (x .number ≡ 6) × (x .snapshot .active ≡ 5 ∷ []) × (x .snapshot .xmin ≡ 5)
+unfolding computes
+met-xmin = (refl, refl, refl, refl)

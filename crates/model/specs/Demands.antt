@@ -1,12 +1,12 @@
 -- What is promised: of every step at every store, and of every sequence of steps from a fresh store, refused steps included.
-use Prim.Native.Nat.{ℕ, _≤_}
+use Prim.Native.Nat.{ℕ, _≤_, _<_}
 use mathlib.Core.Path.{_≡_}
 use mathlib.Core.Bool.{true, false, _&&_}
 use mathlib.Core.Logic.{_↔_, _≢_, _⊎_}
 use mathlib.Core.Option.{none, some}
 use mathlib.Core.List.{List, [], _∷_, map}
 use lib.Dec.{ltb}
-use Rattle.model.specs.Lists.{member, pick, Among, Rising}
+use Rattle.model.specs.Lists.{member, least, pick, Among, Rising}
 use Rattle.model.specs.Store.{Sizes, Chains, IndexRead, ReadRecord, Txn, Open, Collected, Store, rank, sameKey}
 use Rattle.model.specs.Verdict.{Mark}
 use Rattle.model.specs.Seeing.{Live, seen, visible, firstVisible, versionOf, keyAt, pending, matches, recordOf, shows, snapshotNow}
@@ -106,6 +106,15 @@ pub record HistoryStands (s : Store) (es : List Event) : Type 0 where
   -- what a live transaction sees of a row, unless it sees a version of it that is still unpublished
   pub snapshots-are : (j r : ℕ) → Live (s .txns j) → ((w : ℕ) → Unpublished (s .sizes) (s .txns w) r → seen (s .txns j .snapshot) (s .chains .xmin (s .chains .head r)) ≡ false)
       → snapshotRows (λ q. none) es (s .txns j) r ≡ keyAt (s .chains) (versionOf (s .chains) (s .txns j .snapshot) r)
+
+-- a live transaction's xmin is the least of its active numbers and its own: so every number below it is seen, and none of these is among the active
+pub record LeastXmin (x : Txn) : Type 0 where
+  pub least-is : x .snapshot .xmin ≡ least (x .number) (x .snapshot .active)
+  pub below-seen : (n : ℕ) → n < x .snapshot .xmin → seen (x .snapshot) n ≡ true
+  pub below-inactive : (n : ℕ) → n < x .snapshot .xmin → member n (x .snapshot .active) ≡ false
+
+abbrev pub LeastXmins : Store → Type 0
+LeastXmins s = (j : ℕ) → Live (s .txns j) → LeastXmin (s .txns j)
 
 -- a live transaction sees what upstream's definitions say
 pub record UpstreamSees (s : Store) (x : Txn) : Type 0 where

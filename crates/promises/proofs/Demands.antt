@@ -9,7 +9,7 @@ use Rattle.model.specs.Verdict.{Verdict}
 use Rattle.model.specs.Refusals.{validate, txnOf}
 use Rattle.model.specs.Machine.{step}
 use Rattle.model.specs.Given.{Lives}
-use Rattle.model.specs.Demands.{MarkedOpen, StandingRead}
+use Rattle.model.specs.Demands.{MarkedOpen, LeastXmins, StandingRead}
 use Rattle.protocol.specs.declared.Answer.the-variants as tell
 use Rattle.protocol.specs.declared.Verdict.the-variants as verdict
 use Rattle.steps.specs.Words.{Words, sizesView, view}
@@ -17,7 +17,7 @@ use Rattle.promises.specs.Calls.{Call, called, Typed, AnyCall}
 use Rattle.promises.specs.Demands.{ExactCall, Opening, openNumber, ExactOpen, after, storeAfter, Follows, reading, validating, MarkedCalls, JudgedCall, ReadCall}
 use Rattle.promises.proofs.Calls.{any-call}
 use Rattle.promises.proofs.Answered.{exactly, judges, opens-exactly}
-use Rattle.promises.proofs.Sequences.{follows, marked-open, stops, reads, stands}
+use Rattle.promises.proofs.Sequences.{follows, least-xmins, marked-open, stops, reads, stands}
 
 -- DEMAND 1, of a call on any words that the code's types allow: its number exactly when, in order; its values; what it leaves. And of open.
 pub exact-call : (w : Words) (c : Call) → Typed w → ExactCall w c
@@ -37,6 +37,10 @@ judged-call = judges
 -- After an accepted open and any calls the words fit and stand for the model's run of their steps.
 pub calls-follow : (o : Opening) → openNumber o ≡ 0 → (cs : List Call) → Follows o cs
 calls-follow = follows
+
+-- A live transaction sees every number below its xmin, which is the least of its active numbers and its own.
+pub calls-xmin : (o : Opening) → openNumber o ≡ 0 → (cs : List Call) → LeastXmins (view (after o cs))
+calls-xmin = least-xmins
 
 -- Every marked transaction is Open, so no call of rows meets one; and no more work is done in it, until it is aborted.
 pub calls-marked : (o : Opening) → openNumber o ≡ 0 → (cs : List Call) → MarkedOpen (view (after o cs))

@@ -9,10 +9,10 @@ use Rattle.model.specs.Store.{Store, Collected, fresh}
 use Rattle.model.specs.Verdict as judged
 use Rattle.model.specs.Refusals.{Step as Asked, rows, validate, txnOf}
 use Rattle.model.specs.Machine as machine
-use Rattle.model.specs.Machine.{lentAfter, at, step, run}
+use Rattle.model.specs.Machine.{lentAfter, at, step, run, canOpen}
 use Rattle.model.specs.Given.{number, Lives}
-use Rattle.model.specs.Demands.{MarkedOpen, MarkedGives, StandingRead}
-use Rattle.model.proofs.Promises.{finished-read, validated-read, kept-marked, marked-stops}
+use Rattle.model.specs.Demands.{MarkedOpen, MarkedGives, LeastXmins, StandingRead}
+use Rattle.model.proofs.Promises.{finished-read, validated-read, kept-marked, marked-stops, kept-xmin}
 use Rattle.protocol.specs.declared.Answer.the-variants as tell
 use Rattle.protocol.specs.declared.Verdict.the-variants as verdict
 use Rattle.protocol.specs.View.{told}
@@ -85,6 +85,14 @@ module _ (o : Opening) (e : openNumber o ≡ 0) where
         finished = finished-read (sizesView (o .sizes)) (o .clock) (stepsOf cs) t (length lent) (w .0) (w .1);
       }
 
+  opens : canOpen (sizesView (o .sizes)) (o .clock) ≡ true
+  opens = tests (o .rows) (o .versions) (o .buckets) (o .lists) (o .sizes) (o .clock) (o .clock-in) (open-done o e) .0
+
+  -- ---- what lies below xmin
+
+  pub least-xmins : (cs : List Call) → LeastXmins (view (after o cs))
+  least-xmins cs = subst LeastXmins (sym (after-view cs)) (kept-xmin (sizesView (o .sizes)) (o .clock) (stepsOf cs) opens (o .clock-in))
+
   -- ---- a marked transaction
 
   pub marked-open : (cs : List Call) → MarkedOpen (view (after o cs))
@@ -95,7 +103,6 @@ module _ (o : Opening) (e : openNumber o ≡ 0) where
 
   pub stops : (cs : List Call) (t : ℕ) → Lives (storeAfter o cs) t → txnOf (storeAfter o cs) t .marked ≡ true → MarkedCalls o cs t
   stops cs t l m =
-      let opens = tests (o .rows) (o .versions) (o .buckets) (o .lists) (o .sizes) (o .clock) (o .clock-in) (open-done o e) .0 in
       let h = marked-stops (sizesView (o .sizes)) (o .clock) (stepsOf cs) opens (o .clock-in) t l m in
       record {
         gives = λ c named q. subst (MarkedGives (storeAfter o cs) (asking c)) (sym (number-after cs c)) (h .gives (asking c) named q);
