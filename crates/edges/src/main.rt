@@ -105,4 +105,12 @@ fn main() {
         active_n: 1,
     };
     seen(&versions, two);
+    io::write_all(1, b"P12 with an xmin above 2, as no begin takes it:");
+    let above = Snapshot {
+        xmin: 5,
+        xmax: 6,
+        active: [2, 0, 0, 0, 0, 0, 0],
+        active_n: 1,
+    };
+    seen(&versions, above);
 }
