@@ -5,22 +5,20 @@ use std::process::Command;
 
 use crate::Engine;
 
-/// Of the benchmark log, for each engine; or why they were not counted.
-pub fn of_a_replay() -> Result<[u64; 2], String> {
-    let [proved, twin] = Engine::BOTH.map(|engine| {
-        // what two rounds take more than one is one replay and nothing else
-        let one = of_rounds(engine, "1")?;
-        Ok::<u64, String>(of_rounds(engine, "2")? - one)
-    });
-    Ok([proved?, twin?])
+/// Of a log that is named by these words; or why they were not counted.
+pub fn of_a_replay(engine: Engine, log: &[String]) -> Result<u64, String> {
+    // what two rounds take more than one is one replay and nothing else
+    let one = of_rounds(engine, "1", log)?;
+    Ok(of_rounds(engine, "2", log)? - one)
 }
 
-fn of_rounds(engine: Engine, rounds: &str) -> Result<u64, String> {
+fn of_rounds(engine: Engine, rounds: &str, log: &[String]) -> Result<u64, String> {
     let itself = env::current_exe().map_err(|error| error.to_string())?;
     let output = Command::new("valgrind")
         .args(["--tool=callgrind", "--callgrind-out-file=/dev/null"])
         .arg(itself)
         .args(["once", engine.name(), rounds])
+        .args(log)
         .output()
         .map_err(|error| format!("valgrind: {error}"))?;
     let said = String::from_utf8_lossy(&output.stderr);

@@ -9,7 +9,7 @@ const VERSIONS: u32 = 1024;
 
 /// One row with every version that the tables allow, read `reads` times by a snapshot that sees the first alone.
 pub fn longest_chain(reads: u64) -> Vec<u8> {
-    chain(u64::from(VERSIONS), reads)
+    chains(&Chains { rows: 1, versions: u64::from(VERSIONS), active: 0 }, reads)
 }
 
 /// `steps` steps of the usual work: taps, now and then an update that is published, updates that are given up.
@@ -27,21 +27,36 @@ pub fn with_live(live: u64, steps: u64, random: &mut Random) -> Vec<u8> {
     work(Work { rows: 64, keys: 32, buckets: 64, live, steps }, random)
 }
 
-/// A row with so many versions, read to the last step by a snapshot that sees the first alone.
-pub fn with_chains(versions: u64, steps: u64) -> Vec<u8> {
-    chain(versions, (steps - 2 - 6 * versions) / 3)
+/// So many rows of one key, each with so many versions, and how many active numbers the snapshot has that reads them.
+#[derive(Clone, Copy, Debug, PartialEq, Eq)]
+pub struct Chains {
+    pub rows: u32,
+    pub versions: u64,
+    pub active: u64,
 }
 
-/// An open, a begin, six steps for a version and three for a read.
-fn chain(versions: u64, reads: u64) -> Vec<u8> {
-    let mut writer = Writer::open(1, VERSIONS, 1, 1);
-    writer.put_and_publish(0, 0, 0);
-    let old = writer.begin().expect("nothing else is live");
-    for payload in 1..versions {
-        writer.put_and_publish(0, 0, payload);
+/// Such rows, read to the last step by a snapshot that sees the first version of each alone: that one is older than every active number.
+pub fn with_chains(of: &Chains, steps: u64) -> Vec<u8> {
+    let before = 2 + 2 * of.active + 6 * u64::from(of.rows) * of.versions;
+    chains(of, steps.saturating_sub(before) / 3)
+}
+
+/// An open, a begin, a begin and an abort for an active number, six steps for a version and three for a read.
+fn chains(of: &Chains, reads: u64) -> Vec<u8> {
+    let mut writer = Writer::open(of.rows, VERSIONS, 1, 1);
+    let put_each = |writer: &mut Writer, payload| (0..of.rows).for_each(|row| writer.put_and_publish(row, 0, payload));
+    put_each(&mut writer, 0);
+    let active: Vec<u64> = (0..of.active).map(|_| writer.begin().expect("at most seven are live")).collect();
+    let old = writer.begin().expect("at most seven are live");
+    for number in active {
+        // it stays among the snapshot's active numbers
+        let _ = writer.step(Step::Abort { number });
+    }
+    for payload in 1..of.versions {
+        put_each(&mut writer, payload);
     }
     for _ in 0..reads {
-        writer.read(old, 0, 1);
+        writer.read(old, 0, of.rows);
     }
     writer.bytes
 }

@@ -7,7 +7,7 @@ mod random;
 mod traffic;
 mod writer;
 
-pub use growth::{benchmark, longest_chain, with_chains, with_live, with_rows};
+pub use growth::{benchmark, longest_chain, with_chains, with_live, with_rows, Chains};
 pub use random::Random;
 pub use writer::append_record;
 
