@@ -9,10 +9,10 @@
 #include <stddef.h>
 #include <stdint.h>
 
-#define TORUXENG_VERSION "0.3.0"
+#define TORUXENG_VERSION "0.3.1"
 #define TORUXENG_VERSION_MAJOR 0
 #define TORUXENG_VERSION_MINOR 3
-#define TORUXENG_VERSION_PATCH 0
+#define TORUXENG_VERSION_PATCH 1
 
 #ifdef __cplusplus
 extern "C" {
