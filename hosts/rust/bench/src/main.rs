@@ -112,7 +112,7 @@ fn bench() {
     let (log, report) = (case.log.len(), case.report.len());
     println!("log: seed {SEED}, {} steps, {log} bytes; report {report} bytes", case.steps);
 
-    println!("instructions are counted now, which takes a minute and a half");
+    println!("instructions are counted now, which takes about a minute");
     if let Err(why) = print_instructions(case.steps) {
         println!("instructions of a step: not counted, {why}");
     }
