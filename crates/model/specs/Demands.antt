@@ -113,6 +113,7 @@ pub record LeastXmin (x : Txn) : Type 0 where
   pub below-seen : (n : ℕ) → n < x .snapshot .xmin → seen (x .snapshot) n ≡ true
   pub below-inactive : (n : ℕ) → n < x .snapshot .xmin → member n (x .snapshot .active) ≡ false
 
+-- so of every live transaction
 abbrev pub LeastXmins : Store → Type 0
 LeastXmins s = (j : ℕ) → Live (s .txns j) → LeastXmin (s .txns j)
 
