@@ -1,22 +1,27 @@
 -- After install: a pending row's old key stands behind its head, what changed is stamped, and all that the number holds is listed.
 -- Assumes nothing.
-use Prim.Native.Nat.{ℕ, suc, _≤_}
-use mathlib.Core.Path.{_≡_, sym, ap, _∙_}
-use mathlib.Core.Bool.{true, cond}
+use Prim.Native.Nat.{ℕ, suc, _≤_, _<_}
+use mathlib.Core.Path.{_≡_, refl, sym, ap, _∙_}
+use mathlib.Core.Bool.{Bool, true, false, cond, not}
 use mathlib.Core.Logic.{inl, inr, ⊎-elim}
 use mathlib.Core.List.{List, [], _∷_, _++_}
 use native.Mathlib.Omega.{arith}
+use lib.Dec.{leb}
 use lib.ListN.{length, length-append}
+use borrow.Author.Tests.{leb-true, le-leb, eqb-true, eq-eqb}
 use Rattle.model.specs.Store.{bucketIn, rank, sameKey}
 use Rattle.model.specs.Lists.{join, Among}
 use Rattle.model.specs.Table.{cond-elim}
-use Rattle.model.specs.Steps.{keyBefore, newKey, keyBuckets, readBuckets, changedBuckets, pendingRows}
-use Rattle.model.specs.Holding.{needs, Wants}
-use Rattle.model.proofs.ListLaws.{among-left, among-right, among-cases, join-which, which-join, join-same}
+use Rattle.model.specs.Steps.{keyBefore, newKey, keyBuckets, readBuckets, changedBuckets, pendingRows, madeRows, headedBy}
+use Rattle.model.specs.Holding.{Made, needs, Wants}
+use Rattle.model.proofs.ListLaws.{and-l, and-r, among-left, among-right, among-cases, join-which, which-join}
+use Rattle.model.proofs.Made.{made-writes, made-head, which-made}
+use Rattle.model.proofs.Written.{posted-either}
 use Rattle.model.proofs.Good.{Good, right-shape}
 use Rattle.tables.specs.Fields as fields
 use Rattle.tables.proofs.Parts.{part-field}
 use Rattle.record.specs.View.{phaseView}
+use Rattle.holders.specs.Keys as words
 use Rattle.holders.specs.Keys.{keyOf, oldKeyOf, newKeyOf}
 use Rattle.holders.specs.Needs.{readsNeed, rowsWritten, writeNeeds, writeChanges}
 use Rattle.steps.specs.Words.{Words, view, txnAt, Sized}
@@ -28,16 +33,12 @@ use Rattle.bridge.proofs.Keyed.{new-key-same}
 use Rattle.bridge.proofs.Needing.{key-buckets, version-key, head-same, used-in, row-in, row-pending, pending-row}
 use Rattle.bridge.proofs.Aborting.{join-few, needs-few, needs-in, count-pos, writes-few}
 
--- lists of the same rows join to the same entries
-join-to : (f : ℕ → List ℕ) (rs ps : List ℕ) (b : ℕ) → ((r : ℕ) → Among r rs → Among r ps) → Among b (join f rs) → Among b (join f ps)
-join-to f rs ps b to m = let a = join-which f rs b m in which-join f ps b (a .0) (to (a .0) (a .1)) (a .2)
-
 -- what the words need for a row, and what they stamp, after install
 abbrev pub rowNeeds : Words → ℕ → ℕ → List ℕ
 rowNeeds w p r = writeNeeds (w .tables .rows) (w .tables .versions) (w .tables .lists) (w .sizes .buckets) true (txnAt w p .slot) (txnAt w p .«writes_n») r
 
 abbrev pub rowChanges : Words → ℕ → ℕ → List ℕ
-rowChanges w p r = writeChanges (w .tables .rows) (w .tables .versions) (w .tables .lists) (w .sizes .buckets) (txnAt w p .slot) (txnAt w p .«writes_n») r
+rowChanges w p r = writeChanges (w .tables .rows) (w .tables .versions) (w .tables .lists) (w .sizes .buckets) (txnAt w p .number) (txnAt w p .slot) (txnAt w p .«writes_n») r
 
 abbrev pub rowsOf : Words → ℕ → List ℕ
 rowsOf w p = rowsWritten (w .tables .lists) (txnAt w p .slot) (txnAt w p .«writes_n»)
@@ -45,39 +46,76 @@ rowsOf w p = rowsWritten (w .tables .lists) (txnAt w p .slot) (txnAt w p .«writ
 abbrev pub listedAfter : Words → ℕ → List ℕ
 listedAfter w p = readsNeed (w .tables .lists) (txnAt w p .slot) (txnAt w p .«reads_n») ++ join (rowNeeds w p) (rowsOf w p)
 
-module _ (w : Words) (z : Sized w) (g : Shaped w) (p : ℕ) (l : 1 ≤ txnAt w p .number) (k : 5 ≤ rank (phaseView (txnAt w p .phase))) where
+-- r is a pending row that got a version
+abbrev Got : Words → ℕ → ℕ → Type 0
+Got w p r = Made (view w .sizes) (view w .chains) (view w .txns p) r
+
+-- the buckets that a row stamps
+abbrev changes : Words → ℕ → ℕ → List ℕ
+changes w p r = cond (sameKey (keyBefore (view w .chains) r) (newKey (view w .txns p) r)) [] (keyBuckets (view w .sizes) (keyBefore (view w .chains) r) ++ keyBuckets (view w .sizes) (newKey (view w .txns p) r))
+
+abbrev gotRows : Words → ℕ → List ℕ
+gotRows w p = madeRows (view w .sizes) (view w .chains) (txnAt w p .number) (view w .txns p .writes)
+
+module _ (w : Words) (z : Sized w) (g : Shaped w) (p : ℕ) (l : 1 ≤ txnAt w p .number) where
+  got-row : (r : ℕ) → Got w p r → Among r (rowsOf w p)
+  got-row r m = pending-row w z g p r (made-writes (view w .sizes) (view w .chains) (view w .txns p) r m)
+
+  -- headed by a version of the transaction
+  headed-same : (r : ℕ) → r < w .sizes .rows → words.headedBy (w .tables .rows) (w .tables .versions) (txnAt w p .number) r ≡ headedBy (view w .chains) (txnAt w p .number) r
+  unfolding words.headedBy headedBy
+  headed-same r h =
+      let q = view w .chains .head r in
+      rw (head-same w z g r h, ← part-field 6 0 (suc (w .sizes .versions)) (w .tables .versions) q (omega arith) (used-in w z g q (g .heads-in r)))
+
   -- the key behind the head
-  before-same : (r : ℕ) → Among r (rowsOf w p) → keyOf (oldKeyOf (w .tables .rows) (w .tables .versions) true r) ≡ keyBefore (view w .chains) r
+  before-same : (r : ℕ) → Got w p r → keyOf (oldKeyOf (w .tables .rows) (w .tables .versions) true r) ≡ keyBefore (view w .chains) r
   unfolding oldKeyOf
   before-same r m =
-      let h = row-in w z g p l r m in
-      let some-head = g .in-store p l .headed k r (row-pending w z g p l r m) in
+      let h = row-in w z g p l r (got-row r m) in
       let c = view w .chains in
       let q = c .head r in
       let u = g .heads-in r in
       let next : fields.nextOf (w .tables .versions) q ≡ c .next q = sym (part-field 6 2 (suc (w .sizes .versions)) (w .tables .versions) q (omega arith) (used-in w z g q u)) in
-      rw (head-same w z g r h, next) (version-key w z g (c .next q) (omega (arith, g .next-falls q some-head u)))
+      rw (head-same w z g r h, next) (version-key w z g (c .next q) (omega (arith, g .next-falls q (made-head (view w .sizes) c (view w .txns p) r m .0) u)))
 
-  after-needs : (r : ℕ) → Among r (rowsOf w p) → rowNeeds w p r ≡ keyBuckets (view w .sizes) (keyBefore (view w .chains) r) ++ keyBuckets (view w .sizes) (newKey (view w .txns p) r)
+  after-needs : (r : ℕ) → Got w p r → rowNeeds w p r ≡ keyBuckets (view w .sizes) (keyBefore (view w .chains) r) ++ keyBuckets (view w .sizes) (newKey (view w .txns p) r)
   unfolding writeNeeds
   after-needs r m =
       let a = key-buckets (view w .sizes) (oldKeyOf (w .tables .rows) (w .tables .versions) true r) in
       let b = key-buckets (view w .sizes) (newKeyOf (w .tables .lists) (txnAt w p .slot) (txnAt w p .«writes_n») r) in
       rw (← a, ← b, before-same r m, new-key-same (w .tables .lists) (txnAt w p) (sized-at w z p .writes) r)
 
-  after-changes : (r : ℕ) → Among r (rowsOf w p)
-      → rowChanges w p r ≡ cond (sameKey (keyBefore (view w .chains) r) (newKey (view w .txns p) r)) [] (keyBuckets (view w .sizes) (keyBefore (view w .chains) r) ++ keyBuckets (view w .sizes) (newKey (view w .txns p) r))
+  got-headed : (r : ℕ) → Got w p r → headedBy (view w .chains) (txnAt w p .number) r ≡ true
+  unfolding headedBy
+  got-headed r m = let o = made-head (view w .sizes) (view w .chains) (view w .txns p) r m in rw (le-leb 1 _ (o .0), eq-eqb _ _ (o .1))
+
+  after-changes : (r : ℕ) → Got w p r → rowChanges w p r ≡ changes w p r
   unfolding writeChanges
-  after-changes r m = rw (before-same r m, new-key-same (w .tables .lists) (txnAt w p) (sized-at w z p .writes) r, after-needs r m)
+  after-changes r m = rw (headed-same r (row-in w z g p l r (got-row r m)), got-headed r m, before-same r m, new-key-same (w .tables .lists) (txnAt w p) (sized-at w z p .writes) r, after-needs r m)
+
+  -- a row that stamps got a version
+  change-got : (r b : ℕ) → Among r (rowsOf w p) → Among b (rowChanges w p r) → Got w p r
+  unfolding writeChanges headedBy
+  change-got r b a m = go (headedBy (view w .chains) (txnAt w p .number) r) refl (rw (headed-same r (row-in w z g p l r a)) at m)
+    where
+      go : (h : Bool) → headedBy (view w .chains) (txnAt w p .number) r ≡ h → Among b (cond (not h) [] (cond (sameKey (keyOf (oldKeyOf (w .tables .rows) (w .tables .versions) true r)) (keyOf (newKeyOf (w .tables .lists) (txnAt w p .slot) (txnAt w p .«writes_n») r))) [] (rowNeeds w p r))) → Got w p r
+      go true e o = which-made (view w .sizes) (view w .chains) (view w .txns p) r (row-pending w z g p l r a) (leb-true 1 (view w .chains .head r) (and-l (leb 1 (view w .chains .head r)) _ e)) (eqb-true _ _ (and-r (leb 1 (view w .chains .head r)) _ e))
+      go false e o = absurd o
 
   -- the stamped buckets are those that changed
   pub changed-to : (b : ℕ) → Among b (join (rowChanges w p) (rowsOf w p)) → Among b (changedBuckets (view w) (view w .txns p))
   unfolding changedBuckets
-  changed-to b m = join-to _ (rowsOf w p) _ b (λ r a. row-pending w z g p l r a) (rw (join-same (rowChanges w p) _ (rowsOf w p) after-changes) at m)
+  changed-to b m =
+      let o = join-which (rowChanges w p) (rowsOf w p) b m in
+      let d = change-got (o .0) b (o .1) (o .2) in
+      which-join (changes w p) (gotRows w p) b (o .0) d (rw (after-changes (o .0) d) at (o .2))
 
   pub changed-back : (b : ℕ) → Among b (changedBuckets (view w) (view w .txns p)) → Among b (join (rowChanges w p) (rowsOf w p))
   unfolding changedBuckets
-  changed-back b m = rw (join-same (rowChanges w p) _ (rowsOf w p) after-changes) (join-to _ _ (rowsOf w p) b (λ r a. pending-row w z g p r a) m)
+  changed-back b m =
+      let o = join-which (changes w p) (gotRows w p) b m in
+      which-join (rowChanges w p) (rowsOf w p) b (o .0) (got-row (o .0) (o .1)) (rw (after-changes (o .0) (o .1)) (o .2))
 
 module _ (w : Words) (z : Sized w) (g : Good (view w)) (p : ℕ) (l : 1 ≤ txnAt w p .number) (k : 5 ≤ rank (phaseView (txnAt w p .phase))) where
   abbrev sh : Shaped w
@@ -85,13 +123,21 @@ module _ (w : Words) (z : Sized w) (g : Good (view w)) (p : ℕ) (l : 1 ≤ txnA
 
   -- all that the number holds is listed
   pub held-listed : (b : ℕ) → view w .held .holder b ≡ txnAt w p .number → Among b (bucketIn (phaseView (txnAt w p .phase)) ∷ listedAfter w p)
-  unfolding needs
+  unfolding needs keyBuckets
   held-listed b e = by (g .holders .buckets .owner b (λ q. omega (arith, q)))
     where
-      rows-listed : Among b (join (λ r. keyBuckets (view w .sizes) (view w .index .posted r) ++ keyBuckets (view w .sizes) (newKey (view w .txns p) r)) (pendingRows (view w .sizes) (view w .txns p .writes))) → Among b (join (rowNeeds w p) (rowsOf w p))
-      rows-listed m = rw (join-same (rowNeeds w p) (λ r. keyBuckets (view w .sizes) (view w .index .posted r) ++ keyBuckets (view w .sizes) (newKey (view w .txns p) r)) (rowsOf w p)
-          (λ r a. rw (← g .written .mine p r l k (row-pending w z sh p l r a) .before) (after-needs w z sh p l k r a)))
-          (join-to (λ r. keyBuckets (view w .sizes) (view w .index .posted r) ++ keyBuckets (view w .sizes) (newKey (view w .txns p) r)) (pendingRows (view w .sizes) (view w .txns p .writes)) (rowsOf w p) b (λ r a. pending-row w z sh p r a) m)
+      rowWants : ℕ → List ℕ
+      rowWants r = keyBuckets (view w .sizes) (view w .index .posted r) ++ keyBuckets (view w .sizes) (newKey (view w .txns p) r)
+
+      -- a row that erases nothing wants no bucket
+      row-listed : (r : ℕ) → Among r (pendingRows (view w .sizes) (view w .txns p .writes)) → Among b (rowWants r) → Among b (join (rowNeeds w p) (rowsOf w p))
+      row-listed r a m = ⊎-elim
+          (λ d. which-join (rowNeeds w p) (rowsOf w p) b r (got-row w z sh p l r d) (rw (after-needs w z sh p l r d, g .written .mine p r l k d .before) m))
+          (λ q. absurd (rw (q .1, q .0 .1) at m))
+          (posted-either (view w) (g .numbers) (g .holders) (g .written) p r l k a)
+
+      rows-listed : Among b (join rowWants (pendingRows (view w .sizes) (view w .txns p .writes))) → Among b (join (rowNeeds w p) (rowsOf w p))
+      rows-listed m = let o = join-which rowWants (pendingRows (view w .sizes) (view w .txns p .writes)) b m in row-listed (o .0) (o .1) (o .2)
 
       wanted : Wants (view w .sizes) (view w .index .posted) (view w .txns p) b → Among b (bucketIn (phaseView (txnAt w p .phase)) ∷ listedAfter w p)
       wanted (inl h) = inl (sym (ap bucketIn (h .1)))
@@ -119,8 +165,8 @@ module _ (w : Words) (z : Sized w) (p : ℕ) where
 
   change-few : (r : ℕ) → length (rowChanges w p r) ≤ 2
   unfolding writeChanges
-  change-few r = cond-elim (λ (bs : List ℕ). length bs ≤ 2) (sameKey (keyOf (oldKeyOf (w .tables .rows) (w .tables .versions) true r)) (keyOf (newKeyOf (w .tables .lists) (txnAt w p .slot) (txnAt w p .«writes_n») r))) [] (rowNeeds w p r) (λ t. omega arith)
-      (λ t. needs-few (w .tables .rows) (w .tables .versions) (w .tables .lists) (w .sizes .buckets) true (txnAt w p .slot) (txnAt w p .«writes_n») r)
+  change-few r = cond-elim (λ (bs : List ℕ). length bs ≤ 2) (not (words.headedBy (w .tables .rows) (w .tables .versions) (txnAt w p .number) r)) [] _ (λ t. omega arith) (λ t. cond-elim (λ (bs : List ℕ). length bs ≤ 2) (sameKey (keyOf (oldKeyOf (w .tables .rows) (w .tables .versions) true r)) (keyOf (newKeyOf (w .tables .lists) (txnAt w p .slot) (txnAt w p .«writes_n») r))) [] (rowNeeds w p r) (λ t. omega arith)
+      (λ t. needs-few (w .tables .rows) (w .tables .versions) (w .tables .lists) (w .sizes .buckets) true (txnAt w p .slot) (txnAt w p .«writes_n») r))
 
   pub changes-few : length (join (rowChanges w p) (rowsOf w p)) ≤ 48
   changes-few = omega (arith, join-few (rowChanges w p) (rowsOf w p) change-few, writes-few w p, sized-at w z p .writes)
@@ -135,7 +181,7 @@ module _ (w : Words) (z : Sized w) (g : Shaped w) (p : ℕ) where
 
   change-in : (r : ℕ) → InRange (w .sizes .buckets) (rowChanges w p r)
   unfolding writeChanges
-  change-in r = cond-elim (λ (bs : List ℕ). InRange (w .sizes .buckets) bs) (sameKey (keyOf (oldKeyOf (w .tables .rows) (w .tables .versions) true r)) (keyOf (newKeyOf (w .tables .lists) (txnAt w p .slot) (txnAt w p .«writes_n») r))) [] (rowNeeds w p r) (λ t i m. absurd m) (λ t. needs-range r)
+  change-in r = cond-elim (λ (bs : List ℕ). InRange (w .sizes .buckets) bs) (not (words.headedBy (w .tables .rows) (w .tables .versions) (txnAt w p .number) r)) [] _ (λ t i m. absurd m) (λ t. cond-elim (λ (bs : List ℕ). InRange (w .sizes .buckets) bs) (sameKey (keyOf (oldKeyOf (w .tables .rows) (w .tables .versions) true r)) (keyOf (newKeyOf (w .tables .lists) (txnAt w p .slot) (txnAt w p .«writes_n») r))) [] (rowNeeds w p r) (λ t i m. absurd m) (λ t. needs-range r))
 
   pub changes-in : InRange (w .sizes .buckets) (join (rowChanges w p) (rowsOf w p))
   changes-in b m = let o = join-which (rowChanges w p) (rowsOf w p) b m in change-in (o .0) b (o .2)

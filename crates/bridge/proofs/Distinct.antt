@@ -1,36 +1,44 @@
--- The distinct rows of the pending writes, as the words sort them, are the model's pending rows.
+-- The distinct rows of the pending writes, as the words sort them, are the model's pending rows; and so are those of them that get a version.
 -- Assumes nothing.
 use Prim.Native.Nat.{ℕ, zero, suc, _≤_, _<_}
-use mathlib.Core.Path.{_≡_, refl, sym, _∙_}
-use mathlib.Core.Bool.{true, false≢true}
+use mathlib.Core.Path.{_≡_, refl, sym, ap, _∙_}
+use mathlib.Core.Bool.{Bool, true, false, cond, not, _&&_, false≢true}
+use mathlib.Core.Option.{none, some}
 use mathlib.Core.Logic.{inl, inr, ⊎-elim}
 use mathlib.Core.List.{List, [], _∷_, map}
+use native.Mathlib.Nat.{zero-add}
 use native.Mathlib.Omega.{arith}
 use lib.Dec.{eqb}
-use lib.ListN.{length, take, drop, getD, replicate}
+use lib.ListN.{length, take, drop, getD, replicate, length-replicate}
 use lib.Seq.{take-at}
 use borrow.Author.Tests.{eqb-true, eq-eqb}
 use Rattle.limits.specs.Limits.{mostBuckets, mostWrites}
 use Rattle.model.specs.Store as model
-use Rattle.model.specs.Steps.{pendingRows}
+use Rattle.model.specs.Store.{keyed}
+use Rattle.model.specs.Steps.{pendingRows, oldKey, getsVersion, versionRows}
 use Rattle.model.specs.Seeing.{pending}
-use Rattle.model.specs.Lists.{Among, Rising}
-use Rattle.model.proofs.ListLaws.{pick-rising, same-test, or-cases, or-left, or-right}
+use Rattle.model.specs.Lists.{Among, Rising, join, pick}
+use Rattle.model.proofs.ListLaws.{pick-rising, same-test, or-cases, or-left, or-right, and-l, pick-which, pick-fewer, join-same}
 use Rattle.model.proofs.Ranges.{good-sized}
 use Rattle.buckets.specs.Buckets.{bucketsOf, laid, canonicalOf}
 use Rattle.buckets.specs.Upstream.{inRange}
 use Rattle.buckets.specs.declared.Canonical.the-variants.{Sorted}
 use Rattle.buckets.proofs.Checks.{fine-when}
-use Rattle.buckets.proofs.Sorted.{Below, Ascending, member, buckets-ascending, buckets-member, ascending-unique}
+use Rattle.buckets.proofs.Sorted.{Below, Ascending, member, buckets-ascending, buckets-member, ascending-unique, buckets-no-longer}
 use Rattle.tables.specs.Lists.{writesOf}
-use Rattle.record.specs.View.{writeView}
-use Rattle.holders.specs.Needs.{rowsWritten}
-use Rattle.install.specs.Install.{rowsListed, pendingInto}
+use Rattle.record.specs.View.{writeView, writesIn}
+use Rattle.record.specs.declared.Transaction.{Transaction}
+use Rattle.holders.specs.Keys.{keyOf, oldKeyOf, newKeyOf, getsVersionOf}
+use Rattle.holders.specs.declared.Key.{Key}
+use Rattle.holders.specs.Needs.{rowsWritten, front}
+use Rattle.install.specs.Install.{rowsListed, pendingInto, kept, versionsInto}
+use Rattle.prepare.specs.Prepare.{versionsIn}
 use Rattle.steps.specs.Words.{Words, view, txnAt, Sized}
 use Rattle.bridge.proofs.Shaped.{Shaped}
 use Rattle.bridge.proofs.Places.{sized-at}
-use Rattle.bridge.proofs.Listing.{listed-all}
-use Rattle.bridge.proofs.Needing.{written-pending, pending-written, row-in}
+use Rattle.bridge.proofs.Listing.{listed-all, listed-count}
+use Rattle.bridge.proofs.Keyed.{new-key-same}
+use Rattle.bridge.proofs.Needing.{written-pending, pending-written, row-in, old-key-same}
 use Rattle.bridge.proofs.Aborting.{writes-few}
 
 rising-below : (x : ℕ) (ys : List ℕ) → Rising (suc x) ys → Below x ys
@@ -75,6 +83,58 @@ module _ (xs : List ℕ) (s n : ℕ) (z : model.Sizes) (below : (r : ℕ) → Am
       let rs = rowsWritten xs s n in
       rw (listed-all 16 rs few, canonical-fine rs (replicate mostWrites 0) (λ i h. omega (arith, below (getD rs i 0) (entry-among rs i h))) few, sorted-pending)
 
+-- ---- the rows that get a version
+
+-- a key is there where its word says so
+key-there : (k : Key) → not (eqb (k .keyed) 0) ≡ keyed (keyOf k)
+unfolding keyed
+key-there k = by (eqb (k .keyed) 0)
+  where
+    by : (b : Bool) → not b ≡ keyed (cond b none (some (k .key)))
+    by true = refl
+    by false = refl
+
+-- where the old key is the model's, so is the test
+pub gets-same : (rows versions xs : List ℕ) (t : Transaction) (c : model.Chains) (r : ℕ) → t .«writes_n» ≤ mostWrites → keyOf (oldKeyOf rows versions false r) ≡ oldKey c r → getsVersionOf rows versions xs (t .slot) (t .«writes_n») r ≡ getsVersion c (writesIn xs t) r
+unfolding getsVersionOf getsVersion
+gets-same rows versions xs t c r few e = rw (key-there (oldKeyOf rows versions false r), key-there (newKeyOf xs (t .slot) (t .«writes_n») r), e, new-key-same xs t few r)
+
+join-pick : (test also : ℕ → Bool) (k n : ℕ) → join (λ r. cond (also r) (r ∷ []) []) (pick test k n) ≡ pick (λ r. test r && also r) k n
+unfolding join pick
+join-pick test also k zero = refl
+join-pick test also k (suc n) = by (test k) (also k) refl (join-pick test also (suc k) n)
+  where
+    by : (a b : Bool) → also k ≡ b → join (λ r. cond (also r) (r ∷ []) []) (pick test (suc k) n) ≡ pick (λ r. test r && also r) (suc k) n
+        → join (λ r. cond (also r) (r ∷ []) []) (cond a (k ∷ pick test (suc k) n) (pick test (suc k) n)) ≡ cond (a && b) (k ∷ pick (λ r. test r && also r) (suc k) n) (pick (λ r. test r && also r) (suc k) n)
+    by true true d e = rw d (ap (λ (l : List ℕ). k ∷ l) e)
+    by true false d e = rw d e
+    by false b d e = e
+
+-- the pending rows that get a version, picked out of a list
+module _ (rows versions xs : List ℕ) (t : Transaction) (z : model.Sizes) (c : model.Chains) (few : t .«writes_n» ≤ mostWrites) (old : (r : ℕ) → r < z .rows → keyOf (oldKeyOf rows versions false r) ≡ oldKey c r) where
+  pub kept-rows : join (kept rows versions xs (t .slot) (t .«writes_n»)) (pendingRows z (writesIn xs t)) ≡ versionRows z c (writesIn xs t)
+  unfolding kept pendingRows versionRows
+  kept-rows =
+      join-same (kept rows versions xs (t .slot) (t .«writes_n»)) (λ r. cond (getsVersion c (writesIn xs t) r) (r ∷ []) []) (pick (pending (writesIn xs t)) 0 (z .rows))
+      (λ r m. ap (λ (b : Bool). cond b (r ∷ []) []) (gets-same rows versions xs t c r few (old r (omega (arith, pick-which (pending (writesIn xs t)) 0 (z .rows) r m .1)))))
+      ∙ join-pick (pending (writesIn xs t)) (getsVersion c (writesIn xs t)) 0 (z .rows)
+
+  -- as the words list them
+  pub version-front : front (pendingInto xs (t .slot) (t .«writes_n») (replicate mostWrites 0)) ≡ pendingRows z (writesIn xs t) → length (versionRows z c (writesIn xs t)) ≤ mostWrites
+      → front (versionsInto rows versions xs (t .slot) (t .«writes_n») (replicate mostWrites 0)) ≡ versionRows z c (writesIn xs t)
+  unfolding versionsInto
+  version-front e room = rw (e, kept-rows) (listed-all 16 (versionRows z c (writesIn xs t)) room)
+
+  pub version-count : front (pendingInto xs (t .slot) (t .«writes_n») (replicate mostWrites 0)) ≡ pendingRows z (writesIn xs t) → length (versionRows z c (writesIn xs t)) ≤ mostWrites
+      → versionsInto rows versions xs (t .slot) (t .«writes_n») (replicate mostWrites 0) .n ≡ length (versionRows z c (writesIn xs t))
+  unfolding versionsInto
+  version-count e room = rw (e, kept-rows) (listed-count (versionRows z c (writesIn xs t)) (record { out = replicate mostWrites 0; n = 0 }) (rw (length-replicate {A = ℕ} 16 0) (omega arith)) ∙ zero-add (length (versionRows z c (writesIn xs t))))
+
+-- no more than the pending ones
+pub versions-fewer : (z : model.Sizes) (c : model.Chains) (ws : List model.Write) → length (versionRows z c ws) ≤ length (pendingRows z ws)
+unfolding versionRows pendingRows
+versions-fewer z c ws = pick-fewer (λ r. pending ws r && getsVersion c ws r) (pending ws) 0 (z .rows) (λ r e. and-l _ _ e)
+
 module _ (w : Words) (z : Sized w) (g : Shaped w) (p : ℕ) (l : 1 ≤ txnAt w p .number) where
   pub rows-sorted : bucketsOf (rowsWritten (w .tables .lists) (txnAt w p .slot) (txnAt w p .«writes_n»)) ≡ pendingRows (view w .sizes) (view w .txns p .writes)
   rows-sorted = sorted-pending (w .tables .lists) (txnAt w p .slot) (txnAt w p .«writes_n») (view w .sizes) (row-in w z g p l)
@@ -87,3 +147,17 @@ module _ (w : Words) (z : Sized w) (g : Shaped w) (p : ℕ) (l : 1 ≤ txnAt w p
   pub pending-front : take (pendingInto (w .tables .lists) (txnAt w p .slot) (txnAt w p .«writes_n») (replicate mostWrites 0) .n) (pendingInto (w .tables .lists) (txnAt w p .slot) (txnAt w p .«writes_n») (replicate mostWrites 0) .out)
       ≡ pendingRows (view w .sizes) (view w .txns p .writes)
   pending-front = let ps = pendingRows (view w .sizes) (view w .txns p .writes) in rw pending-into (take-at ps (drop (length ps) (replicate mostWrites 0)) (length ps) refl)
+
+  pending-most : length (pendingRows (view w .sizes) (view w .txns p .writes)) ≤ mostWrites
+  pending-most = omega (arith, ap length rows-sorted, buckets-no-longer (rowsWritten (w .tables .lists) (txnAt w p .slot) (txnAt w p .«writes_n»)), writes-few w p, sized-at w z p .writes)
+
+  versions-most : length (versionRows (view w .sizes) (view w .chains) (view w .txns p .writes)) ≤ mostWrites
+  versions-most = omega (arith, versions-fewer (view w .sizes) (view w .chains) (view w .txns p .writes), pending-most)
+
+  -- the list that install goes through
+  pub versions-front : front (versionsInto (w .tables .rows) (w .tables .versions) (w .tables .lists) (txnAt w p .slot) (txnAt w p .«writes_n») (replicate mostWrites 0)) ≡ versionRows (view w .sizes) (view w .chains) (view w .txns p .writes)
+  versions-front = version-front (w .tables .rows) (w .tables .versions) (w .tables .lists) (txnAt w p) (view w .sizes) (view w .chains) (sized-at w z p .writes) (old-key-same w z g) pending-front versions-most
+
+  pub versions-counted : versionsIn (w .tables .rows) (w .tables .versions) (w .tables .lists) (txnAt w p .slot) (txnAt w p .«writes_n») ≡ length (versionRows (view w .sizes) (view w .chains) (view w .txns p .writes))
+  unfolding versionsIn
+  versions-counted = rw (version-count (w .tables .rows) (w .tables .versions) (w .tables .lists) (txnAt w p) (view w .sizes) (view w .chains) (sized-at w z p .writes) (old-key-same w z g) pending-front versions-most) (omega (arith, versions-most))

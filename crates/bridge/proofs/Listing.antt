@@ -31,6 +31,12 @@ listed-front (x ∷ xs) st h =
     (listed-front xs (record { out = set (st .out) (st .n) x; n = st .n + 1 }) (rw length-set (omega arith))
     ∙ rw (add-one (st .n), take-suc-set (st .out) (st .n) x l, append-assoc))
 
+pub listed-count : (xs : List ℕ) (st : Listed) → st .n + length xs ≤ length (st .out) → pushAll st xs .n ≡ st .n + length xs
+listed-count [] st h = rw (push-end st) (omega arith)
+listed-count (x ∷ xs) st h =
+    let l : st .n < length (st .out) = omega arith in
+    rw (push-room x xs st l) (listed-count xs (record { out = set (st .out) (st .n) x; n = st .n + 1 }) (rw length-set (omega arith)) ∙ omega arith)
+
 -- in a list of zeros
 pub listed-all : (room : ℕ) (xs : List ℕ) → length xs ≤ room → take (pushAll (record { out = replicate room 0; n = 0 }) xs .n) (pushAll (record { out = replicate room 0; n = 0 }) xs .out) ≡ xs
 listed-all room xs h = listed-front xs (record { out = replicate room 0; n = 0 }) (rw (length-replicate {A = ℕ} room 0) (omega arith))

@@ -12,9 +12,9 @@ use borrow.Author.Tests.{eqb-false}
 use Rattle.limits.specs.Limits.{mostLive}
 use Rattle.model.specs.Store as model
 use Rattle.model.specs.Store.{rank}
-use Rattle.model.specs.Lists.{some-of, Among}
+use Rattle.model.specs.Lists.{some-of, Among, join}
 use Rattle.model.specs.Verdict as judged
-use Rattle.model.specs.Steps.{pendingRows, neededBuckets, preparedHeld}
+use Rattle.model.specs.Steps.{pendingRows, neededBuckets, preparedHeld, versionRows}
 use Rattle.model.specs.Refusals.{Refusal, WrongPhase, Taken, Conflict, NoVersions, byAnother, reservedBy, reserved, bucketsTaken, rowsClaimed, checks, refusal, inPhase, txnOf}
 use Rattle.model.specs.Machine.{accepted, afterRefusal, carried}
 use Rattle.model.proofs.ListLaws.{same-test, some-which, which-some}
@@ -25,15 +25,14 @@ use Rattle.tables.specs.Fields as fields
 use Rattle.tables.proofs.Parts.{part-field}
 use Rattle.tables.specs.Regions.{listOf}
 use Rattle.buckets.specs.Buckets.{canonicalOf}
-use Rattle.buckets.proofs.Sorted.{buckets-no-longer}
 use Rattle.record.specs.View.{phaseView, rowsPart, versionsPart, bucketsPart, chainsView, indexView, heldView}
 use Rattle.record.specs.Methods.{withPhase, takenBy, refusedOf, idleOf}
 use Rattle.record.specs.declared.Phase.the-variants as phase
 use Rattle.record.specs.declared.Transaction.{Transaction}
 use Rattle.holders.specs.Needs.{pushAll, rowsWritten}
 use Rattle.holders.specs.Holders.{anyTaken, anyClaimed, holdAll, claimAll}
-use Rattle.prepare.specs.Prepare.{isClear, distinctIn, reservedIn, lacks, neededInto, left, prepareWith, prepareOf}
-use Rattle.install.specs.Install.{rowsListed, pendingInto}
+use Rattle.prepare.specs.Prepare.{isClear, versionsIn, reservedIn, lacks, neededInto, left, prepareWith, prepareOf}
+use Rattle.install.specs.Install.{rowsListed, pendingInto, versionsInto}
 use Rattle.places.specs.Places.{preparedCount}
 use Rattle.steps.specs.Steps.{inPrepared}
 use Rattle.steps.specs.Words.{Words, sizesView, view, txnAt, othersIn, Sized}
@@ -47,7 +46,7 @@ use Rattle.bridge.proofs.Writing.{sized-phase}
 use Rattle.bridge.proofs.Judging.{taken-same, verdict-same}
 use Rattle.bridge.proofs.Needing.{all-same, listedNeeds, row-in, row-pending, pending-row, needed-listed, listed-needed}
 use Rattle.bridge.proofs.Aborting.{listed-few, listed-in, writes-few}
-use Rattle.bridge.proofs.Distinct.{rows-sorted, pending-into}
+use Rattle.bridge.proofs.Distinct.{versions-counted}
 
 -- a test of some entry sees only which entries there are
 some-both : (test : ℕ → Bool) (xs ys : List ℕ) → ((x : ℕ) → Among x xs → Among x ys) → ((x : ℕ) → Among x ys → Among x xs) → some-of test xs ≡ some-of test ys
@@ -69,12 +68,13 @@ abbrev prepareChecks : model.Store → ℕ → List (Bool × Refusal)
 prepareChecks s t =
     (bucketsTaken s t (neededBuckets s (txnOf s t)) || rowsClaimed s t, Taken)
     ∷ (not (eqb (judged.verdictNumber (judged.verdict (s .chains) (s .index) (txnOf s t))) 0), Conflict)
-    ∷ (ltb (s .sizes .versions) (s .chains .used + reserved (s .sizes) (s .txns) mostLive + length (pendingRows (s .sizes) (txnOf s t .writes))), NoVersions)
+    ∷ (ltb (s .sizes .versions) (s .chains .used + reserved (s .sizes) (s .chains) (s .txns) mostLive + length (versionRows (s .sizes) (s .chains) (txnOf s t .writes))), NoVersions)
     ∷ []
 
-none-distinct : (xs : List ℕ) (s : ℕ) → distinctIn xs s 0 ≡ 0
-unfolding distinctIn pendingInto rowsListed pushAll listOf canonicalOf
-none-distinct xs s = refl
+-- no writes reserve nothing
+pub none-reserved : (rows versions xs : List ℕ) (s : ℕ) → versionsIn rows versions xs s 0 ≡ 0
+unfolding versionsIn versionsInto pendingInto rowsListed pushAll listOf canonicalOf join
+none-reserved rows versions xs s = refl
 
 module _ (w : Words) (z : Sized w) (g : Shaped w) where
   taken-needs : (p : ℕ) → 1 ≤ txnAt w p .number → anyTaken (w .tables .buckets) (txnAt w p .number) (listedNeeds w p) ≡ some-of (byAnother (view w .held .holder) (txnAt w p .number)) (neededBuckets (view w) (view w .txns p))
@@ -92,23 +92,16 @@ module _ (w : Words) (z : Sized w) (g : Shaped w) where
       some-same (λ r. takenBy (fields.claimOf (w .tables .rows) r) (txnAt w p .number)) (byAnother (view w .held .claim) (txnAt w p .number)) (rowsWritten (w .tables .lists) (txnAt w p .slot) (txnAt w p .«writes_n»)) (λ r m. claim-same (txnAt w p .number) r (row-in w z g p l r m))
       ∙ some-both _ _ _ (λ r m. row-pending w z g p l r m) (λ r m. pending-row w z g p r m)
 
-  -- the distinct pending rows
-  pub distinct-same : (p : ℕ) → 1 ≤ txnAt w p .number → distinctIn (w .tables .lists) (txnAt w p .slot) (txnAt w p .«writes_n») ≡ length (pendingRows (view w .sizes) (view w .txns p .writes))
-  unfolding distinctIn
-  distinct-same p l =
-      let rs = rowsWritten (w .tables .lists) (txnAt w p .slot) (txnAt w p .«writes_n») in
-      rw (pending-into w z g p l) (omega (arith, ap length (rows-sorted w z g p l), buckets-no-longer rs, writes-few w p, sized-at w z p .writes))
-
-  reserved-one : (i : ℕ) → distinctIn (w .tables .lists) i (getD (othersIn (w .txns) .prepared) i 0) ≡ reservedBy (view w .sizes) (view w .txns i)
+  reserved-one : (i : ℕ) → versionsIn (w .tables .rows) (w .tables .versions) (w .tables .lists) i (getD (othersIn (w .txns) .prepared) i 0) ≡ reservedBy (view w .sizes) (view w .chains) (view w .txns i)
   unfolding reservedBy
   reserved-one i = rw (List·getD-map preparedOf (w .txns) i (idleOf i)) (by (eqb (txnAt w i .number) 0) refl (eqb (rank (phaseView (txnAt w i .phase))) 4))
     where
-      by : (b : Bool) → eqb (txnAt w i .number) 0 ≡ b → (c : Bool) → distinctIn (w .tables .lists) i (cond b 0 (cond c (txnAt w i .«writes_n») 0)) ≡ cond (not b && c) (length (pendingRows (view w .sizes) (view w .txns i .writes))) 0
-      by true e c = none-distinct (w .tables .lists) i
-      by false e false = none-distinct (w .tables .lists) i
-      by false e true = ap (λ (j : ℕ). distinctIn (w .tables .lists) j (txnAt w i .«writes_n»)) (sym (sized-at w z i .slot)) ∙ distinct-same i (let d = eqb-false (txnAt w i .number) 0 e in omega (arith, d))
+      by : (b : Bool) → eqb (txnAt w i .number) 0 ≡ b → (c : Bool) → versionsIn (w .tables .rows) (w .tables .versions) (w .tables .lists) i (cond b 0 (cond c (txnAt w i .«writes_n») 0)) ≡ cond (not b && c) (length (versionRows (view w .sizes) (view w .chains) (view w .txns i .writes))) 0
+      by true e c = none-reserved (w .tables .rows) (w .tables .versions) (w .tables .lists) i
+      by false e false = none-reserved (w .tables .rows) (w .tables .versions) (w .tables .lists) i
+      by false e true = ap (λ (j : ℕ). versionsIn (w .tables .rows) (w .tables .versions) (w .tables .lists) j (txnAt w i .«writes_n»)) (sym (sized-at w z i .slot)) ∙ versions-counted w z g i (let d = eqb-false (txnAt w i .number) 0 e in omega (arith, d))
 
-  reserved-same : reservedIn (w .tables .lists) (othersIn (w .txns) .prepared) ≡ reserved (view w .sizes) (view w .txns) mostLive
+  reserved-same : reservedIn (w .tables .rows) (w .tables .versions) (w .tables .lists) (othersIn (w .txns) .prepared) ≡ reserved (view w .sizes) (view w .chains) (view w .txns) mostLive
   unfolding reservedIn reserved
   reserved-same = omega (arith, reserved-one 0, reserved-one 1, reserved-one 2, reserved-one 3, reserved-one 4, reserved-one 5, reserved-one 6, reserved-one 7)
 
@@ -175,9 +168,9 @@ module _ (w : Words) (z : Sized w) (g : Shaped w) where
   prepare-place n l o =
       let q = standing w n in
       let t = txnAt w q in
-      rw (needed-front q, taken-needs q o, claimed-rows q o, verdict-same w z g q o, clear-same (judged.verdict (view w .chains) (view w .index) (view w .txns q)), reserved-same, distinct-same q o)
+      rw (needed-front q, taken-needs q o, claimed-rows q o, verdict-same w z g q o, clear-same (judged.verdict (view w .chains) (view w .index) (view w .txns q)), reserved-same, versions-counted w z g q o)
       (prepared-at n l o (not (eqb (rank (phaseView (t .phase))) 1)) (some-of (byAnother (view w .held .holder) (t .number)) (neededBuckets (view w) (view w .txns q))) (some-of (byAnother (view w .held .claim) (t .number)) (pendingRows (view w .sizes) (view w .txns q .writes)))
-      (not (eqb (judged.verdictNumber (judged.verdict (view w .chains) (view w .index) (view w .txns q))) 0)) (ltb (w .sizes .versions) (w .used + reserved (view w .sizes) (view w .txns) mostLive + length (pendingRows (view w .sizes) (view w .txns q .writes)))))
+      (not (eqb (judged.verdictNumber (judged.verdict (view w .chains) (view w .index) (view w .txns q))) 0)) (ltb (w .sizes .versions) (w .used + reserved (view w .sizes) (view w .chains) (view w .txns) mostLive + length (versionRows (view w .sizes) (view w .chains) (view w .txns q .writes)))))
 
   -- all that is needed is free, the verdict is clear, there are versions: all is taken
   pub prepare-same : (n : ℕ) → Same w (ask.Prepare n)

@@ -68,7 +68,7 @@ bucketsAfter w p = freeAll (stamped w p) (txnAt w p .number) (heldOf w p)
 
 module _ (w : Words) (z : Sized w) (p : ℕ) where
   -- the words list what they stamp and what they free
-  pub stamped-is : stampedIn (w .tables .rows) (w .tables .versions) (w .tables .lists) (w .sizes .buckets) (txnAt w p .slot) (txnAt w p .«writes_n») (w .clock) (w .tables .buckets) ≡ stamped w p
+  pub stamped-is : stampedIn (w .tables .rows) (w .tables .versions) (w .tables .lists) (w .sizes .buckets) (txnAt w p .number) (txnAt w p .slot) (txnAt w p .«writes_n») (w .clock) (w .tables .buckets) ≡ stamped w p
   unfolding stampedIn
   stamped-is = ap (λ (bs : List ℕ). stampAll (w .tables .buckets) (w .clock) bs) (listed-all 49 (changesOf w p) (omega (arith, changes-few w z p)))
 
@@ -110,13 +110,13 @@ module _ (w : Words) (z : Sized w) (g : Shaped w) (p : ℕ) (l : 1 ≤ txnAt w p
         same-test (member q (rowsOf w p)) (member q ps) (λ e. among-member q ps (row-pending w z g p l q (member-among q (rowsOf w p) e))) (λ e. among-member q (rowsOf w p) (pending-row w z g p q (member-among q ps e))),
       ))
 
-  publish-stamps : 5 ≤ rank (phaseView (txnAt w p .phase)) → field 2 0 (part 2 (w .sizes .buckets) (bucketsAfter w p)) ≡ updateAll (view w .index .stamp) (changedBuckets (view w) (view w .txns p)) (w .clock)
-  publish-stamps k = free-all-other (w .sizes .buckets) (txnAt w p .number) (stamped w p) (heldOf w p)
+  publish-stamps : field 2 0 (part 2 (w .sizes .buckets) (bucketsAfter w p)) ≡ updateAll (view w .index .stamp) (changedBuckets (view w) (view w .txns p)) (w .clock)
+  publish-stamps = free-all-other (w .sizes .buckets) (txnAt w p .number) (stamped w p) (heldOf w p)
       ∙ (stamp-all (w .sizes .buckets) (w .clock) (w .tables .buckets) (changesOf w p) (changes-in w z g p) (z .buckets)
-      ∙ all-same (view w .index .stamp) (changesOf w p) (changedBuckets (view w) (view w .txns p)) (w .clock) (λ b m. changed-to w z g p l k b m) (λ b m. changed-back w z g p l k b m))
+      ∙ all-same (view w .index .stamp) (changesOf w p) (changedBuckets (view w) (view w .txns p)) (w .clock) (λ b m. changed-to w z g p l b m) (λ b m. changed-back w z g p l b m))
 
-  pub publish-index : 5 ≤ rank (phaseView (txnAt w p .phase)) → indexView (rowsPart (sizesView (w .sizes)) (rowsAfter w p)) (bucketsPart (sizesView (w .sizes)) (bucketsAfter w p)) ≡ publishedIndex (view w) (view w .txns p)
-  publish-index k = two _ _ _ _ (publish-stamps k) publish-posted
+  pub publish-index : indexView (rowsPart (sizesView (w .sizes)) (rowsAfter w p)) (bucketsPart (sizesView (w .sizes)) (bucketsAfter w p)) ≡ publishedIndex (view w) (view w .txns p)
+  publish-index = two _ _ _ _ publish-stamps publish-posted
     where
       two : (f f′ : ℕ → ℕ) (h h′ : ℕ → Option ℕ) → f ≡ f′ → h ≡ h′ → _≡_ {A = model.Index} (record { stamp = f; posted = h }) (record { stamp = f′; posted = h′ })
       two f f′ h h′ a b = rw (a, b)
@@ -141,7 +141,7 @@ unfolding liveCount
 clock-below w g p l a = omega (arith, g .numbers-left, some-long (pick (λ i. live (view w .txns i)) 0 mostLive) p (which-pick (λ i. live (view w .txns i)) 0 mostLive p (omega arith) l (live-test (view w .txns p) a)))
 
 -- in phase Ended all is installed
-pub phase-ended : (x : model.Phase) → not (eqb (rank x) 6) ≡ false → 5 ≤ rank x
+phase-ended : (x : model.Phase) → not (eqb (rank x) 6) ≡ false → 5 ≤ rank x
 phase-ended x e = let r : rank x ≡ 6 = eqb-true (rank x) 6 (not-false (eqb (rank x) 6) e) in omega arith
 
 module _ (w : Words) (z : Sized w) (g : Good (view w)) (n : ℕ) (l : standing w n < mostLive) (a : 1 ≤ txnAt w (standing w n) .number) where
@@ -168,7 +168,7 @@ module _ (w : Words) (z : Sized w) (g : Good (view w)) (n : ℕ) (l : standing w
   published-at false e =
       let q = standing w n in
       let k = phase-ended (phaseView (txnAt w q .phase)) e in
-      ended-at w z q l _ _ (tell.Stamp (w .clock)) (machine.Stamp (w .clock)) (oneMore (w .clock)) (suc (w .clock)) _ _ _ (one-up (w .clock) (clock-below w sh q l a)) (publish-chains w z q) (publish-index w z sh q a k) (publish-held k) (rows-long w z q) (buckets-long w z q) refl refl
+      ended-at w z q l _ _ (tell.Stamp (w .clock)) (machine.Stamp (w .clock)) (oneMore (w .clock)) (suc (w .clock)) _ _ _ (one-up (w .clock) (clock-below w sh q l a)) (publish-chains w z q) (publish-index w z sh q a) (publish-held k) (rows-long w z q) (buckets-long w z q) refl refl
 
   published-place : SameAt w (standing w n) (inPublished (publishStep (w .tables .versions) (w .tables .lists) (w .sizes .buckets) (txnAt w (standing w n)) (w .clock) (w .used) (w .tables .rows) (w .tables .buckets)) (w .tables))
       (carried (view w) (asked (ask.Publish n)) (refusal ((not (inPhase (view w) n 6), WrongPhase) ∷ [])))

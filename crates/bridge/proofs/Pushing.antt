@@ -17,9 +17,10 @@ use Rattle.model.specs.Store as model
 use Rattle.model.specs.Store.{rank}
 use Rattle.model.specs.Table.{update, update-elim}
 use Rattle.model.specs.Seeing.{lastWrite}
-use Rattle.model.specs.Steps.{newKey, writtenPayload, pendingRows, push, pushAll}
+use Rattle.model.specs.Steps.{newKey, writtenPayload, push, pushAll, versionRows}
 use Rattle.model.specs.Refusals.{WrongPhase, reservedBy, reserved, checks, refusal, inPhase}
 use Rattle.model.specs.Machine.{accepted, afterRefusal, carried}
+use Rattle.model.proofs.Made.{gets-writes}
 use Rattle.model.proofs.Room.{reserves}
 use Rattle.model.proofs.Ranges.{good-sized}
 use Rattle.protocol.specs.declared.Step.the-variants as ask
@@ -43,7 +44,7 @@ use Rattle.bridge.proofs.Same.{same-store, SameAt, Same, refused-same, 
 use Rattle.bridge.proofs.Tabled.{part, part-update, part-other, InRange}
 use Rattle.bridge.proofs.Writing.{sized-phase}
 use Rattle.bridge.proofs.Needing.{row-in, pending-row}
-use Rattle.bridge.proofs.Distinct.{pending-front}
+use Rattle.bridge.proofs.Distinct.{versions-front}
 use Rattle.bridge.proofs.Installing.{last-key, last-payload, stored-xmin, stored-xmax, stored-next, stored-keys, stored-payload}
 
 -- chains are their parts
@@ -98,10 +99,10 @@ module _ (xs : List ℕ) (s n number : ℕ) where
   all-rows-other m k h d (r ∷ rs) c = all-rows-other m k h d rs (pushedRow xs s n number c r) ∙ one-row-other m k h d c r
 
 -- what one has reserved is among what all have
-reserved-has : (z : model.Sizes) (ts : ℕ → model.Txn) (n i : ℕ) → i < n → reservedBy z (ts i) ≤ reserved z ts n
+reserved-has : (z : model.Sizes) (c : model.Chains) (ts : ℕ → model.Txn) (n i : ℕ) → i < n → reservedBy z c (ts i) ≤ reserved z c ts n
 unfolding reserved
-reserved-has z ts zero i h = absurd (omega arith)
-reserved-has z ts (suc n) i h = elim (ℕ-discrete i n) [ yes e ↦ rw e (omega arith) | no d ↦ omega (arith, reserved-has z ts n i (omega arith)) ]
+reserved-has z c ts zero i h = absurd (omega arith)
+reserved-has z c ts (suc n) i h = elim (ℕ-discrete i n) [ yes e ↦ rw e (omega arith) | no d ↦ omega (arith, reserved-has z c ts n i (omega arith)) ]
 
 module _ (z : model.Sizes) (small : z .versions ≤ mostVersions) (xs : List ℕ) (t : Transaction) (few : t .«writes_n» ≤ mostWrites) where
   -- one row
@@ -154,28 +155,28 @@ chainsIn w = record { rows = w .tables .rows; versions = w .tables .versions; us
 
 -- all that install leaves, by its rows
 abbrev after-rows : Words → ℕ → install.Chains
-after-rows w p = pushedRows (w .tables .lists) (txnAt w p .slot) (txnAt w p .«writes_n») (txnAt w p .number) (chainsIn w) (pendingRows (view w .sizes) (view w .txns p .writes))
+after-rows w p = pushedRows (w .tables .lists) (txnAt w p .slot) (txnAt w p .«writes_n») (txnAt w p .number) (chainsIn w) (versionRows (view w .sizes) (view w .chains) (view w .txns p .writes))
 
 module _ (w : Words) (z : Sized w) (g : Shaped w) (n : ℕ) (l : standing w n < mostLive) (a : 1 ≤ txnAt w (standing w n) .number) where
-  install-chains : rank (phaseView (txnAt w (standing w n) .phase)) ≡ 4 → chainsOf (view w .sizes) (after-rows w (standing w n)) ≡ pushAll (view w .txns (standing w n)) (pendingRows (view w .sizes) (view w .txns (standing w n) .writes)) (view w .chains)
+  install-chains : rank (phaseView (txnAt w (standing w n) .phase)) ≡ 4 → chainsOf (view w .sizes) (after-rows w (standing w n)) ≡ pushAll (view w .txns (standing w n)) (versionRows (view w .sizes) (view w .chains) (view w .txns (standing w n) .writes)) (view w .chains)
   install-chains r =
       let q = standing w n in
-      let ps = pendingRows (view w .sizes) (view w .txns q .writes) in
+      let ps = versionRows (view w .sizes) (view w .chains) (view w .txns q .writes) in
       pushed-view (view w .sizes) (good-sized (view w .sizes) (g .sizes) .versions-most) (w .tables .lists) (txnAt w q) (sized-at w z q .writes) ps (chainsIn w)
-      (λ i m. row-in w z g q a i (pending-row w z g q i m))
-      (omega (arith, g .versions-left, reserved-has (view w .sizes) (view w .txns) mostLive q l, reserves (view w .sizes) (view w .txns q) a r))
+      (λ i m. row-in w z g q a i (pending-row w z g q i (gets-writes (view w .sizes) (view w .chains) (view w .txns q) i m)))
+      (omega (arith, g .versions-left, reserved-has (view w .sizes) (view w .chains) (view w .txns) mostLive q l, reserves (view w .sizes) (view w .chains) (view w .txns q) a r))
       (record { rows = z .rows; versions = z .versions; heads = g .heads-in })
 
   install-index : indexView (rowsPart (sizesView (w .sizes)) (after-rows w (standing w n) .rows)) (bucketsPart (sizesView (w .sizes)) (w .tables .buckets)) ≡ view w .index
   install-index =
       let t = txnAt w (standing w n) in
-      let ps = pendingRows (view w .sizes) (view w .txns (standing w n) .writes) in
+      let ps = versionRows (view w .sizes) (view w .chains) (view w .txns (standing w n) .writes) in
       rw (all-rows-other (w .tables .lists) (t .slot) (t .«writes_n») (t .number) (w .sizes .rows) 2 (omega arith) (omega arith) ps (chainsIn w), all-rows-other (w .tables .lists) (t .slot) (t .«writes_n») (t .number) (w .sizes .rows) 3 (omega arith) (omega arith) ps (chainsIn w))
 
   install-held : heldView (rowsPart (sizesView (w .sizes)) (after-rows w (standing w n) .rows)) (bucketsPart (sizesView (w .sizes)) (w .tables .buckets)) ≡ view w .held
   install-held =
       let t = txnAt w (standing w n) in
-      rw (all-rows-other (w .tables .lists) (t .slot) (t .«writes_n») (t .number) (w .sizes .rows) 1 (omega arith) (omega arith) (pendingRows (view w .sizes) (view w .txns (standing w n) .writes)) (chainsIn w))
+      rw (all-rows-other (w .tables .lists) (t .slot) (t .«writes_n») (t .number) (w .sizes .rows) 1 (omega arith) (omega arith) (versionRows (view w .sizes) (view w .chains) (view w .txns (standing w n) .writes)) (chainsIn w))
 
   installed-at : (b : Bool) → not (eqb (rank (phaseView (txnAt w (standing w n) .phase))) 4) ≡ b
       → SameAt w (standing w n)
@@ -189,7 +190,7 @@ module _ (w : Words) (z : Sized w) (g : Shaped w) (n : ℕ) (l : standing w n < 
   installed-at false e =
       let q = standing w n in
       let t = txnAt w q in
-      let ps = pendingRows (view w .sizes) (view w .txns q .writes) in
+      let ps = versionRows (view w .sizes) (view w .chains) (view w .txns q .writes) in
       let r : rank (phaseView (t .phase)) ≡ 4 = eqb-true (rank (phaseView (t .phase))) 4 (not-false (eqb (rank (phaseView (t .phase))) 4) e) in
       record {
         store = same-store _ _ refl refl (install-chains r) install-index install-held (txns-set w z q l (w .tables .lists) (withPhase t phase.Installed) (λ j d. refl));
@@ -200,9 +201,9 @@ module _ (w : Words) (z : Sized w) (g : Shaped w) (n : ℕ) (l : standing w n < 
 
   installed-place : SameAt w (standing w n) (inInstalled (installOf (w .tables .lists) (txnAt w (standing w n)) (chainsIn w)) (w .clock) (w .tables)) (carried (view w) (asked (ask.Install n)) (refusal ((not (inPhase (view w) n 4), WrongPhase) ∷ [])))
   unfolding installOf toInstall refusal
-  installed-place = rw (pending-front w z g (standing w n) a) (installed-at (not (eqb (rank (phaseView (txnAt w (standing w n) .phase))) 4)) refl)
+  installed-place = rw (versions-front w z g (standing w n) a) (installed-at (not (eqb (rank (phaseView (txnAt w (standing w n) .phase))) 4)) refl)
 
--- each distinct pending row gets its version
+-- each distinct pending row that gets a version has it
 pub install-same : (w : Words) → Sized w → Shaped w → (n : ℕ) → Same w (ask.Install n)
 unfolding checks
 install-same w z g n = by-place w z (ask.Install n) refl (inPhase (view w) n 4) [] refl (λ l d e. installed-place w z g n l (live-at w n d e))

@@ -3,7 +3,6 @@
 use Prim.Native.Nat.{ℕ, zero, suc, _+_, _≤_, _<_}
 use mathlib.Core.Path.{_≡_, ap}
 use mathlib.Core.Bool.{Bool, true, not, _&&_, _||_}
-use mathlib.Core.Logic.{⊎-elim}
 use native.Mathlib.Decide.{decLt}
 use native.Mathlib.Omega.{arith}
 use lib.Dec.{eqb, ltb, leb}
@@ -12,12 +11,11 @@ use borrow.Author.Tests.{ne-eqb, ltb-true, leb-true}
 use Rattle.limits.specs.Limits.{mostLive, lastNumber}
 use Rattle.model.specs.Lists.{least, every, all-of, Among}
 use Rattle.model.specs.Store as model
-use Rattle.model.specs.Store.{rank, bucketIn}
+use Rattle.model.specs.Store.{bucketIn}
 use Rattle.model.specs.Seeing.{live}
-use Rattle.model.specs.Steps.{pendingRows}
 use Rattle.model.specs.Refusals.{liveCount, reserved}
 use Rattle.model.specs.Shape.{within, goodSizes, goodChains, goodCounts, goodRanges, goodHeads, goodTxn, distinctNumbers, rightShape}
-use Rattle.model.proofs.ListLaws.{and-l, and-r, or-cases}
+use Rattle.model.proofs.ListLaws.{and-l, and-r}
 use Rattle.tables.proofs.Parts.{part-past}
 use Rattle.record.specs.Methods.{idleOf}
 use Rattle.record.specs.declared.Transaction.{Transaction}
@@ -30,8 +28,6 @@ pub record InStore (w : Words) (p : ℕ) : Type 0 where
   pub writes-in : (x : model.Write) → Among x (view w .txns p .writes) → x .row < w .sizes .rows
   pub records-in : (r : model.ReadRecord) → Among r (view w .txns p .records) → r .ptr ≤ w .used
   pub bucket-in : bucketIn (view w .txns p .phase) < w .sizes .buckets
-  -- once installed, each pending row has a version
-  pub headed : 5 ≤ rank (view w .txns p .phase) → (r : ℕ) → Among r (pendingRows (view w .sizes) (view w .txns p .writes)) → 1 ≤ view w .chains .head r
 
 -- what every step needs to know of the words
 pub record Shaped (w : Words) : Type 0 where
@@ -39,7 +35,7 @@ pub record Shaped (w : Words) : Type 0 where
   pub heads-in : (r : ℕ) → view w .chains .head r ≤ w .used
   pub next-falls : (p : ℕ) → 1 ≤ p → p ≤ w .used → view w .chains .next p < p
   pub numbers-left : w .clock + liveCount (view w .txns) ≤ lastNumber
-  pub versions-left : w .used + reserved (view w .sizes) (view w .txns) mostLive ≤ w .sizes .versions
+  pub versions-left : w .used + reserved (view w .sizes) (view w .chains) (view w .txns) mostLive ≤ w .sizes .versions
   pub in-store : (p : ℕ) → 1 ≤ txnAt w p .number → InStore w p
 
 -- five tests, one after another
@@ -55,14 +51,11 @@ module _ (w : Words) (p : ℕ) (e : goodTxn (view w) (view w .txns p) ≡ true) 
   abbrev x : model.Txn
   x = view w .txns p
 
-  abbrev headed-row : ℕ → Bool
-  headed-row r = leb 1 (view w .chains .head r) && eqb (view w .chains .xmin (view w .chains .head r)) (x .number)
-
   abbrev record-in : model.ReadRecord → Bool
   record-in r = ltb (r .row) (w .sizes .rows) && within (r .ptr) (w .used)
 
   txn-in : InStore w p
-  unfolding goodTxn goodRanges goodHeads
+  unfolding goodTxn goodRanges
   txn-in =
       let t = all-five (ltb (x .number) (w .clock)) (eqb (x .snapshot .xmin) (least (x .number) (x .snapshot .active))) (goodCounts x) (goodRanges (view w .sizes) (w .used) x) (goodHeads (view w .sizes) (view w .chains) x) e in
       let rows : model.Write → Bool = λ v. ltb (v .row) (w .sizes .rows) in
@@ -74,8 +67,6 @@ module _ (w : Words) (p : ℕ) (e : goodTxn (view w) (view w .txns p) ≡ true) 
         writes-in = λ v m. ltb-true _ _ (all-each rows (x .writes) (g .0) v m);
         records-in = λ r m. leb-true (r .ptr) (w .used) (and-r (leb 1 (r .ptr)) _ (and-r (ltb (r .row) (w .sizes .rows)) _ (all-each record-in (x .records) (g .1) r m)));
         bucket-in = ltb-true _ _ (g .4);
-        headed = λ l r m. let f = or-cases (ltb (rank (x .phase)) 5) (all-of headed-row (pendingRows (view w .sizes) (x .writes))) (t .4) in
-            leb-true 1 _ (and-l _ (eqb (view w .chains .xmin (view w .chains .head r)) (x .number)) (all-each headed-row (pendingRows (view w .sizes) (x .writes)) (⊎-elim (λ q. absurd (omega (arith, ltb-true (rank (x .phase)) 5 q))) (λ q. q) f) r m));
       }
 
 module _ (w : Words) (z : Sized w) (e : rightShape (view w) ≡ true) where
@@ -96,7 +87,7 @@ module _ (w : Words) (z : Sized w) (e : rightShape (view w) ≡ true) where
   clock-test = leb (w .clock + liveCount (view w .txns)) lastNumber
 
   abbrev room-test : Bool
-  room-test = leb (w .used + reserved (view w .sizes) (view w .txns) mostLive) (w .sizes .versions)
+  room-test = leb (w .used + reserved (view w .sizes) (view w .chains) (view w .txns) mostLive) (w .sizes .versions)
 
   front-holds : sizes-test && goodChains (view w .sizes) (view w .chains) && every mostLive tested && distinctNumbers (view w .txns) && clock-test ≡ true
   unfolding rightShape

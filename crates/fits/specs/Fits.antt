@@ -1,6 +1,6 @@
 -- What the shape asks of one transaction's record and its lists, as the code tests it, word by word.
 use Prim.Native.Nat.{ℕ}
-use mathlib.Core.Bool.{Bool, _&&_, _||_}
+use mathlib.Core.Bool.{Bool, not, _&&_, _||_}
 use mathlib.Core.List.{List}
 use lib.Dec.{eqb, ltb, leb}
 use lib.ListN.{take}
@@ -8,7 +8,7 @@ use Rattle.limits.specs.Limits.{mostIndexReads, mostWrites, mostRecords, mostRo
 use Rattle.model.specs.Lists.{every, least}
 use Rattle.model.specs.Store.{rank, bucketIn}
 use Rattle.model.specs.Shape.{within}
-use Rattle.tables.specs.Fields.{headOf, xminOf}
+use Rattle.holders.specs.Keys.{getsVersionOf, headedBy}
 use Rattle.tables.specs.Lists.{readAt, writeAt, recordAt, candidateAt}
 use Rattle.record.specs.View.{phaseView}
 use Rattle.record.specs.declared.Transaction.{Transaction}
@@ -42,16 +42,16 @@ rangesFit lists z used t =
     && readsIn lists (t .slot) (t .«reads_n») (z .buckets)
     && ltb (bucketIn (phaseView (t .phase))) (z .buckets)
 
--- a row headed by a version of this number
-abbrev pub headedBy : List ℕ → List ℕ → ℕ → ℕ → Bool
-headedBy rows versions n r = leb 1 (headOf rows r) && eqb (xminOf versions (headOf rows r)) n
+-- a pending row headed by a version of this number; or its last write is an erase and it has no live head
+abbrev pub rowFits : List ℕ → List ℕ → List ℕ → ℕ → ℕ → ℕ → ℕ → Bool
+rowFits rows versions lists slot n number r = headedBy rows versions number r || not (getsVersionOf rows versions lists slot n r)
 
-abbrev pub rowsHeaded : List ℕ → List ℕ → List ℕ → ℕ → ℕ → ℕ → Bool
-rowsHeaded rows versions lists slot n number = every n (λ i. headedBy rows versions number (writeAt lists slot i .row))
+abbrev pub rowsHeaded : List ℕ → List ℕ → List ℕ → ℕ → ℕ → ℕ → ℕ → Bool
+rowsHeaded rows versions lists slot n number k = every k (λ i. rowFits rows versions lists slot n number (writeAt lists slot i .row))
 
 -- each pending row of an Installed or Ended transaction
 unfoldable pub headsFit : List ℕ → List ℕ → List ℕ → Transaction → Bool
-headsFit rows versions lists t = ltb (rank (phaseView (t .phase))) 5 || rowsHeaded rows versions lists (t .slot) (t .«writes_n») (t .number)
+headsFit rows versions lists t = ltb (rank (phaseView (t .phase))) 5 || rowsHeaded rows versions lists (t .slot) (t .«writes_n») (t .number) (t .«writes_n»)
 
 -- snapshot xmin the least of its active numbers and its own
 abbrev pub leastOf : Transaction → ℕ

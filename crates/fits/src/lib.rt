@@ -1,4 +1,6 @@
 // What the shape asks of one transaction's record and its lists.
+use holders::gets_version;
+use holders::headed_by;
 use limits::MOST_INDEX_READS;
 use limits::MOST_RECORDS;
 use limits::MOST_ROWS;
@@ -10,15 +12,13 @@ use record::Transaction;
 use record::bucket_in;
 use record::phase_rank;
 use scans::least_of;
-use tables::head_at;
 use tables::lists::candidate_at;
 use tables::lists::read_bucket_at;
 use tables::lists::record_ptr_at;
 use tables::lists::record_row_at;
 use tables::lists::write_row_at;
-use tables::xmin_at;
 ghost use mathlib.Core.Path.{_≡_};
-ghost use Rattle.fits.specs.Fits.{countsFit, writesIn, recordIn, recordsIn, candidatesIn, readsIn, rangesFit, headedBy, rowsHeaded, headsFit, txnFits, placeFits};
+ghost use Rattle.fits.specs.Fits.{countsFit, writesIn, recordIn, recordsIn, candidatesIn, readsIn, rangesFit, rowFits, rowsHeaded, headsFit, txnFits, placeFits};
 
 // Whether counts are within limits.
 pub fn counts_fit(t: Transaction) -> bool
@@ -122,15 +122,22 @@ fn ranges_fit(lists: &[u64], sizes: Sizes, used: u64, t: Transaction) -> bool
     bucket_in(phase) < sizes.buckets
 }
 
-// Whether a row is headed by a version of this number.
-fn headed_by(rows_table: &[u64], versions: &[u64], number: u64, row: u64) -> bool
-    ensures { λ r. ⌜ r ≡ headedBy (now («rows_table» .entry)) (now (versions .entry)) number row ⌝ }
+// Whether a pending row is headed by the transaction's version; or its last write is an erase and it has no live head.
+fn row_fits(
+    rows_table: &[u64],
+    versions: &[u64],
+    lists: &[u64],
+    slot: u32,
+    count: u32,
+    number: u64,
+    row: u64,
+) -> bool
+    ensures { λ r. ⌜ r ≡ rowFits (now («rows_table» .entry)) (now (versions .entry)) (now (lists .entry)) slot count number row ⌝ }
 {
-    let head = head_at(rows_table, row as usize);
-    if head < 1 {
-        return false;
+    if headed_by(rows_table, versions, number, row) {
+        return true;
     }
-    xmin_at(versions, head as usize) == number
+    !gets_version(rows_table, versions, lists, slot, count, row)
 }
 
 fn rows_headed(
@@ -141,11 +148,19 @@ fn rows_headed(
     count: u32,
     number: u64,
 ) -> bool
-    ensures { λ r. ⌜ r ≡ rowsHeaded (now («rows_table» .entry)) (now (versions .entry)) (now (lists .entry)) slot count number ⌝ }
+    ensures { λ r. ⌜ r ≡ rowsHeaded (now («rows_table» .entry)) (now (versions .entry)) (now (lists .entry)) slot count number count ⌝ }
 {
     let mut i: u32 = 0;
     while i < count {
-        if !headed_by(rows_table, versions, number, write_row_at(lists, slot, i)) {
+        if !row_fits(
+            rows_table,
+            versions,
+            lists,
+            slot,
+            count,
+            number,
+            write_row_at(lists, slot, i),
+        ) {
             return false;
         }
         i += 1;
@@ -153,7 +168,7 @@ fn rows_headed(
     true
 }
 
-// Whether each pending row of an Installed or Ended transaction is headed by its own version.
+// Whether each pending row of an Installed or Ended transaction is headed as it must be.
 fn heads_fit(rows_table: &[u64], versions: &[u64], lists: &[u64], t: Transaction) -> bool
     ensures { λ r. ⌜ r ≡ headsFit (now («rows_table» .entry)) (now (versions .entry)) (now (lists .entry)) t ⌝ }
 {

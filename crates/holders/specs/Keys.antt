@@ -1,9 +1,9 @@
 -- The old and the new key of a pending row.
 use Prim.Native.Nat.{ℕ}
-use mathlib.Core.Bool.{Bool, cond}
+use mathlib.Core.Bool.{Bool, false, cond, not, _&&_, _||_}
 use mathlib.Core.Option.{Option}
 use mathlib.Core.List.{List}
-use lib.Dec.{eqb}
+use lib.Dec.{eqb, leb}
 use Rattle.record.specs.View.{keyView}
 use Rattle.scans.specs.Scans.{latestPending}
 use Rattle.scans.specs.declared.Found.{Found}
@@ -34,3 +34,11 @@ writtenAt lists slot Nothing = noKey
 -- of the row's last pending write
 unfoldable pub newKeyOf : List ℕ → ℕ → ℕ → ℕ → Key
 newKeyOf lists slot n r = writtenAt lists slot (latestPending lists slot n r)
+
+-- a pending row gets a version where its head is live or its last write is a put
+unfoldable pub getsVersionOf : List ℕ → List ℕ → List ℕ → ℕ → ℕ → ℕ → Bool
+getsVersionOf rows versions lists slot n r = not (eqb (oldKeyOf rows versions false r .keyed) 0) || not (eqb (newKeyOf lists slot n r .keyed) 0)
+
+-- a row headed by a version of this number
+unfoldable pub headedBy : List ℕ → List ℕ → ℕ → ℕ → Bool
+headedBy rows versions n r = leb 1 (fields.headOf rows r) && eqb (fields.xminOf versions (fields.headOf rows r)) n

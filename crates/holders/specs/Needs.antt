@@ -1,6 +1,6 @@
 -- The buckets that a transaction needs, listed in lent words.
 use Prim.Native.Nat.{ℕ, _+_, _%_}
-use mathlib.Core.Bool.{Bool, true, cond}
+use mathlib.Core.Bool.{Bool, true, cond, not}
 use mathlib.Core.List.{List, [], _∷_, _++_, map}
 use lib.Dec.{eqb, ltb}
 use lib.ListN.{length, take, set, replicate}
@@ -10,7 +10,7 @@ use Rattle.tables.specs.Lists.{readsOf, writesOf}
 use Rattle.tables.specs.declared.lists.IndexRead.{IndexRead}
 use Rattle.tables.specs.declared.lists.Write.{Write}
 use Rattle.holders.specs.declared.Key.{Key}
-use Rattle.holders.specs.Keys.{keyOf, oldKeyOf, newKeyOf}
+use Rattle.holders.specs.Keys.{headedBy, keyOf, oldKeyOf, newKeyOf}
 
 -- the first n words of a lent list are listed
 pub record Listed : Type 0 where
@@ -51,9 +51,9 @@ writeNeeds rows versions lists count installed slot n r = bucketsFor count (oldK
 abbrev pub writesNeed : List ℕ → List ℕ → List ℕ → ℕ → Bool → ℕ → ℕ → List ℕ
 writesNeed rows versions lists count installed slot n = join (writeNeeds rows versions lists count installed slot n) (rowsWritten lists slot n)
 
--- the same, only where old and new key differ
-unfoldable pub writeChanges : List ℕ → List ℕ → List ℕ → ℕ → ℕ → ℕ → ℕ → List ℕ
-writeChanges rows versions lists count slot n r = cond (sameKey (keyOf (oldKeyOf rows versions true r)) (keyOf (newKeyOf lists slot n r))) [] (writeNeeds rows versions lists count true slot n r)
+-- the same, only where the transaction made a version and old and new key differ
+unfoldable pub writeChanges : List ℕ → List ℕ → List ℕ → ℕ → ℕ → ℕ → ℕ → ℕ → List ℕ
+writeChanges rows versions lists count number slot n r = cond (not (headedBy rows versions number r)) [] (cond (sameKey (keyOf (oldKeyOf rows versions true r)) (keyOf (newKeyOf lists slot n r))) [] (writeNeeds rows versions lists count true slot n r))
 
-abbrev pub writesChange : List ℕ → List ℕ → List ℕ → ℕ → ℕ → ℕ → List ℕ
-writesChange rows versions lists count slot n = join (writeChanges rows versions lists count slot n) (rowsWritten lists slot n)
+abbrev pub writesChange : List ℕ → List ℕ → List ℕ → ℕ → ℕ → ℕ → ℕ → List ℕ
+writesChange rows versions lists count number slot n = join (writeChanges rows versions lists count number slot n) (rowsWritten lists slot n)

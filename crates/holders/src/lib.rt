@@ -16,11 +16,12 @@ use tables::next_at;
 use tables::set_claim;
 use tables::set_holder;
 use tables::set_stamp;
+use tables::xmin_at;
 ghost use mathlib.Core.Path.{_≡_};
 ghost use mathlib.Core.List.{[], _∷_};
 ghost use lib.ListN.{take};
 ghost use Rattle.model.specs.Store.{sameKey};
-ghost use Rattle.holders.specs.Keys.{keyOf, versionKey, oldKeyOf, newKeyOf};
+ghost use Rattle.holders.specs.Keys.{getsVersionOf, headedBy, keyOf, versionKey, oldKeyOf, newKeyOf};
 ghost use Rattle.holders.specs.Needs.{pushOne, pushAll, bucketsFor, readsNeed, writeNeeds, writesNeed, rowsWritten, writeChanges, writesChange};
 ghost use Rattle.holders.specs.Holders.{anyTaken, anyClaimed, holdAll, freeAll, claimAll, unclaimAll, stampAll};
 
@@ -176,20 +177,54 @@ pub fn push_writes(
     m
 }
 
-// The buckets of the old and the new key of one pending row, where they differ.
+// Whether a row is headed by a version of this number.
+pub fn headed_by(rows: &[u64], versions: &[u64], number: u64, row: u64) -> bool
+    ensures { λ r. ⌜ r ≡ headedBy (now (rows .entry)) (now (versions .entry)) number row ⌝ }
+{
+    let head = head_at(rows, row as usize);
+    if head < 1 {
+        return false;
+    }
+    xmin_at(versions, head as usize) == number
+}
+
+// Whether a pending row gets a version: where its head is live or its last write is a put.
+pub fn gets_version(
+    rows: &[u64],
+    versions: &[u64],
+    lists: &[u64],
+    slot: u32,
+    count: u32,
+    row: u64,
+) -> bool
+    ensures { λ r. ⌜ r ≡ getsVersionOf (now (rows .entry)) (now (versions .entry)) (now (lists .entry)) slot count row ⌝ }
+{
+    let old = old_key(rows, versions, false, row);
+    if old.keyed != 0 {
+        return true;
+    }
+    let new = new_key(lists, slot, count, row);
+    new.keyed != 0
+}
+
+// The buckets of the old and the new key of one pending row, where a version was made and they differ.
 fn push_change(
     rows: &[u64],
     versions: &[u64],
     lists: &[u64],
     bucket_count: u64,
+    number: u64,
     slot: u32,
     count: u32,
     row: u64,
     out: &mut [u64],
     n: usize,
 ) -> usize
-    ensures { λ r. ⌜ record { out = now (out .exit); n = r } ≡ pushAll (record { out = now (out .entry); n = n }) (writeChanges (now (rows .entry)) (now (versions .entry)) (now (lists .entry)) «bucket_count» slot count row) ⌝ }
+    ensures { λ r. ⌜ record { out = now (out .exit); n = r } ≡ pushAll (record { out = now (out .entry); n = n }) (writeChanges (now (rows .entry)) (now (versions .entry)) (now (lists .entry)) «bucket_count» number slot count row) ⌝ }
 {
+    if !headed_by(rows, versions, number, row) {
+        return n;
+    }
     let old = old_key(rows, versions, true, row);
     let new = new_key(lists, slot, count, row);
     if same_key(old, new) {
@@ -205,12 +240,13 @@ pub fn push_changes(
     versions: &[u64],
     lists: &[u64],
     bucket_count: u64,
+    number: u64,
     slot: u32,
     count: u32,
     out: &mut [u64],
     n: usize,
 ) -> usize
-    ensures { λ r. ⌜ record { out = now (out .exit); n = r } ≡ pushAll (record { out = now (out .entry); n = n }) (writesChange (now (rows .entry)) (now (versions .entry)) (now (lists .entry)) «bucket_count» slot count) ⌝ }
+    ensures { λ r. ⌜ record { out = now (out .exit); n = r } ≡ pushAll (record { out = now (out .entry); n = n }) (writesChange (now (rows .entry)) (now (versions .entry)) (now (lists .entry)) «bucket_count» number slot count) ⌝ }
 {
     let mut m = n;
     let mut i: u32 = 0;
@@ -220,6 +256,7 @@ pub fn push_changes(
             versions,
             lists,
             bucket_count,
+            number,
             slot,
             count,
             write_row_at(lists, slot, i),

@@ -12,7 +12,7 @@ use Rattle.buckets.specs.Buckets.{Made, canonicalOf}
 use Rattle.record.specs.View.{phaseView}
 use Rattle.record.specs.declared.Transaction.{Transaction}
 use Rattle.holders.specs.Needs.{Listed, pushAll, rowsWritten}
-use Rattle.install.specs.Install.{Chains, listed, rowsListed, pendingInto, pushedRows, toInstall, installed, installOf}
+use Rattle.install.specs.Install.{Chains, listed, rowsListed, pendingInto, versionsInto, pushedRows, toInstall, installed, installOf}
 
 -- rows listed, then sorted
 pub pending-made : (lists : List ℕ) (slot n : ℕ) (out : List ℕ) (st : Listed) (made : Made) → st ≡ pushAll (record { out = replicate mostWrites 0; n = 0 }) (rowsWritten lists slot n)
@@ -21,7 +21,7 @@ unfolding pendingInto rowsListed
 pending-made lists slot n out st made e m = rw (m, e)
 
 -- the right phase, the rows, and their versions
-pub install-made : (lists : List ℕ) (t : Transaction) (c c′ : Chains) (st : Listed) → eqb (rank (phaseView (t .phase))) 4 ≡ true → st ≡ pendingInto lists (t .slot) (t .«writes_n») (replicate mostWrites 0)
+pub install-made : (lists : List ℕ) (t : Transaction) (c c′ : Chains) (st : Listed) → eqb (rank (phaseView (t .phase))) 4 ≡ true → st ≡ versionsInto (c .rows) (c .versions) lists (t .slot) (t .«writes_n») (replicate mostWrites 0)
     → c′ ≡ pushedRows lists (t .slot) (t .«writes_n») (t .number) c (take (st .n) (st .out)) → installed t c′ ≡ installOf lists t c
 unfolding installOf toInstall
 install-made lists t c c′ st p e m = rw (p, m, e)

@@ -20,7 +20,9 @@ use Rattle.record.specs.View.{phaseView}
 use Rattle.record.specs.Methods.{withPhase}
 use Rattle.record.specs.declared.Phase.the-variants as phase
 use Rattle.record.specs.declared.Transaction.{Transaction}
-use Rattle.holders.specs.Needs.{Listed, pushAll, rowsWritten}
+use Rattle.model.specs.Lists.{join}
+use Rattle.holders.specs.Keys.{getsVersionOf}
+use Rattle.holders.specs.Needs.{Listed, pushAll, rowsWritten, front}
 use Rattle.install.specs.declared.Installed.{Installed}
 
 -- one more, but the very last number stays
@@ -43,6 +45,14 @@ rowsListed lists slot n = pushAll (record { out = replicate mostWrites 0; n = 0 
 -- the distinct rows of the pending writes, ascending, at the front of a list
 unfoldable pub pendingInto : List ℕ → ℕ → ℕ → List ℕ → Listed
 pendingInto lists slot n out = listed (canonicalOf (take (rowsListed lists slot n .n) (rowsListed lists slot n .out)) mostBuckets out)
+
+-- a row, where it gets a version
+unfoldable pub kept : List ℕ → List ℕ → List ℕ → ℕ → ℕ → ℕ → List ℕ
+kept rows versions lists slot n r = cond (getsVersionOf rows versions lists slot n r) (r ∷ []) []
+
+-- the distinct rows of the pending writes that get a version, ascending, at the front of a list
+unfoldable pub versionsInto : List ℕ → List ℕ → List ℕ → ℕ → ℕ → List ℕ → Listed
+versionsInto rows versions lists slot n out = pushAll (record { out = out; n = 0 }) (join (kept rows versions lists slot n) (front (pendingInto lists slot n (replicate mostWrites 0))))
 
 -- a row's last pending write; an erase where it has none
 abbrev pub writeFound : List ℕ → ℕ → ℕ → Found → Write
@@ -80,16 +90,16 @@ pub record Left : Type 0 where
   pub rows : List ℕ
   pub versions : List ℕ
 
--- the distinct pending rows of a transaction, as install lists them
-unfoldable pub toInstall : List ℕ → Transaction → Listed
-toInstall lists t = pendingInto lists (t .slot) (t .«writes_n») (replicate mostWrites 0)
+-- the distinct pending rows of a transaction that get a version, as install lists them
+unfoldable pub toInstall : List ℕ → Transaction → Chains → Listed
+toInstall lists t c = versionsInto (c .rows) (c .versions) lists (t .slot) (t .«writes_n») (replicate mostWrites 0)
 
 abbrev pub installed : Transaction → Chains → Left
 installed t c = record { reply = record { answer = tell.Done; txn = withPhase t phase.Installed; used = c .used }; rows = c .rows; versions = c .versions }
 
--- wrong phase; else each distinct pending row gets its version
+-- wrong phase; else each of those rows gets its version
 unfoldable pub installOf : List ℕ → Transaction → Chains → Left
 installOf lists t c =
     cond (not (eqb (rank (phaseView (t .phase))) 4))
     (record { reply = record { answer = tell.Refused 5; txn = t; used = c .used }; rows = c .rows; versions = c .versions })
-    (installed t (pushedRows lists (t .slot) (t .«writes_n») (t .number) c (take (toInstall lists t .n) (toInstall lists t .out))))
+    (installed t (pushedRows lists (t .slot) (t .«writes_n») (t .number) c (front (toInstall lists t c))))

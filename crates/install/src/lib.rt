@@ -1,6 +1,7 @@
-// Install: for each distinct pending row, ascending, one new version from its last write.
+// Install: for each distinct pending row that gets a version, ascending, one from its last write.
 use buckets::Canonical;
 use buckets::canonical_buckets_sort;
+use holders::gets_version;
 use limits::LAST_NUMBER;
 use limits::MOST_BUCKETS;
 use limits::MOST_WRITES;
@@ -26,8 +27,9 @@ use tables::set_xmin;
 ghost use mathlib.Core.Path.{_≡_};
 ghost use Prim.Native.Nat.{_≤_};
 ghost use lib.ListN.{length, take};
+ghost use Rattle.model.specs.Lists.{join};
 ghost use Rattle.holders.specs.Needs.{pushAll, rowsWritten};
-ghost use Rattle.install.specs.Install.{sortedCount, pendingInto, lastWriteOf, oneMore, versionStored, pushedRow, pushedRows, installOf};
+ghost use Rattle.install.specs.Install.{sortedCount, pendingInto, kept, versionsInto, lastWriteOf, oneMore, versionStored, pushedRow, pushedRows, installOf};
 
 // Words for the rows of all pending writes of a transaction.
 pub const MOST_PENDING: usize = MOST_WRITES as usize;
@@ -80,6 +82,66 @@ pub fn pending_rows(lists: &[u64], slot: u32, count: u32, out: &mut [u64]) -> us
     let mut rows = [0u64; MOST_PENDING];
     let n = push_rows(lists, slot, count, &mut rows);
     sorted_count(canonical_buckets_sort(&rows[..n], MOST_BUCKETS, out))
+}
+
+// One row goes to a list where it gets a version.
+fn keep_row(
+    rows: &[u64],
+    versions: &[u64],
+    lists: &[u64],
+    slot: u32,
+    count: u32,
+    row: u64,
+    out: &mut [u64],
+    n: usize,
+) -> usize
+    ensures { λ r. ⌜ record { out = now (out .exit); n = r } ≡ pushAll (record { out = now (out .entry); n = n }) (kept (now (rows .entry)) (now (versions .entry)) (now (lists .entry)) slot count row) ⌝ }
+{
+    if gets_version(rows, versions, lists, slot, count, row) {
+        return holders::push(out, n, row);
+    }
+    n
+}
+
+// The same for the first n rows of a list.
+fn keep_rows(
+    rows: &[u64],
+    versions: &[u64],
+    lists: &[u64],
+    slot: u32,
+    count: u32,
+    list: &[u64],
+    n: usize,
+    out: &mut [u64],
+) -> usize
+    ensures { λ r. ⌜ record { out = now (out .exit); n = r } ≡ pushAll (record { out = now (out .entry); n = 0 }) (join (kept (now (rows .entry)) (now (versions .entry)) (now (lists .entry)) slot count) (take n (now (list .entry)))) ⌝ }
+{
+    let mut m = 0;
+    let mut i = 0;
+    while i < list.len() {
+        if n <= i {
+            return m;
+        }
+        m = keep_row(rows, versions, lists, slot, count, list[i], out, m);
+        i += 1;
+    }
+    m
+}
+
+// The distinct rows of the pending writes that get a version go ascending to the front of `out`; tells how many they are.
+pub fn version_rows(
+    rows: &[u64],
+    versions: &[u64],
+    lists: &[u64],
+    slot: u32,
+    count: u32,
+    out: &mut [u64],
+) -> usize
+    ensures { λ r. ⌜ record { out = now (out .exit); n = r } ≡ versionsInto (now (rows .entry)) (now (versions .entry)) (now (lists .entry)) slot count (now (out .entry)) ⌝ }
+{
+    let mut list = [0u64; MOST_PENDING];
+    let n = pending_rows(lists, slot, count, &mut list);
+    keep_rows(rows, versions, lists, slot, count, &list, n, out)
 }
 
 // The last pending write of a row; an erase where it has none.
@@ -177,7 +239,7 @@ pub fn install(
         };
     }
     let mut list = [0u64; MOST_PENDING];
-    let n = pending_rows(lists, t.slot, t.writes_n, &mut list);
+    let n = version_rows(rows, versions, lists, t.slot, t.writes_n, &mut list);
     let last = push_all_rows(
         rows,
         versions,

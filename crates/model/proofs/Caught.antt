@@ -6,9 +6,9 @@ use mathlib.Core.List.{List, [], _∷_, _++_}
 use Prim.Native.Nat.{ℕ}
 use Rattle.model.specs.Store.{Store, Txn, Open, noTxn, fresh}
 use Rattle.model.specs.Verdict.{Row}
-use Rattle.model.specs.Refusals.{Step, begin, capture, collect, rows, put, prepare, install, end, publish, validate, Taken, Stale, NoVersions, txnOf}
+use Rattle.model.specs.Refusals.{Step, begin, capture, collect, rows, put, erase, prepare, install, end, publish, validate, Taken, Stale, NoVersions, txnOf}
 use Rattle.model.specs.Table.{update}
-use Rattle.model.specs.Machine.{Stamp, Rows, Judged, Refused, step, run}
+use Rattle.model.specs.Machine.{Done, Stamp, Rows, Judged, Refused, step, run}
 use Rattle.model.proofs.Computes.{computes}
 
 -- a store of 4 rows and 4 buckets, after some steps
@@ -21,6 +21,17 @@ writing = begin ∷ put 1 2 6 10 ∷ prepare 1 ∷ []
 
 abbrev pub wrote : List Step
 wrote = writing ++ (install 1 ∷ end 1 ∷ publish 1 ∷ [])
+
+-- transaction 1 writes key 6 into row 2, which is empty, and erases it again
+abbrev pub erasing : List Step
+erasing = begin ∷ put 1 2 6 10 ∷ erase 1 2 ∷ prepare 1 ∷ []
+
+-- transaction 3 erases row 2, which is live; and 5 erases it once more
+abbrev pub erased : List Step
+erased = wrote ++ (begin ∷ erase 3 2 ∷ prepare 3 ∷ install 3 ∷ end 3 ∷ publish 3 ∷ [])
+
+abbrev pub erasedTwice : List Step
+erasedTwice = erased ++ (begin ∷ erase 5 2 ∷ prepare 5 ∷ install 5 ∷ end 5 ∷ publish 5 ∷ [])
 
 -- transaction 5 is open, and every bucket has this stamp
 abbrev pub stamped : ℕ → Store
@@ -57,6 +68,16 @@ pub record Caught : Type 0 where
   pub active-xmax : step (after (wrote ++ (begin ∷ begin ∷ capture 4 6 ∷ collect 4 ∷ rows 4 4 ∷ put 3 2 6 11 ∷ prepare 3 ∷ install 3 ∷ end 3 ∷ publish 3 ∷ []))) (validate 4) .answer ≡ Judged (Row 2 1)
   -- forgetting what others have reserved
   pub reserved-version : step (run (fresh (record { rows = 4; versions = 1; buckets = 4 }) 1) (begin ∷ put 1 0 1 7 ∷ prepare 1 ∷ begin ∷ put 2 1 2 8 ∷ [])) (prepare 2) .answer ≡ Refused NoVersions
+  -- a version for an erase of nothing, a bucket for a put before it, or no claim
+  pub nothing-installed : after (erasing ++ (install 1 ∷ [])) .chains .used ≡ 0
+  pub nothing-held : after erasing .held .holder 2 ≡ 0
+  pub nothing-claimed : after erasing .held .claim 2 ≡ 1
+  -- counting an erase of nothing, the own or another's
+  pub nothing-counted : step (run (fresh (record { rows = 4; versions = 1; buckets = 4 }) 1) (begin ∷ erase 1 0 ∷ put 1 1 2 8 ∷ [])) (prepare 1) .answer ≡ Done
+  pub nothing-reserved : step (run (fresh (record { rows = 4; versions = 1; buckets = 4 }) 1) (begin ∷ erase 1 0 ∷ prepare 1 ∷ begin ∷ put 2 1 2 8 ∷ [])) (prepare 2) .answer ≡ Done
+  -- taking an erased head for a live one, by the version under it; an erase of a live row gets its version, and stamps
+  pub erased-once : (after erased .chains .used ≡ 2) × (after erased .index .stamp 2 ≡ 4)
+  pub erased-twice : (after erasedTwice .chains .used ≡ 2) × (after erasedTwice .index .stamp 2 ≡ 4)
 
 pub caught : Caught
 unfolding computes
@@ -76,4 +97,11 @@ caught = record {
   held-verdict = refl;
   active-xmax = refl;
   reserved-version = refl;
+  nothing-installed = refl;
+  nothing-held = refl;
+  nothing-claimed = refl;
+  nothing-counted = refl;
+  nothing-reserved = refl;
+  erased-once = (refl, refl);
+  erased-twice = (refl, refl);
 }

@@ -9,7 +9,7 @@ use native.Mathlib.Decide.{ℕ-discrete}
 use Rattle.model.specs.Table.{update-elim, update-same, update-other}
 use Rattle.model.specs.Store.{Chains, Store, Sizes, Txn, fresh}
 use Rattle.model.specs.Seeing.{lastWrite}
-use Rattle.model.specs.Steps.{push, pushAll, pendingRows, newKey, writtenPayload}
+use Rattle.model.specs.Steps.{push, pushAll, versionRows, newKey, writtenPayload}
 use Rattle.model.proofs.Move.{Move, stay, did-begin, did-mark, did-capture, did-collect, did-rows, did-write, did-prepare, did-install, did-end, did-publish, did-abort}
 
 pub record Chained (c : Chains) : Type 0 where
@@ -99,7 +99,7 @@ chained-move s s′ g (did-collect i a b) = g
 chained-move s s′ g (did-rows i a b c) = g
 chained-move s s′ g (did-write i w a b c d) = g
 chained-move s s′ g (did-prepare i a b c) = g
-chained-move s s′ g (did-install i a b) = pushAll-all Chained (s .txns i) (λ r k payload c h. chained-push (s .txns i .number) r k payload c h a) (pendingRows (s .sizes) (s .txns i .writes)) (s .chains) g
+chained-move s s′ g (did-install i a b) = pushAll-all Chained (s .txns i) (λ r k payload c h. chained-push (s .txns i .number) r k payload c h a) (versionRows (s .sizes) (s .chains) (s .txns i .writes)) (s .chains) g
 chained-move s s′ g (did-end i a b) = g
 chained-move s s′ g (did-publish i a b) = g
 chained-move s s′ g (did-abort i a b) = g

@@ -8,9 +8,9 @@ use Prim.Native.Nat.{ℕ, _≤_, _<_}
 use native.Mathlib.Omega.{arith}
 use Rattle.model.specs.Store.{Chains, Snapshot, Holding, Store, rank, sameKey, bucketOf}
 use Rattle.model.specs.Seeing.{seen, versionOf, keyAt, Live}
-use Rattle.model.specs.Steps.{postedRows, pendingRows, keyBefore, newKey, keyBuckets, changedBuckets}
+use Rattle.model.specs.Steps.{postedRows, keyBefore, newKey, keyBuckets, changedBuckets, madeRows}
 use Rattle.model.specs.Lists.{Among}
-use Rattle.model.specs.Holding.{Writes, Wants, needs}
+use Rattle.model.specs.Holding.{Writes, Wants, needs, Made}
 use Rattle.model.proofs.ListLaws.{among-cases, join-which, which-pick}
 use Rattle.model.proofs.Chained.{Chained}
 use Rattle.model.proofs.Numbers.{Numbers}
@@ -19,6 +19,7 @@ use Rattle.model.proofs.Holders.{HoldersAt, needs-old, needs-new}
 use Rattle.model.proofs.Written.{WrittenAt}
 use Rattle.model.proofs.Told.{Turn, Carries, ToldAt}
 use Rattle.model.proofs.Walk.{Finds, nothing, here, down, version-finds}
+use Rattle.model.proofs.Made.{made-writes}
 
 -- no version that carries k, or stands on one that does, has another key than the version under it and is unseen
 abbrev pub NoTurn : Chains → Snapshot → ℕ → Type 0
@@ -53,8 +54,8 @@ module _ (s : Store) (n : Numbers (s .clock) (s .txns)) (h : HoldersAt s) (w : W
       inr (
         omega (arith, o .0),
         ⊎-elim
-            (λ e. needs-new (s .sizes) (s .index .posted) (s .txns m) r k (o .1 .1) (sym (mine .key-is) ∙ (ap (keyAt (s .chains)) (o .1 .2) ∙ e)))
-            (λ e. needs-old (s .sizes) (s .index .posted) (s .txns m) r k (o .1 .1) (sym (mine .before) ∙ (ap (λ a. keyAt (s .chains) (s .chains .next a)) (o .1 .2) ∙ e)))
+            (λ e. needs-new (s .sizes) (s .index .posted) (s .txns m) r k (made-writes (s .sizes) (s .chains) (s .txns m) r (o .1 .1)) (sym (mine .key-is) ∙ (ap (keyAt (s .chains)) (o .1 .2) ∙ e)))
+            (λ e. needs-old (s .sizes) (s .index .posted) (s .txns m) r k (made-writes (s .sizes) (s .chains) (s .txns m) r (o .1 .1)) (sym (mine .before) ∙ (ap (λ a. keyAt (s .chains) (s .chains .next a)) (o .1 .2) ∙ e)))
             carries,
       )
 
@@ -80,10 +81,10 @@ module _ (s : Store) (n : Numbers (s .clock) (s .txns)) (h : HoldersAt s) (w : W
       head-key : keyAt (s .chains) (s .chains .head r) ≡ some k
       head-key = key-up (s .chains) (s .txns i .snapshot) k (untold told i k l (omega (arith, ap rank ph)) below (inr mine)) (s .chains .head r) _ (version-finds (s .chains) (s .txns i .snapshot) ch r) e
 
-      posted : (s .index .posted r ≡ keyAt (s .chains) (s .chains .head r)) ⊎ ((j : ℕ) × Live (s .txns j) × (5 ≤ rank (s .txns j .phase)) × Writes (s .sizes) (s .txns j) r) → s .index .posted r ≡ some k
+      posted : (s .index .posted r ≡ keyAt (s .chains) (s .chains .head r)) ⊎ ((j : ℕ) × Live (s .txns j) × (5 ≤ rank (s .txns j .phase)) × Made (s .sizes) (s .chains) (s .txns j) r) → s .index .posted r ≡ some k
       posted (inl f) = f ∙ head-key
       posted (inr o) =
-          let v = needs-new (s .sizes) (s .index .posted) (s .txns (o .0)) r k (o .3) (sym (w .mine (o .0) r (o .1) (o .2) (o .3) .key-is) ∙ head-key) in
+          let v = needs-new (s .sizes) (s .index .posted) (s .txns (o .0)) r k (made-writes (s .sizes) (s .chains) (s .txns (o .0)) r (o .3)) (sym (w .mine (o .0) r (o .1) (o .2) (o .3) .key-is) ∙ head-key) in
           let f : o .0 ≡ i = n .distinct (o .0) i (o .1) (sym (h .buckets .owns (o .0) (bucketOf (s .sizes) k) (inr (omega (arith, o .2), v))) ∙ mine) in
           absurd (omega (arith, ap rank ph, rw f at (o .2)))
 
@@ -97,12 +98,12 @@ module _ (s : Store) (n : Numbers (s .clock) (s .txns)) (h : HoldersAt s) (w : W
   pub changed-wants : (i b : ℕ) → Live (s .txns i) → 5 ≤ rank (s .txns i .phase) → Among b (changedBuckets s (s .txns i)) → Wants (s .sizes) (s .index .posted) (s .txns i) b
   unfolding changedBuckets
   changed-wants i b l a m =
-      let o = join-which (λ q. cond (sameKey (keyBefore (s .chains) q) (newKey (s .txns i) q)) [] (keyBuckets (s .sizes) (keyBefore (s .chains) q) ++ keyBuckets (s .sizes) (newKey (s .txns i) q))) (pendingRows (s .sizes) (s .txns i .writes)) b m in
+      let o = join-which (λ q. cond (sameKey (keyBefore (s .chains) q) (newKey (s .txns i) q)) [] (keyBuckets (s .sizes) (keyBefore (s .chains) q) ++ keyBuckets (s .sizes) (newKey (s .txns i) q))) (madeRows (s .sizes) (s .chains) (s .txns i .number) (s .txns i .writes)) b m in
       inr (omega arith, row (o .0) (o .1) (sameKey (keyBefore (s .chains) (o .0)) (newKey (s .txns i) (o .0))) (o .2))
     where
-      row : (r : ℕ) → Writes (s .sizes) (s .txns i) r → (t : Bool) → Among b (cond t [] (keyBuckets (s .sizes) (keyBefore (s .chains) r) ++ keyBuckets (s .sizes) (newKey (s .txns i) r))) → Among b (needs (s .sizes) (s .index .posted) (s .txns i))
+      row : (r : ℕ) → Made (s .sizes) (s .chains) (s .txns i) r → (t : Bool) → Among b (cond t [] (keyBuckets (s .sizes) (keyBefore (s .chains) r) ++ keyBuckets (s .sizes) (newKey (s .txns i) r))) → Among b (needs (s .sizes) (s .index .posted) (s .txns i))
       row r v true c = absurd c
       row r v false c = ⊎-elim
-          (λ d. let k = key-which (keyBefore (s .chains) r) b d in rw (k .2) (needs-old (s .sizes) (s .index .posted) (s .txns i) r (k .0) v (sym (w .mine i r l a v .before) ∙ k .1)))
-          (λ d. let k = key-which (newKey (s .txns i) r) b d in rw (k .2) (needs-new (s .sizes) (s .index .posted) (s .txns i) r (k .0) v (k .1)))
+          (λ d. let k = key-which (keyBefore (s .chains) r) b d in rw (k .2) (needs-old (s .sizes) (s .index .posted) (s .txns i) r (k .0) (made-writes (s .sizes) (s .chains) (s .txns i) r v) (sym (w .mine i r l a v .before) ∙ k .1)))
+          (λ d. let k = key-which (newKey (s .txns i) r) b d in rw (k .2) (needs-new (s .sizes) (s .index .posted) (s .txns i) r (k .0) (made-writes (s .sizes) (s .chains) (s .txns i) r v) (k .1)))
           (among-cases b (keyBuckets (s .sizes) (keyBefore (s .chains) r)) (keyBuckets (s .sizes) (newKey (s .txns i) r)) c)

@@ -1,6 +1,6 @@
 -- In every reached store the postings are upstream's replay of the run's events, these are coherent, and the stamps are those of the events that change a key. Assumes nothing.
 use mathlib.Core.Path.{_≡_, refl, sym, ap, _∙_}
-use mathlib.Core.Bool.{Bool, true, false, cond, not, _&&_, _||_}
+use mathlib.Core.Bool.{Bool, true, false, cond, not, _&&_, _||_, true≢false}
 use mathlib.Core.Logic.{_≢_, inl, inr, ⊎-elim}
 use mathlib.Core.Option.{Option, none, some}
 use mathlib.Core.List.{List, [], _∷_, _++_}
@@ -13,7 +13,7 @@ use Rattle.limits.specs.Limits.{lastNumber}
 use Rattle.model.specs.Lists.{member, join, Among, Rising}
 use Rattle.model.specs.Table.{update, updateAll, update-same, update-other}
 use Rattle.model.specs.Store.{Sizes, Txn, Store, fresh, rank, sameKey}
-use Rattle.model.specs.Steps.{postedRows, pendingRows, keyBefore, newKey, keyBuckets, repost, changedBuckets, published}
+use Rattle.model.specs.Steps.{postedRows, pendingRows, keyBefore, newKey, keyBuckets, repost, changedBuckets, published, madeRows}
 use Rattle.model.specs.Refusals.{Step, begin, capture, collect, rows, put, erase, prepare, install, end, publish, validate, abort, txnOf}
 use Rattle.model.specs.Machine.{at, accepted, step, run, canOpen}
 use Rattle.model.specs.Upstream.{Event, Postings, postingsOf, remove, insert, postingStep, postingReplay, liveRows, Coherent, stampAt, rawCandidates}
@@ -25,6 +25,8 @@ use Rattle.model.proofs.Good.{Good, sizes-run, good-run, opened-good}
 use Rattle.model.proofs.Conditions.{lives-number}
 use Rattle.model.proofs.Refused.{publish-0}
 use Rattle.model.proofs.Outcomes.{refused-store, done-does}
+use Rattle.model.proofs.Made.{made-writes}
+use Rattle.model.proofs.Written.{posted-new}
 
 -- a pair is removed, or inserted, where the key is the one named and the row is
 same-number : (j k : ℕ) → eqb k j ≡ eqb j k
@@ -152,19 +154,31 @@ unfolding run
 sizes-kept s a = sizes-run s (a ∷ [])
 
 -- a publish that is accepted
-recorded-publish : (s : Store) (i : ℕ) (es : List Event) → Good s → Live (s .txns i) → rank (s .txns i .phase) ≡ 6 → Recorded s es → Recorded (published s i) (addEvents s (s .txns i) (pendingRows (s .sizes) (s .txns i .writes)) es)
-unfolding repost updateAll changedBuckets pendingRows buckets-changed
-recorded-publish s i es g l a h = let rs = pendingRows (s .sizes) (s .txns i .writes) in record {
-  posts = λ r. ap (λ o. cond (member r rs) (newKey (s .txns i) r) o) (h .posts r) ∙ sym (live-added s (s .txns i) rs es r);
-  coherent = coherent-added s (s .txns i) 0 rs es (pick-rising _ 0 (s .sizes .rows)) (h .coherent) (λ r m. g .written .mine i r l (omega arith) m .before ∙ h .posts r);
-  stamps = λ b. ap (λ n. cond (member b (changedBuckets s (s .txns i))) (s .clock) n) (h .stamps b) ∙ sym (stamp-added s (s .txns i) rs es b);
-}
+module _ (s : Store) (i : ℕ) (es : List Event) (g : Good s) (l : Live (s .txns i)) (a : rank (s .txns i .phase) ≡ 6) (h : Recorded s es) where
+  abbrev rs : List ℕ
+  rs = madeRows (s .sizes) (s .chains) (s .txns i .number) (s .txns i .writes)
+
+  -- a pending row that got no version is posted as it was
+  posts-same : (r : ℕ) (b d : Bool) → member r (pendingRows (s .sizes) (s .txns i .writes)) ≡ b → member r rs ≡ d
+      → cond b (newKey (s .txns i) r) (s .index .posted r) ≡ cond d (newKey (s .txns i) r) (liveRows (λ q. none) es r)
+  posts-same r true true e f = refl
+  posts-same r true false e f = sym (posted-new s (g .numbers) (g .holders) (g .written) i r l (omega arith) (member-among r _ e) (λ m. true≢false (sym (among-member r rs m) ∙ f))) ∙ h .posts r
+  posts-same r false true e f = absurd (true≢false (sym (among-member r _ (made-writes (s .sizes) (s .chains) (s .txns i) r (member-among r rs f))) ∙ e))
+  posts-same r false false e f = h .posts r
+
+  recorded-publish : Recorded (published s i) (addEvents s (s .txns i) rs es)
+  unfolding repost updateAll changedBuckets madeRows buckets-changed
+  recorded-publish = record {
+    posts = λ r. posts-same r _ _ refl refl ∙ sym (live-added s (s .txns i) rs es r);
+    coherent = coherent-added s (s .txns i) 0 rs es (pick-rising _ 0 (s .sizes .rows)) (h .coherent) (λ r m. g .written .mine i r l (omega arith) m .before ∙ h .posts r);
+    stamps = λ b. ap (λ n. cond (member b (changedBuckets s (s .txns i))) (s .clock) n) (h .stamps b) ∙ sym (stamp-added s (s .txns i) rs es b);
+  }
 
 published-or-not : (s : Store) (t : ℕ) (es : List Event) → Good s → Recorded s es → Recorded (step s (publish t) .store) (stepEvents s (publish t) es)
 unfolding stepEvents accepted
 published-or-not s t es g h = go (eqb (number s (publish t)) 0) refl
   where
-    go : (b : Bool) → eqb (number s (publish t)) 0 ≡ b → Recorded (step s (publish t) .store) (cond b (addEvents s (txnOf s t) (pendingRows (s .sizes) (txnOf s t .writes)) es) es)
+    go : (b : Bool) → eqb (number s (publish t)) 0 ≡ b → Recorded (step s (publish t) .store) (cond b (addEvents s (txnOf s t) (madeRows (s .sizes) (s .chains) (txnOf s t .number) (txnOf s t .writes)) es) es)
     go true e =
         let z = eqb-true _ _ e in
         let r = publish-0 s t .0 z in

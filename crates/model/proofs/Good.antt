@@ -1,6 +1,7 @@
 -- All that holds of every store that steps reach from a fresh one; so its shape is right, and no step there is refused for it. Assumes nothing.
 use mathlib.Core.Path.{_≡_, refl, _∙_}
 use mathlib.Core.Bool.{Bool, true, false, not, _&&_, _||_}
+use mathlib.Core.Logic.{⊎-elim}
 use mathlib.Core.List.{List}
 use Prim.Native.Nat.{ℕ, suc, _≤_}
 use native.Mathlib.Omega.{arith}
@@ -10,12 +11,12 @@ use Rattle.limits.specs.Limits.{mostLive, lastNumber}
 use Rattle.model.specs.Lists.{all-of}
 use Rattle.model.specs.Store.{Sizes, IndexRead, Write, ReadRecord, Txn, Store, fresh, rank}
 use Rattle.model.specs.Seeing.{live, Live}
-use Rattle.model.specs.Steps.{pendingRows}
+use Rattle.model.specs.Steps.{pendingRows, getsVersion, headedBy}
 use Rattle.model.specs.Refusals.{Step}
 use Rattle.model.specs.Shape.{within, goodSizes, goodChains, goodCounts, goodRanges, goodHeads, goodTxn, distinctNumbers, rightShape}
 use Rattle.model.specs.Machine.{step, stepIn, run, canOpen}
-use Rattle.model.specs.Holding.{Writes, Claims}
-use Rattle.model.proofs.ListLaws.{and-l, and-r, and-both, none-each, each-all, every-each}
+use Rattle.model.specs.Holding.{Writes, Claims, Made}
+use Rattle.model.proofs.ListLaws.{and-l, and-r, and-both, none-each, each-all, every-each, or-left, or-right}
 use Rattle.model.proofs.Move.{test-live, CanPrepare, Move, stay, did-begin, did-mark, did-capture, did-collect, did-rows, did-write, did-prepare, did-install, did-end, did-publish, did-abort, run-inv}
 use Rattle.model.proofs.Chained.{Chained, chained-move, chained-fresh}
 use Rattle.model.proofs.Numbers.{Numbers, numbers-move, numbers-fresh, BelowAt, below-move, below-fresh}
@@ -26,6 +27,7 @@ use Rattle.model.proofs.Holders.{claims-busy, HoldersAt, holders-move, 
 use Rattle.model.proofs.Written.{WrittenAt, posted-free, written-move, written-fresh}
 use Rattle.model.proofs.Told.{ToldAt, told-move, told-fresh}
 use Rattle.model.proofs.Reading.{ReadingAt, reading-move, reading-fresh}
+use Rattle.model.proofs.Made.{made-head, no-gets}
 
 pub record Good (s : Store) : Type 0 where
   pub sizes : goodSizes (s .sizes) ≡ true
@@ -65,7 +67,7 @@ good-move s s′ g m =
       chained = ch;
       numbers = numbers-move s s′ (g .numbers) m;
       below = below-move s s′ (g .numbers) (g .below) m;
-      room = room-move s s′ (g .numbers) (g .room) m;
+      room = room-move s s′ (g .chained) (g .numbers) (g .holders) (g .room) m;
       ranges = ranges-move s s′ (good-sized (s .sizes) (g .sizes)) (g .ranges) m;
       holders = holders-move s s′ (g .numbers) (g .holders) (λ i r l a c w. posted-free s (g .numbers) (g .holders) (g .written) r (unclaimed s g i r l a c w)) m;
       written = written-move s s′ (g .chained) (g .numbers) (g .below) (g .holders) (g .written) m;
@@ -119,13 +121,16 @@ module _ (s : Store) (g : Good s) (i : ℕ) (l : Live (s .txns i)) where
       (lt-ltb _ _ (g .ranges i .1))
 
   heads-shape : goodHeads (s .sizes) (s .chains) (s .txns i) ≡ true
-  unfolding goodHeads
+  unfolding goodHeads headedBy
   heads-shape = go (ltb (rank (s .txns i .phase)) 5) refl
     where
-      go : (b : Bool) → ltb (rank (s .txns i .phase)) 5 ≡ b → b || all-of (λ r. leb 1 (s .chains .head r) && eqb (s .chains .xmin (s .chains .head r)) (s .txns i .number)) (pendingRows (s .sizes) (s .txns i .writes)) ≡ true
+      headed : (r : ℕ) → Made (s .sizes) (s .chains) (s .txns i) r → headedBy (s .chains) (s .txns i .number) r ≡ true
+      headed r m = let p = made-head (s .sizes) (s .chains) (s .txns i) r m in and-both _ _ (le-leb _ _ (p .0)) (eq-eqb _ _ (p .1))
+
+      go : (b : Bool) → ltb (rank (s .txns i .phase)) 5 ≡ b → b || all-of (λ r. headedBy (s .chains) (s .txns i .number) r || not (getsVersion (s .chains) (s .txns i .writes) r)) (pendingRows (s .sizes) (s .txns i .writes)) ≡ true
       go true e = refl
-      go false e = each-all (λ r. leb 1 (s .chains .head r) && eqb (s .chains .xmin (s .chains .head r)) (s .txns i .number)) (pendingRows (s .sizes) (s .txns i .writes))
-          (λ r w. let m = g .written .mine i r l (ltb-false _ _ e) w in and-both _ _ (le-leb _ _ (m .head-pos)) (eq-eqb _ _ (m .xmin-is)))
+      go false e = each-all (λ r. headedBy (s .chains) (s .txns i .number) r || not (getsVersion (s .chains) (s .txns i .writes) r)) (pendingRows (s .sizes) (s .txns i .writes))
+          (λ r w. ⊎-elim (λ m. or-left (headedBy (s .chains) (s .txns i .number) r) (not (getsVersion (s .chains) (s .txns i .writes) r)) (headed r m)) (λ q. or-right (headedBy (s .chains) (s .txns i .number) r) (not (getsVersion (s .chains) (s .txns i .writes) r)) (rw (no-gets (s .sizes) (s .chains) (s .txns i) r q))) (g .written .made-or-nothing i r l (ltb-false _ _ e) w))
 
   txn-shape : goodTxn s (s .txns i) ≡ true
   unfolding goodTxn

@@ -15,7 +15,7 @@ use Rattle.model.proofs.ListLaws.{below-least}
 use Rattle.model.proofs.SeeingLaws.{pending-which, which-pendingRows}
 use Rattle.model.proofs.Good.{opened-good, right-shape, step-in}
 use Rattle.model.proofs.Lasting.{lasts-run}
-use Rattle.model.proofs.Written.{posted-old}
+use Rattle.model.proofs.Written.{posted-old, posted-either}
 use Rattle.model.proofs.Unrefused.{never-misshapen}
 use Rattle.model.proofs.UpstreamLaws.{low-seen, creator-seen, visible-same, first-same, matches-same}
 use Rattle.model.proofs.Events.{replay-live, recorded-opened, candidates-raw}
@@ -34,6 +34,7 @@ module _ (z : Sizes) (clock : ℕ) (before : List Step) (e : canOpen z clock ≡
     claims = g .holders .claims .owns;
     every-pending = λ i r p. let w = pending-which (s .txns i .writes) r p in which-pendingRows (s .sizes) (s .txns i .writes) r (rw (w .2) at (g .ranges i .0 .writes-in (w .0) (w .1))) p;
     old-prepared = posted-old s (g .numbers) (g .holders) (g .written);
+    made-or-nothing = λ i r a b w. posted-either s (g .numbers) (g .holders) (g .written) i r a b w;
     old-installed = λ i r a b w. sym (g .written .mine i r a b w .before);
   }
 

@@ -12,13 +12,14 @@ use Rattle.model.specs.Lists.{least, every, Among, Rising}
 use Rattle.model.specs.Table.{update, updateAll, update-same, update-other, cond-elim}
 use Rattle.model.specs.Store.{Sizes, Phase, Open, Holding, Collected, Prepared, Installed, Ended, Txn, Store, rank, sameKey, bucketOf, Write, bucketIn}
 use Rattle.model.specs.Seeing.{activeNumbers, pending, writtenKey}
-use Rattle.model.specs.Steps.{hasRead, addRead, capturedTxn, newTxn, pendingRows, keyBuckets, keyBefore, newKey, neededBuckets, repost, changedBuckets, release, preparedHeld, freed, publishedIndex, withPhase, writtenTxn}
+use Rattle.model.specs.Steps.{hasRead, addRead, capturedTxn, newTxn, pendingRows, versionRows, madeRows, keyBuckets, keyBefore, newKey, neededBuckets, repost, changedBuckets, release, preparedHeld, freed, publishedIndex, withPhase, writtenTxn}
 use Rattle.model.specs.Refusals.{Step, begin, capture, collect, rows, put, erase, prepare, install, end, publish, validate, abort, txnOf}
 use Rattle.model.specs.Shape.{goodChains, rightShape}
 use Rattle.model.specs.Machine.{at, actor, accepted, step}
 use Rattle.model.specs.Given.{number, Shaped, Lives, bucketFor, stampFor}
 use Rattle.model.specs.Effects.{Stamps, posts, Takes, Frees, Claimed, Unclaimed}
 use Rattle.model.specs.Leaves.{TakenAt, Captures, askerAfter, IndexAfter, HeldAfter, Leaves}
+use Rattle.model.specs.Holding.{Gets}
 use Rattle.model.proofs.ListLaws.{and-l, and-r, is-false, among-left, among-right, among-cases, among-member, not-member, least-own, least-each, join-which, which-join, pick-which, pick-rising}
 use Rattle.model.proofs.Numbers.{active-which, which-active}
 use Rattle.model.proofs.SeeingLaws.{same-key, key-same, key-bucket, read-bucket, bucket-read}
@@ -26,6 +27,7 @@ use Rattle.model.proofs.Making.{last-write, makes-all, makes-none}
 use Rattle.model.proofs.Conditions.{lives-number, each-below}
 use Rattle.model.proofs.Refused.{capture-0, put-0, erase-0, prepare-0, install-0, publish-0, validate-0, abort-0}
 use Rattle.model.proofs.Outcomes.{done-does}
+use Rattle.model.proofs.Made.{gets-writes}
 
 -- THE SNAPSHOT THAT BEGIN TAKES
 
@@ -54,7 +56,7 @@ module _ (s : Store) (t : ℕ) where
   abbrev both-keys : ℕ → List ℕ
   both-keys r = keyBuckets (s .sizes) (keyBefore (s .chains) r) ++ keyBuckets (s .sizes) (newKey (txnOf s t) r)
 
-  changes-in : (r b : ℕ) (same : Bool) → sameKey (keyBefore (s .chains) r) (newKey (txnOf s t) r) ≡ same → Among b (cond same [] (both-keys r)) → Among r (pendingRows (s .sizes) (txnOf s t .writes)) → Stamps s (publish t) b
+  changes-in : (r b : ℕ) (same : Bool) → sameKey (keyBefore (s .chains) r) (newKey (txnOf s t) r) ≡ same → Among b (cond same [] (both-keys r)) → Among r (madeRows (s .sizes) (s .chains) (txnOf s t .number) (txnOf s t .writes)) → Stamps s (publish t) b
   changes-in r b true e m w = absurd m
   changes-in r b false e m w = (
     r,
@@ -68,11 +70,11 @@ module _ (s : Store) (t : ℕ) where
 
   changed-stamps : (b : ℕ) → Among b (changedBuckets s (txnOf s t)) → Stamps s (publish t) b
   unfolding changedBuckets
-  changed-stamps b m = let w = join-which _ (pendingRows (s .sizes) (txnOf s t .writes)) b m in changes-in (w .0) b _ refl (w .2) (w .1)
+  changed-stamps b m = let w = join-which _ (madeRows (s .sizes) (s .chains) (txnOf s t .number) (txnOf s t .writes)) b m in changes-in (w .0) b _ refl (w .2) (w .1)
 
   stamps-changed : (b : ℕ) → Stamps s (publish t) b → Among b (changedBuckets s (txnOf s t))
   unfolding changedBuckets
-  stamps-changed b w = which-join _ (pendingRows (s .sizes) (txnOf s t .writes)) b (w .0) (w .1) (rw (is-false (sameKey (keyBefore (s .chains) (w .0)) (newKey (txnOf s t) (w .0))) (λ e. w .2 (same-key _ _ e)))
+  stamps-changed b w = which-join _ (madeRows (s .sizes) (s .chains) (txnOf s t .number) (txnOf s t .writes)) b (w .0) (w .1) (rw (is-false (sameKey (keyBefore (s .chains) (w .0)) (newKey (txnOf s t) (w .0))) (λ e. w .2 (same-key _ _ e)))
       (rw (w .3 .2) (⊎-elim
       (λ e. among-left _ (keyBuckets (s .sizes) (keyBefore (s .chains) (w .0))) _ (key-bucket (s .sizes) _ (w .3 .0) e))
       (λ e. among-right _ (keyBuckets (s .sizes) (keyBefore (s .chains) (w .0))) _ (key-bucket (s .sizes) _ (w .3 .0) e))
@@ -126,13 +128,16 @@ heads-used s e r l =
     let c : leb (s .chains .used) (s .sizes .versions) && every (s .sizes .rows) (λ r. leb (s .chains .head r) (s .chains .used)) ≡ true = search (and-l, and-r) depth 10 in
     leb-true _ _ (each-below (s .sizes .rows) (λ q. leb (s .chains .head q) (s .chains .used)) (and-r (leb (s .chains .used) (s .sizes .versions)) _ c) r l)
 
-rising : (s : Store) (t : ℕ) → Rising 0 (pendingRows (s .sizes) (txnOf s t .writes))
-unfolding pendingRows
-rising s t = pick-rising (pending (txnOf s t .writes)) 0 (s .sizes .rows)
+rising : (s : Store) (t : ℕ) → Rising 0 (versionRows (s .sizes) (s .chains) (txnOf s t .writes))
+unfolding versionRows
+rising s t = pick-rising _ 0 (s .sizes .rows)
 
 pending-in : (z : Sizes) (ws : List Write) (r : ℕ) → Among r (pendingRows z ws) → (r < z .rows) × (pending ws r ≡ true)
 unfolding pendingRows
 pending-in z ws r m = let w = pick-which (pending ws) 0 (z .rows) r m in (omega (arith, w .1), w .2)
+
+getting-in : (s : Store) (t r : ℕ) → Gets (s .sizes) (s .chains) (txnOf s t) r → (r < s .sizes .rows) × (pending (txnOf s t .writes) r ≡ true)
+getting-in s t r m = pending-in (s .sizes) (txnOf s t .writes) r (gets-writes (s .sizes) (s .chains) (txnOf s t) r m)
 
 open-is : (ph : Phase) → rank ph ≡ 1 → ph ≡ Open
 open-is Open e = refl
@@ -304,7 +309,7 @@ leaves s (prepare t) e = rw (done-does s (prepare t) e) (record {
 leaves s (install t) e = rw (done-does s (install t) e) (record {
   sizes-stay = refl;
   clock-is = refl;
-  versions-are = makes-all (txnOf s t) (pendingRows (s .sizes) (txnOf s t .writes)) (s .chains) (λ r m. heads-used s (install-0 s t .0 e .0) r (pending-in (s .sizes) (txnOf s t .writes) r m .0)) (rising s t) (λ r m. pending-in (s .sizes) (txnOf s t .writes) r m .1);
+  versions-are = makes-all (txnOf s t) (versionRows (s .sizes) (s .chains) (txnOf s t .writes)) (s .chains) (λ r m. heads-used s (install-0 s t .0 e .0) r (getting-in s t r m .0)) (rising s t) (λ r m. getting-in s t r m .1);
   index-is = quiet-index s (install t) (λ b w. w) refl;
   held-is = quiet-held s (install t) nothing;
   asker-is = asker s (at s t) _;

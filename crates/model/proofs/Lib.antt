@@ -7,15 +7,16 @@ pub mod Move
 pub mod Chained
 pub mod Distinct
 pub mod Numbers
-pub mod Room
 pub mod SeeingLaws
 pub mod Walk
-pub mod Ranges
 pub mod Owned
 pub mod Holders
+pub mod Made
 pub mod Grown
-pub mod Making
 pub mod Written
+pub mod Room
+pub mod Making
+pub mod Ranges
 pub mod Told
 pub mod Stable
 pub mod Complete
@@ -42,6 +43,7 @@ pub mod Snapshots
 pub mod Traces
 pub mod Answering
 pub mod Marked
+pub mod Claimed
 pub mod Keeping
 pub mod Standing
 pub mod Promises

@@ -183,6 +183,10 @@ unfolding pick
 pick-same test also k zero h = refl
 pick-same test also k (suc n) h = rw (h k (omega arith) (omega arith), pick-same test also (suc k) n (λ r l u. h r (omega arith) (omega arith)))
 
+-- two picks of the same numbers are one
+pub pick-among : (test also : ℕ → Bool) (k n : ℕ) → ((r : ℕ) → Among r (pick test k n) → Among r (pick also k n)) → ((r : ℕ) → Among r (pick also k n) → Among r (pick test k n)) → pick test k n ≡ pick also k n
+pick-among test also k n f g = pick-same test also k n (λ r l u. same-test _ _ (λ e. pick-which also k n r (f r (which-pick test k n r l u e)) .2) (λ e. pick-which test k n r (g r (which-pick also k n r l u e)) .2))
+
 pub pick-few : (test : ℕ → Bool) (k n : ℕ) → length (pick test k n) ≤ n
 unfolding pick
 pick-few test k zero = omega arith

@@ -15,7 +15,7 @@ use Rattle.model.specs.Table.{cond-elim}
 use Rattle.model.specs.Store.{Store, Txn, Write, Ended, rank, bucketOf}
 use Rattle.model.specs.Seeing.{live, Live}
 use Rattle.model.specs.Verdict.{verdict, verdictNumber}
-use Rattle.model.specs.Steps.{begun, stale, captured, collected, readDone, written, prepared, installed, becomes, published, ended, hasRead, recordsAfter, pendingRows, neededBuckets}
+use Rattle.model.specs.Steps.{begun, stale, captured, collected, readDone, written, prepared, installed, becomes, published, ended, hasRead, recordsAfter, pendingRows, neededBuckets, versionRows}
 use Rattle.model.specs.Refusals.{Refusal, Step, begin, capture, collect, rows, put, erase, prepare, install, end, publish, validate, abort, placeOf, txnOf, liveCount, byAnother, reserved, found, inPhase, writeChecks, checks, refusal}
 use Rattle.model.specs.Shape.{rightShape}
 use Rattle.model.specs.Machine.{at, actor, accepted, isStale, afterRefusal, carried, step, stepIn, run}
@@ -43,7 +43,7 @@ pub record CanPrepare (s : Store) (i : ℕ) : Type 0 where
   pub buckets-free : some-of (byAnother (s .held .holder) (s .txns i .number)) (neededBuckets s (s .txns i)) ≡ false
   pub rows-free : some-of (byAnother (s .held .claim) (s .txns i .number)) (pendingRows (s .sizes) (s .txns i .writes)) ≡ false
   pub clear : verdictNumber (verdict (s .chains) (s .index) (s .txns i)) ≡ 0
-  pub room : s .chains .used + reserved (s .sizes) (s .txns) mostLive + length (pendingRows (s .sizes) (s .txns i .writes)) ≤ s .sizes .versions
+  pub room : s .chains .used + reserved (s .sizes) (s .chains) (s .txns) mostLive + length (versionRows (s .sizes) (s .chains) (s .txns i .writes)) ≤ s .sizes .versions
 
 -- a constructor for each outcome of a step that changes the store; i is the place of the one who acts
 pub data Move (s : Store) : ℕ → Store → Type 0 where

@@ -12,7 +12,7 @@ use Rattle.model.specs.Lists.{least, pick, Among}
 use Rattle.model.specs.Table.{update, update-elim, updateAll-elim}
 use Rattle.model.specs.Store.{Chains, Snapshot, Txn, Store, Sizes, noTxn, fresh, rank}
 use Rattle.model.specs.Seeing.{live, active, activeNumbers, Live}
-use Rattle.model.specs.Steps.{newTxn, begun, push, pendingRows, changedBuckets}
+use Rattle.model.specs.Steps.{newTxn, begun, push, changedBuckets, versionRows}
 use Rattle.model.specs.Refusals.{liveCount}
 use Rattle.model.proofs.ListLaws.{and-l, and-r, and-both, among-map, map-among, pick-which, which-pick, pick-fewer}
 use Rattle.model.proofs.Move.{live-test, test-live, Move, stay, did-begin, did-mark, did-capture, did-collect, did-rows, did-write, did-prepare, did-install, did-end, did-publish, did-abort}
@@ -99,6 +99,14 @@ numbering s s′ (did-install i a b) = kept (kept-set (s .txns) i _ refl refl a 
 numbering s s′ (did-end i a b) = kept (kept-set (s .txns) i _ refl refl a (λ h. omega arith) (λ h. omega arith) (λ h. refl)) (omega arith)
 numbering s s′ (did-publish i a b) = kept (kept-free (s .txns) i) (omega arith)
 numbering s s′ (did-abort i a b) = kept (kept-free (s .txns) i) (omega arith)
+
+-- the clock never falls
+pub clock-move : (s s′ : Store) {a : ℕ} → Move s a s′ → s .clock ≤ s′ .clock
+clock-move s s′ m = go (numbering s s′ m)
+  where
+    go : Numbering s s′ → s .clock ≤ s′ .clock
+    go (began i e a b c) = rw e (omega arith)
+    go (kept p l) = l
 
 -- the active numbers are those of the live transactions that have not ended
 pub active-which : (t : ℕ → Txn) (n : ℕ) → Among n (activeNumbers t) → (j : ℕ) × (j < mostLive) × Live (t j) × (rank (t j .phase) < 6) × (n ≡ t j .number)
@@ -216,7 +224,7 @@ below-move s s′ n g (did-rows i a b c) = g
 below-move s s′ n g (did-write i w a b c d) = g
 below-move s s′ n g (did-prepare i a b c) = g
 below-move s s′ n g (did-install i a b) =
-    let l : Low (s .clock) (s′ .chains) = pushAll-all (Low (s .clock)) (s .txns i) (low-push (s .clock) (s .txns i .number) (n .below i)) (pendingRows (s .sizes) (s .txns i .writes)) (s .chains) (g .xmin-below, g .xmax-below) in
+    let l : Low (s .clock) (s′ .chains) = pushAll-all (Low (s .clock)) (s .txns i) (low-push (s .clock) (s .txns i .number) (n .below i)) (versionRows (s .sizes) (s .chains) (s .txns i .writes)) (s .chains) (g .xmin-below, g .xmax-below) in
     record { xmin-below = l .0; xmax-below = l .1; stamp-below = g .stamp-below }
 below-move s s′ n g (did-end i a b) = g
 below-move s s′ n g (did-publish i a b) = below-up s _ g (λ b. updateAll-elim (_≤ s .clock) (s .index .stamp) (changedBuckets s (s .txns i)) _ b (λ e. omega (arith, n .below i)) (λ e. omega (arith, g .stamp-below b)))

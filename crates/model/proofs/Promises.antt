@@ -6,20 +6,24 @@ use mathlib.Core.Logic.{_↔_}
 use mathlib.Core.List.{List, []}
 use Prim.Native.Nat.{ℕ, _≤_}
 use Rattle.limits.specs.Limits.{lastNumber}
+use Rattle.model.specs.Lists.{Among}
 use Rattle.model.specs.Store.{Sizes, Collected, Store, fresh}
 use Rattle.model.specs.Seeing.{Live}
 use Rattle.model.specs.Verdict.{Verdict, Clear}
 use Rattle.model.specs.Steps.{readBuckets}
-use Rattle.model.specs.Refusals.{Step, rows, validate, prepare, txnOf}
+use Rattle.model.specs.Refusals.{Step, rows, validate, prepare, install, txnOf}
 use Rattle.model.specs.Machine.{Rows, Judged, Done, step, run, canOpen}
 use Rattle.model.specs.History.{history}
 use Rattle.model.specs.Causes.{Cause}
-use Rattle.model.specs.Given.{_and_, Lives, Ready, BucketsFree, openNumber, GivenOpen}
-use Rattle.model.specs.Demands.{ExactAnswer, MarkLives, Shapely, NothingLost, DistinctAt, MarkedOpen, NoMoreWork, KeptVersion, HistoryStands, LeastXmins, UpstreamSees, FinishedRead, StandingRead}
+use Rattle.model.specs.Given.{_and_, number, Lives, Ready, BucketsFree, openNumber, GivenOpen}
+use Rattle.model.specs.Effects.{makes, GetsVersion}
+use Rattle.model.specs.Demands.{ExactAnswer, MarkLives, Shapely, NothingLost, HeadKept, DistinctAt, MarkedOpen, NoMoreWork, KeptVersion, HistoryStands, LeastXmins, UpstreamSees, FinishedRead, StandingRead}
+use Rattle.model.proofs.Making.{gets-when}
 use Rattle.model.proofs.Exact.{open-exactly}
 use Rattle.model.proofs.Marking.{mark-lives}
 use Rattle.model.proofs.Distinct.{distinct-opened}
 use Rattle.model.proofs.Marked.{marked-opened, no-more-work}
+use Rattle.model.proofs.Claimed.{head-kept}
 use Rattle.model.proofs.Answering.{exact, judges}
 use Rattle.model.proofs.Keeping.{shapely, nothing-lost, lasting, history-stands, least-xmins, upstream-sees}
 use Rattle.model.proofs.Standing.{finished, validated, prepared}
@@ -34,6 +38,10 @@ exact-open = open-exactly
 -- A mark is set by a stale stamp alone and lasts as long as its transaction.
 pub mark-life : (s : Store) (a : Step) (i : ℕ) → MarkLives s a i
 mark-life = mark-lives
+
+-- Which rows get a version: the pending ones that are live, and those whose last write is a put.
+pub gets-version : (s : Store) (t r : ℕ) → Among r (makes s (install t)) ↔ GetsVersion (s .sizes) (s .chains) (txnOf s t) r
+gets-version = gets-when
 
 -- DEMAND 2, the verdict: validate answers v exactly when it is ready, no bucket of an index read is another's, and v has its cause, the first in document 01's order.
 pub validate-answers : (s : Store) (t : ℕ) (v : Verdict) → step s (validate t) .answer ≡ Judged v ↔ Ready s (validate t) and BucketsFree s t (readBuckets (txnOf s t)) and Cause (s .chains) (s .index) (txnOf s t) v
@@ -67,6 +75,13 @@ kept-shape = shapely
 -- Nothing held is lost.
 pub kept-held : (z : Sizes) (clock : ℕ) (before : List Step) → canOpen z clock ≡ true → clock ≤ lastNumber → NothingLost (run (fresh z clock) before)
 kept-held = nothing-lost
+
+-- The claim keeps the head: install and publish see what prepare saw.
+pub kept-heads : (z : Sizes) (clock : ℕ) (before : List Step) → canOpen z clock ≡ true → clock ≤ lastNumber → (t : ℕ) (more : List Step) →
+    let s₁ = run (fresh z clock) before in
+    let s = run (step s₁ (prepare t) .store) more in
+    number s₁ (prepare t) ≡ 0 → Lives s t → HeadKept s₁ s t
+kept-heads = head-kept
 
 -- The index reads of each transaction are of distinct buckets.
 pub kept-reads : (z : Sizes) (clock : ℕ) (before : List Step) → DistinctAt (run (fresh z clock) before)

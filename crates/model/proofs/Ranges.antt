@@ -14,7 +14,7 @@ use Rattle.limits.specs.Limits.{mostRows, mostVersions, mostBuckets, mostIndexR
 use Rattle.model.specs.Table.{update, update-elim, cond-elim}
 use Rattle.model.specs.Store.{Sizes, Installed, IndexRead, ReadRecord, Write, Txn, Store, fresh, bucketIn, keyIn, sameKey, bucketOf}
 use Rattle.model.specs.Seeing.{pending, recordOf}
-use Rattle.model.specs.Steps.{withPhase, hasRead, addRead, postedRows, pendingRows, recordsAfter, foundRows}
+use Rattle.model.specs.Steps.{withPhase, hasRead, addRead, postedRows, recordsAfter, foundRows, versionRows}
 use Rattle.model.specs.Shape.{within, goodSizes}
 use Rattle.model.specs.Lists.{Among, Rising}
 use Rattle.model.proofs.ListLaws.{and-l, and-r, among-last, pick-rising, pick-which, pick-few}
@@ -176,7 +176,7 @@ ranges-move s s′ z g (did-write i w a b c d) = ranges-set s i z g _ (fits-writ
 ranges-move s s′ z g (did-prepare i a b c) = ranges-set s i z g _ (g i .0, z .buckets-pos)
 ranges-move s s′ z g (did-install i a b) = λ j.
     let h = ranges-set s i z g (withPhase (s .txns i) Installed) (g i .0, z .buckets-pos) j in
-    (fits-up _ _ _ _ _ _ _ (omega (arith, used-pushAll (s .txns i) (pendingRows (s .sizes) (s .txns i .writes)) (s .chains))) (h .0), h .1)
+    (fits-up _ _ _ _ _ _ _ (omega (arith, used-pushAll (s .txns i) (versionRows (s .sizes) (s .chains) (s .txns i .writes)) (s .chains))) (h .0), h .1)
 ranges-move s s′ z g (did-end i a b) = ranges-set s i z g _ (g i .0, z .buckets-pos)
 ranges-move s s′ z g (did-publish i a b) = ranges-set s i z g _ (fits-none _ _, z .buckets-pos)
 ranges-move s s′ z g (did-abort i a b) = ranges-set s i z g _ (fits-none _ _, z .buckets-pos)

@@ -1,4 +1,4 @@
--- Runs that meet the premises of the page of statements: a read that finds a row, another transaction that publishes meanwhile, a clear verdict; a stale stamp and a mark that lasts; a version that ends; two live at once; and the history of a run. Assumes nothing.
+-- Runs that meet the premises of the page of statements: a read that finds a row, another transaction that publishes meanwhile, a clear verdict; a stale stamp and a mark that lasts; a version that ends; a claim that keeps its heads; two live at once; and the history of a run. Assumes nothing.
 use mathlib.Core.Path.{_≡_, refl}
 use mathlib.Core.Bool.{true, false}
 use mathlib.Core.Logic.{inl}
@@ -13,6 +13,7 @@ use Rattle.model.specs.Store.{Sizes, Store, Collected, fresh, rank}
 use Rattle.model.specs.Verdict.{Clear, Mark}
 use Rattle.model.specs.Refusals.{Step, begin, capture, collect, rows, put, erase, prepare, install, end, publish, validate, abort, txnOf}
 use Rattle.model.specs.Seeing.{Live, seen, shows, snapshotNow}
+use Rattle.model.specs.Steps.{versionRows, madeRows}
 use Rattle.model.specs.Machine.{Done, Rows, Judged, step, run, canOpen}
 use Rattle.model.specs.Upstream.{postingsOf, remove, insert, postingReplay}
 use Rattle.model.specs.History.{addEvents, stepEvents, historyOver, history}
@@ -87,6 +88,30 @@ pub met-version : (s₅ .chains .used ≡ 1) × (s₅ .chains .xmax 1 ≡ 0) × 
 unfolding computes
 met-version = (refl, refl, refl, refl, refl)
 
+-- transaction 3 erases row 0, which is empty, writes row 1, which is empty, and erases it again, and erases row 2, which is live
+abbrev pub erasing : List Step
+erasing = begin ∷ put 1 2 6 10 ∷ prepare 1 ∷ install 1 ∷ end 1 ∷ publish 1 ∷ begin ∷ erase 3 0 ∷ put 3 1 5 8 ∷ erase 3 1 ∷ erase 3 2 ∷ []
+
+-- once it is Prepared another writes row 3 and is installed; and then 3 is installed
+abbrev pub meanwhile : List Step
+meanwhile = begin ∷ put 4 3 3 7 ∷ prepare 4 ∷ install 4 ∷ []
+
+abbrev pub s₆ : Store
+s₆ = run (fresh sizes 1) erasing
+
+abbrev pub s₇ : Store
+s₇ = run (step s₆ (prepare 3) .store) meanwhile
+
+abbrev pub s₈ : Store
+s₈ = run (step s₆ (prepare 3) .store) (meanwhile ++ (install 3 ∷ []))
+
+-- the premises of kept-heads, at a store where 3 is Prepared and at one where it is Installed, and what it says there: row 2 alone gets a version
+pub met-heads : (number s₆ (prepare 3) ≡ 0) × Lives s₇ 3 × (rank (txnOf s₇ 3 .phase) ≡ 4) × Lives s₈ 3 × (rank (txnOf s₈ 3 .phase) ≡ 5)
+    × (versionRows (s₆ .sizes) (s₆ .chains) (txnOf s₆ 3 .writes) ≡ 2 ∷ []) × (versionRows (s₇ .sizes) (s₇ .chains) (txnOf s₇ 3 .writes) ≡ 2 ∷ []) × (madeRows (s₈ .sizes) (s₈ .chains) 3 (txnOf s₈ 3 .writes) ≡ 2 ∷ [])
+    × (s₆ .chains .used ≡ 1) × (s₇ .chains .used ≡ 2) × (s₈ .chains .used ≡ 3)
+unfolding computes
+met-heads = (refl, (0, omega arith, refl, omega arith), refl, (0, omega arith, refl, omega arith), refl, refl, refl, refl, refl, refl, refl)
+
 -- the premise of kept-history's snapshots: in s₁ transaction 3 is live, and no version of row 2 waits for its publish
 none-late : (w : ℕ) → w < mostLive → ltb (rank (s₁ .txns w .phase)) 5 ≡ true
 unfolding computes
@@ -96,7 +121,7 @@ numbered : s₁ .txns 0 .number ≡ 3
 unfolding computes
 numbered = refl
 
-pub met-snapshot : Live (s₁ .txns 0) × ((w : ℕ) → Unpublished (s₁ .sizes) (s₁ .txns w) 2 → seen (s₁ .txns 0 .snapshot) (s₁ .chains .xmin (s₁ .chains .head 2)) ≡ false)
+pub met-snapshot : Live (s₁ .txns 0) × ((w : ℕ) → Unpublished (s₁ .sizes) (s₁ .chains) (s₁ .txns w) 2 → seen (s₁ .txns 0 .snapshot) (s₁ .chains .xmin (s₁ .chains .head 2)) ≡ false)
 met-snapshot = (omega (arith, numbered), λ w u. absurd (omega (arith, u .1, ltb-true (rank (s₁ .txns w .phase)) 5 (none-late w (in-place _ _ (opened-good sizes 1 before opened (omega arith) .numbers) w (u .0))))))
   where
     opened : canOpen sizes 1 ≡ true

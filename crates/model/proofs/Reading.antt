@@ -8,7 +8,7 @@ use native.Mathlib.Omega.{arith}
 use Rattle.model.specs.Table.{update, update-elim, updateAll-elim}
 use Rattle.model.specs.Store.{Sizes, Chains, Holding, Collected, Prepared, Installed, Ended, ReadRecord, Txn, Store, noTxn, fresh, rank, bucketIn, keyIn, bucketOf}
 use Rattle.model.specs.Seeing.{seen, versionOf, keyAt, recordOf, Live}
-use Rattle.model.specs.Steps.{newTxn, markedTxn, hasRead, capturedTxn, collectedTxn, postedRows, foundRows, readTxn, writtenTxn, withPhase, pendingRows, installed, changedBuckets, published}
+use Rattle.model.specs.Steps.{newTxn, markedTxn, hasRead, capturedTxn, collectedTxn, postedRows, foundRows, readTxn, writtenTxn, withPhase, installed, changedBuckets, published, versionRows}
 use Rattle.model.specs.Lists.{Among}
 use Rattle.model.proofs.ListLaws.{member-among}
 use Rattle.model.proofs.Move.{CanCapture, Move, stay, did-begin, did-mark, did-capture, did-collect, did-rows, did-write, did-prepare, did-install, did-end, did-publish, did-abort}
@@ -92,7 +92,7 @@ reading-grown s i j d ch ch′ n l a v g = record {
   records-are = λ h q m. g .records-are h q m ∙ sym (same (q .row));
 }
   where
-    gr : Grown (s .txns i) (pendingRows (s .sizes) (s .txns i .writes)) (s .chains) (installed s i .chains)
+    gr : Grown (s .txns i) (versionRows (s .sizes) (s .chains) (s .txns i .writes)) (s .chains) (installed s i .chains)
     gr = installs s i ch
 
     unseen : seen (s .txns j .snapshot) (s .txns i .number) ≡ false

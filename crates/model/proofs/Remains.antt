@@ -9,12 +9,12 @@ use native.Mathlib.Omega.{arith}
 use Rattle.model.specs.Table.{update, update-elim}
 use Rattle.model.specs.Store.{Sizes, Chains, Snapshot, ReadRecord, Installed, Txn, Store, noTxn, rank, bucketOf}
 use Rattle.model.specs.Seeing.{seen, versionOf, keyAt, recordOf, Live}
-use Rattle.model.specs.Steps.{newTxn, hasRead, pendingRows, foundRows, withPhase, installed}
+use Rattle.model.specs.Steps.{newTxn, hasRead, foundRows, withPhase, installed, versionRows}
 use Rattle.model.specs.Refusals.{Step}
 use Rattle.model.specs.Machine.{run}
 use Rattle.model.specs.Lists.{Among}
 use Rattle.model.proofs.Move.{Move, stay, did-begin, did-mark, did-capture, did-collect, did-rows, did-write, did-prepare, did-install, did-end, did-publish, did-abort, run-inv}
-use Rattle.model.proofs.Numbers.{Numbering, began, kept, numbering}
+use Rattle.model.proofs.Numbers.{clock-move}
 use Rattle.model.proofs.SeeingLaws.{addRead-keeps, recordAll-keeps}
 use Rattle.model.proofs.Grown.{Grown}
 use Rattle.model.proofs.Written.{installs}
@@ -60,7 +60,7 @@ module _ (c₁ : Chains) (v : Snapshot) (k n : ℕ) where
       (λ d p q. absurd (omega arith))
       (λ d p q. other j d p (w .here j p q))
     where
-      gr : Grown (s .txns i) (pendingRows (s .sizes) (s .txns i .writes)) (s .chains) (installed s i .chains)
+      gr : Grown (s .txns i) (versionRows (s .sizes) (s .chains) (s .txns i .writes)) (s .chains) (installed s i .chains)
       gr = installs s i (g .chained)
 
       other : (j : ℕ) → j ≢ i → s .txns j .number ≡ n → Remains c₁ v k (s .sizes) (s .chains) (s .txns j) → Remains c₁ v k (s .sizes) (installed s i .chains) (s .txns j)
@@ -88,13 +88,6 @@ module _ (c₁ : Chains) (v : Snapshot) (k n : ℕ) where
   here-move s s′ g g′ w (did-end i a b) = remains-set s i _ w refl refl (λ h. absurd (omega arith)) (λ o h. h) (λ q m. m)
   here-move s s′ g g′ w (did-publish i a b) = remains-other s i noTxn w (λ e. omega (arith, w .number-pos))
   here-move s s′ g g′ w (did-abort i a b) = remains-other s i noTxn w (λ e. omega (arith, w .number-pos))
-
-  clock-move : (s s′ : Store) {a : ℕ} → Move s a s′ → s .clock ≤ s′ .clock
-  clock-move s s′ m = go (numbering s s′ m)
-    where
-      go : Numbering s s′ → s .clock ≤ s′ .clock
-      go (began i e a b c) = rw e (omega arith)
-      go (kept p l) = l
 
   pub remains-move : (s s′ : Store) {a : ℕ} → Good s → RemainsAt c₁ v k n s → Move s a s′ → RemainsAt c₁ v k n s′
   remains-move s s′ g w m = record { number-pos = w .number-pos; number-old = omega (arith, w .number-old, clock-move s s′ m); here = here-move s s′ g (good-move s s′ g m) w m }

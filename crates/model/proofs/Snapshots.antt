@@ -10,7 +10,7 @@ use Rattle.model.specs.Table.{update, update-same, update-other}
 use Rattle.model.specs.Store.{Sizes, Chains, Txn, Store}
 use Rattle.model.specs.Seeing.{seen, versionOf, keyAt, Live}
 use Rattle.model.specs.Upstream.{creatorVisible, Event, snapshotRows}
-use Rattle.model.specs.Holding.{Unpublished}
+use Rattle.model.specs.Holding.{Unpublished, Made}
 use Rattle.model.proofs.Numbers.{Snapped}
 use Rattle.model.proofs.SeeingLaws.{keyAt-zero, keyAt-key}
 use Rattle.model.proofs.Walk.{Finds, nothing, here, down, zero-finds, version-finds}
@@ -25,8 +25,8 @@ pub data Traced (c : Chains) (r : ℕ) : List Event → ℕ → Type 0 where
 
 -- the row's events lead down from its head, or, while it is unpublished, from the version under it
 pub data RowTraced (z : Sizes) (c : Chains) (t : ℕ → Txn) (es : List Event) (r : ℕ) : Type 0 where
-  whole : ((j : ℕ) → Unpublished z (t j) r → ⊥) → Traced c r es (c .head r) → RowTraced z c t es r
-  waiting : (j : ℕ) → Unpublished z (t j) r → Traced c r es (c .next (c .head r)) → RowTraced z c t es r
+  whole : ((j : ℕ) → Unpublished z c (t j) r → ⊥) → Traced c r es (c .head r) → RowTraced z c t es r
+  waiting : (j : ℕ) → Unpublished z c (t j) r → Traced c r es (c .next (c .head r)) → RowTraced z c t es r
 
 abbrev pub TracedAt : Store → List Event → Type 0
 TracedAt s es = (r : ℕ) → RowTraced (s .sizes) (s .chains) (s .txns) es r
@@ -51,7 +51,7 @@ walk-rows c x g r (e ∷ older) p q (other d n) f = go (creatorVisible x (e .cre
     go false h = h
 
 -- snapshot_rows is what a live transaction sees of a row, unless it sees an unpublished version of it
-pub snapshot-same : (s : Store) (es : List Event) → Good s → TracedAt s es → (j : ℕ) → Live (s .txns j) → (r : ℕ) → ((w : ℕ) → Unpublished (s .sizes) (s .txns w) r → seen (s .txns j .snapshot) (s .chains .xmin (s .chains .head r)) ≡ false)
+pub snapshot-same : (s : Store) (es : List Event) → Good s → TracedAt s es → (j : ℕ) → Live (s .txns j) → (r : ℕ) → ((w : ℕ) → Unpublished (s .sizes) (s .chains) (s .txns w) r → seen (s .txns j .snapshot) (s .chains .xmin (s .chains .head r)) ≡ false)
     → snapshotRows (λ q. none) es (s .txns j) r ≡ keyAt (s .chains) (versionOf (s .chains) (s .txns j .snapshot) r)
 snapshot-same s es g h j l r unseen = go (h r) (version-finds (s .chains) (s .txns j .snapshot) (g .chained) r)
   where

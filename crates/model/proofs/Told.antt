@@ -13,8 +13,8 @@ use Rattle.model.specs.Lists.{member, Among}
 use Rattle.model.specs.Table.{update, update-elim, update-same, update-other, updateAll-elim}
 use Rattle.model.specs.Store.{Sizes, Chains, Snapshot, Installed, Txn, Store, noTxn, fresh, rank, sameKey, bucketOf}
 use Rattle.model.specs.Seeing.{seen, keyAt, Live}
-use Rattle.model.specs.Steps.{withPhase, newTxn, begun, pendingRows, keyBefore, newKey, keyBuckets, changedBuckets, installed, published}
-use Rattle.model.specs.Holding.{Writes}
+use Rattle.model.specs.Steps.{withPhase, newTxn, begun, pendingRows, keyBefore, newKey, keyBuckets, changedBuckets, installed, published, versionRows, madeRows}
+use Rattle.model.specs.Holding.{Writes, Made}
 use Rattle.model.proofs.ListLaws.{and-l, and-r, is-false, member-among, among-member, not-member, among-left, among-right, which-join}
 use Rattle.model.proofs.Move.{Move, stay, did-begin, did-mark, did-capture, did-collect, did-rows, did-write, did-prepare, did-install, did-end, did-publish, did-abort}
 use Rattle.model.proofs.Chained.{Chained}
@@ -83,9 +83,9 @@ told-frame z c stamp stamp′ t t′ kp up fate g q j u l e = go (g q j u (omega
     go (inr h) = inr (λ k w. omega (arith, h k w, kp .number j l, up (bucketOf z k)))
 
 -- the buckets that publish stamps
-changed-has : (s : Store) (x : Txn) (r k : ℕ) → Writes (s .sizes) x r → sameKey (keyBefore (s .chains) r) (newKey x r) ≡ false → (keyBefore (s .chains) r ≡ some k) ⊎ (newKey x r ≡ some k) → Among (bucketOf (s .sizes) k) (changedBuckets s x)
+changed-has : (s : Store) (x : Txn) (r k : ℕ) → Made (s .sizes) (s .chains) x r → sameKey (keyBefore (s .chains) r) (newKey x r) ≡ false → (keyBefore (s .chains) r ≡ some k) ⊎ (newKey x r ≡ some k) → Among (bucketOf (s .sizes) k) (changedBuckets s x)
 unfolding changedBuckets
-changed-has s x r k w d h = which-join (λ q. cond (sameKey (keyBefore (s .chains) q) (newKey x q)) [] (keyBuckets (s .sizes) (keyBefore (s .chains) q) ++ keyBuckets (s .sizes) (newKey x q))) (pendingRows (s .sizes) (x .writes)) (bucketOf (s .sizes) k) r w
+changed-has s x r k w d h = which-join (λ q. cond (sameKey (keyBefore (s .chains) q) (newKey x q)) [] (keyBuckets (s .sizes) (keyBefore (s .chains) q) ++ keyBuckets (s .sizes) (newKey x q))) (madeRows (s .sizes) (s .chains) (x .number) (x .writes)) (bucketOf (s .sizes) k) r w
     (rw d (⊎-elim (λ e. among-left _ (keyBuckets (s .sizes) (keyBefore (s .chains) r)) _ (key-bucket (s .sizes) _ k e)) (λ e. among-right _ (keyBuckets (s .sizes) (keyBefore (s .chains) r)) _ (key-bucket (s .sizes) _ k e)) h))
 
 module _ (s : Store) (i : ℕ) (g : ToldAt s) where
@@ -141,7 +141,7 @@ module _ (s : Store) (i : ℕ) (g : ToldAt s) where
   told-install : Chained (s .chains) → Live (s .txns i) → rank (s .txns i .phase) ≡ 4 → ToldAt (installed s i)
   told-install ch l a q j u v e = ⊎-elim old new (old-or-new (s .chains .used) q)
     where
-      gr : Grown (s .txns i) (pendingRows (s .sizes) (s .txns i .writes)) (s .chains) (installed s i .chains)
+      gr : Grown (s .txns i) (versionRows (s .sizes) (s .chains) (s .txns i .writes)) (s .chains) (installed s i .chains)
       gr = installs s i ch
 
       on : Told (s .sizes) (s .chains) (s .index .stamp) (installed s i .txns)

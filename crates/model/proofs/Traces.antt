@@ -1,7 +1,7 @@
 -- In every reached store the versions of each row are the events of the run. Assumes nothing.
 use mathlib.Core.Path.{_≡_, refl, sym, ap, _∙_}
 use mathlib.Core.Bool.{Bool, true, false, cond, true≢false}
-use mathlib.Core.Logic.{inl, inr, ⊎-elim}
+use mathlib.Core.Logic.{inl, inr, ⊎-elim, _≢_}
 use mathlib.Core.List.{List, [], _∷_}
 use Prim.Native.Nat.{ℕ, suc, _≤_, _<_}
 use native.Mathlib.Omega.{arith}
@@ -12,25 +12,26 @@ use Rattle.limits.specs.Limits.{lastNumber}
 use Rattle.model.specs.Lists.{member, Among, Rising}
 use Rattle.model.specs.Table.{update, update-same, update-other, update-elim}
 use Rattle.model.specs.Store.{Sizes, Chains, Installed, Txn, Store, noTxn, fresh, rank}
-use Rattle.model.specs.Steps.{withPhase, pendingRows, newKey, installed, published}
+use Rattle.model.specs.Steps.{withPhase, newKey, installed, published, versionRows, madeRows}
 use Rattle.model.specs.Upstream.{Event}
 use Rattle.model.specs.Refusals.{Step, begin, capture, collect, rows, put, erase, prepare, install, end, publish, validate, abort, txnOf}
 use Rattle.model.specs.Machine.{at, actor, accepted, step, run, canOpen}
 use Rattle.model.specs.History.{eventOf, addEvents, stepEvents, historyOver, history}
 use Rattle.model.specs.Seeing.{Live}
-use Rattle.model.specs.Holding.{Writes, Unpublished}
+use Rattle.model.specs.Holding.{Writes, Unpublished, Gets, Made}
 use Rattle.model.specs.Given.{number, Ready}
 use Rattle.model.proofs.ListLaws.{rising-above, pick-rising, member-among, among-member}
 use Rattle.model.proofs.Chained.{Chained}
 use Rattle.model.proofs.SeeingLaws.{keyAt-key}
 use Rattle.model.proofs.Holders.{one-claim}
 use Rattle.model.proofs.Grown.{Grown}
-use Rattle.model.proofs.Written.{Mine, installs}
+use Rattle.model.proofs.Written.{Mine, installs, made-new, made-old, made-still}
 use Rattle.model.proofs.Good.{Good, good-run, opened-good}
 use Rattle.model.proofs.Conditions.{lives-number}
 use Rattle.model.proofs.Refused.{capture-0, collect-0, rows-0, put-0, erase-0, prepare-0, install-0, end-0, publish-0, abort-0}
 use Rattle.model.proofs.Outcomes.{refused-store, done-does, free-place}
 use Rattle.model.proofs.Snapshots.{Traced, start, own, other, RowTraced, whole, waiting, TracedAt}
+use Rattle.model.proofs.Made.{gets-writes, made-writes, made-head}
 
 -- events of other rows are passed over
 added-other : (s : Store) (x : Txn) (c : Chains) (rs : List ℕ) (older : List Event) (r p : ℕ) → (Among r rs → ⊥) → Traced c r older p → Traced c r (addEvents s x rs older) p
@@ -56,67 +57,82 @@ traced-grown x rs c c′ gr ch r (e ∷ older) p (other d n) u = other d (traced
 
 module _ (z : Sizes) (c : Chains) (t : ℕ → Txn) (es : List Event) (r : ℕ) where
   -- who has installed and not published stays the same
-  row-kept : (t′ : ℕ → Txn) → ((j : ℕ) → Unpublished z (t′ j) r → Unpublished z (t j) r) → ((j : ℕ) → Unpublished z (t j) r → Unpublished z (t′ j) r) → RowTraced z c t es r → RowTraced z c t′ es r
+  row-kept : (t′ : ℕ → Txn) → ((j : ℕ) → Unpublished z c (t′ j) r → Unpublished z c (t j) r) → ((j : ℕ) → Unpublished z c (t j) r → Unpublished z c (t′ j) r) → RowTraced z c t es r → RowTraced z c t′ es r
   row-kept t′ back on (whole no-one d) = whole (λ j u. no-one j (back j u)) d
   row-kept t′ back on (waiting j u d) = waiting j (on j u) d
 
   -- one place changes that has not installed before or after
   row-early : (i : ℕ) (x : Txn) → (Live (t i) → rank (t i .phase) < 5) → rank (x .phase) < 5 → RowTraced z c t es r → RowTraced z c (update t i x) es r
   row-early i x a b = row-kept (update t i x)
-      (λ j. update-elim (λ y. Unpublished z y r → Unpublished z (t j) r) t i x j (λ e u. absurd (omega (arith, u .1))) (λ d u. u))
+      (λ j. update-elim (λ y. Unpublished z c y r → Unpublished z c (t j) r) t i x j (λ e u. absurd (omega (arith, u .1))) (λ d u. u))
       (λ j u. rw (update-other t i x j (λ e. omega (arith, rw e at (u .1), a (rw e at (u .0))))) u)
 
   -- one place goes on with its number and its writes
   row-on : (i : ℕ) (x : Txn) → x .number ≡ t i .number → x .writes ≡ t i .writes → (5 ≤ rank (x .phase) → 5 ≤ rank (t i .phase)) → (5 ≤ rank (t i .phase) → 5 ≤ rank (x .phase)) → RowTraced z c t es r → RowTraced z c (update t i x) es r
   row-on i x n w a b = row-kept (update t i x)
-      (λ j. update-elim (λ y. Unpublished z y r → Unpublished z (t j) r) t i x j (λ e u. rw e (omega (arith, u .0), a (u .1), rw w at (u .2))) (λ d u. u))
+      (λ j. update-elim (λ y. Unpublished z c y r → Unpublished z c (t j) r) t i x j (λ e u. rw e (omega (arith, u .0), a (u .1), rw (n, w) at (u .2))) (λ d u. u))
       (λ j. elim (ℕ-discrete j i) [ yes e ↦ λ u. rw (e, update-same) (same (rw e at u)) | no d ↦ λ u. rw (update-other t i x j d) u ])
     where
-      same : Unpublished z (t i) r → Unpublished z x r
-      same u = (omega (arith, u .0), b (u .1), rw w (u .2))
+      same : Unpublished z c (t i) r → Unpublished z c x r
+      same u = (omega (arith, u .0), b (u .1), rw (n, w) (u .2))
 
 module _ (s : Store) (es : List Event) (g : Good s) (h : TracedAt s es) (i : ℕ) (l : Live (s .txns i)) where
   -- a row that i claims is claimed by nobody else
-  only-claim : 4 ≤ rank (s .txns i .phase) → (r : ℕ) → Writes (s .sizes) (s .txns i) r → (j : ℕ) → Unpublished (s .sizes) (s .txns j) r → j ≡ i
-  only-claim a r w j u = one-claim s i (g .numbers) (g .holders) j i r (omega (arith, u .1), u .2) (a, w)
+  only-claim : 4 ≤ rank (s .txns i .phase) → (r : ℕ) → Writes (s .sizes) (s .txns i) r → (j : ℕ) → Unpublished (s .sizes) (s .chains) (s .txns j) r → j ≡ i
+  only-claim a r w j u = one-claim s i (g .numbers) (g .holders) j i r (omega (arith, u .1), made-writes (s .sizes) (s .chains) (s .txns j) r (u .2)) (a, w)
 
   traced-install : rank (s .txns i .phase) ≡ 4 → TracedAt (installed s i) es
-  traced-install a r = go (member r (pendingRows (s .sizes) (s .txns i .writes))) refl
+  traced-install a r = go (member r (versionRows (s .sizes) (s .chains) (s .txns i .writes))) refl
     where
-      gr : Grown (s .txns i) (pendingRows (s .sizes) (s .txns i .writes)) (s .chains) (installed s i .chains)
+      gr : Grown (s .txns i) (versionRows (s .sizes) (s .chains) (s .txns i .writes)) (s .chains) (installed s i .chains)
       gr = installs s i (g .chained)
 
-      new : Writes (s .sizes) (s .txns i) r → RowTraced (s .sizes) (s .chains) (s .txns) es r → RowTraced (s .sizes) (installed s i .chains) (installed s i .txns) es r
-      new w (whole no-one d) = waiting i (rw update-same (l, omega arith, w)) (rw (gr .head-new r w .next-is) (traced-grown _ _ _ _ gr (g .chained) r es (s .chains .head r) d (g .chained .heads-in r)))
-      new w (waiting j u d) = absurd (omega (arith, rw (only-claim (omega arith) r w j u) at (u .1)))
+      new : Gets (s .sizes) (s .chains) (s .txns i) r → RowTraced (s .sizes) (s .chains) (s .txns) es r → RowTraced (s .sizes) (installed s i .chains) (installed s i .txns) es r
+      new w (whole no-one d) = let m = made-new s i (g .chained) r w in waiting i (rw update-same (l, omega arith, m)) (rw (gr .head-new r w .next-is) (traced-grown _ _ _ _ gr (g .chained) r es (s .chains .head r) d (g .chained .heads-in r)))
+      new w (waiting j u d) = absurd (omega (arith, rw (only-claim (omega arith) r (gets-writes (s .sizes) (s .chains) (s .txns i) r w) j u) at (u .1)))
 
-      old : (Writes (s .sizes) (s .txns i) r → ⊥) → RowTraced (s .sizes) (s .chains) (s .txns) es r → RowTraced (s .sizes) (installed s i .chains) (installed s i .txns) es r
+      -- who heads the row now headed it before
+      before : (Gets (s .sizes) (s .chains) (s .txns i) r → ⊥) → (y : Txn) → Made (s .sizes) (installed s i .chains) y r → Made (s .sizes) (s .chains) y r
+      before n y m = made-old s i (g .chained) r n y m
+
+      after : (Gets (s .sizes) (s .chains) (s .txns i) r → ⊥) → (y : Txn) → Made (s .sizes) (s .chains) y r → Made (s .sizes) (installed s i .chains) y r
+      after n y m = made-still s i (g .chained) r n y m
+
+      old : (Gets (s .sizes) (s .chains) (s .txns i) r → ⊥) → RowTraced (s .sizes) (s .chains) (s .txns) es r → RowTraced (s .sizes) (installed s i .chains) (installed s i .txns) es r
       old n (whole no-one d) = whole
-          (λ j. update-elim (λ y. Unpublished (s .sizes) y r → ⊥) (s .txns) i (withPhase (s .txns i) Installed) j (λ e u. n (u .2)) (λ e u. no-one j u))
+          (λ j. update-elim (λ y. Unpublished (s .sizes) (installed s i .chains) y r → ⊥) (s .txns) i (withPhase (s .txns i) Installed) j
+          (λ e u. mine-early (before n (s .txns i) (u .2)))
+          (λ e u. no-one j (u .0, u .1, before n (s .txns j) (u .2))))
           (rw (gr .head-old r n) (traced-grown _ _ _ _ gr (g .chained) r es (s .chains .head r) d (g .chained .heads-in r)))
-      old n (waiting j u d) = waiting j (rw (update-other (s .txns) i (withPhase (s .txns i) Installed) j (λ e. n (rw e at (u .2)))) u)
+        where
+          mine-early : Made (s .sizes) (s .chains) (s .txns i) r → ⊥
+          mine-early m = let p = made-head (s .sizes) (s .chains) (s .txns i) r m in omega (arith, g .written .made (s .chains .head r) i (p .0) (g .chained .heads-in r) l (p .1) .0)
+      old n (waiting j u d) =
+          let ne : j ≢ i = λ e. omega (arith, rw e at (u .1)) in
+          let m = after n (s .txns j) (u .2) in
+          waiting j (rw (update-other (s .txns) i (withPhase (s .txns i) Installed) j ne) (u .0, u .1, m))
           (rw (gr .head-old r n, gr .next-old (s .chains .head r) (g .chained .heads-in r)) (traced-grown _ _ _ _ gr (g .chained) r es (s .chains .next (s .chains .head r)) d (omega (arith, g .chained .heads-in r, g .chained .next-falls (s .chains .head r) (g .written .mine j r (u .0) (u .1) (u .2) .head-pos) (g .chained .heads-in r)))))
 
-      go : (b : Bool) → member r (pendingRows (s .sizes) (s .txns i .writes)) ≡ b → RowTraced (s .sizes) (installed s i .chains) (installed s i .txns) es r
+      go : (b : Bool) → member r (versionRows (s .sizes) (s .chains) (s .txns i .writes)) ≡ b → RowTraced (s .sizes) (installed s i .chains) (installed s i .txns) es r
       go true e = new (member-among r _ e) (h r)
       go false e = old (λ m. true≢false (sym (among-member r _ m) ∙ e)) (h r)
 
-  traced-publish : rank (s .txns i .phase) ≡ 6 → TracedAt (published s i) (addEvents s (s .txns i) (pendingRows (s .sizes) (s .txns i .writes)) es)
-  unfolding pendingRows
-  traced-publish a r = go (member r (pendingRows (s .sizes) (s .txns i .writes))) refl
+  traced-publish : rank (s .txns i .phase) ≡ 6 → TracedAt (published s i) (addEvents s (s .txns i) (madeRows (s .sizes) (s .chains) (s .txns i .number) (s .txns i .writes)) es)
+  unfolding madeRows
+  traced-publish a r = go (member r (madeRows (s .sizes) (s .chains) (s .txns i .number) (s .txns i .writes))) refl
     where
       rs : List ℕ
-      rs = pendingRows (s .sizes) (s .txns i .writes)
+      rs = madeRows (s .sizes) (s .chains) (s .txns i .number) (s .txns i .writes)
 
-      mine : Writes (s .sizes) (s .txns i) r → RowTraced (s .sizes) (s .chains) (s .txns) es r → RowTraced (s .sizes) (s .chains) (published s i .txns) (addEvents s (s .txns i) rs es) r
+      mine : Made (s .sizes) (s .chains) (s .txns i) r → RowTraced (s .sizes) (s .chains) (s .txns) es r → RowTraced (s .sizes) (s .chains) (published s i .txns) (addEvents s (s .txns i) rs es) r
       mine w (whole no-one d) = absurd (no-one i (l, omega arith, w))
       mine w (waiting j u d) = whole
-          (λ k. update-elim (λ y. Unpublished (s .sizes) y r → ⊥) (s .txns) i noTxn k (λ e v. omega (arith, v .1)) (λ e v. e (only-claim (omega arith) r w k v)))
+          (λ k. update-elim (λ y. Unpublished (s .sizes) (s .chains) y r → ⊥) (s .txns) i noTxn k (λ e v. omega (arith, v .1)) (λ e v. e (only-claim (omega arith) r (made-writes (s .sizes) (s .chains) (s .txns i) r w) k v)))
           (added-own s (s .txns i) 0 rs es r (pick-rising _ 0 (s .sizes .rows)) w (g .chained) (g .written .mine i r l (omega arith) w) d)
 
-      others : (Writes (s .sizes) (s .txns i) r → ⊥) → RowTraced (s .sizes) (s .chains) (s .txns) es r → RowTraced (s .sizes) (s .chains) (published s i .txns) (addEvents s (s .txns i) rs es) r
+      others : (Made (s .sizes) (s .chains) (s .txns i) r → ⊥) → RowTraced (s .sizes) (s .chains) (s .txns) es r → RowTraced (s .sizes) (s .chains) (published s i .txns) (addEvents s (s .txns i) rs es) r
       others n (whole no-one d) = whole
-          (λ k. update-elim (λ y. Unpublished (s .sizes) y r → ⊥) (s .txns) i noTxn k (λ e v. omega (arith, v .1)) (λ e v. no-one k v))
+          (λ k. update-elim (λ y. Unpublished (s .sizes) (s .chains) y r → ⊥) (s .txns) i noTxn k (λ e v. omega (arith, v .1)) (λ e v. no-one k v))
           (added-other s (s .txns i) (s .chains) rs es r _ n d)
       others n (waiting j u d) = waiting j (rw (update-other (s .txns) i noTxn j (λ e. n (rw e at (u .2)))) u) (added-other s (s .txns i) (s .chains) rs es r _ n d)
 
@@ -139,7 +155,7 @@ module _ (s : Store) (es : List Event) (g : Good s) (h : TracedAt s es) where
   early : (i : ℕ) (x : Txn) → (Live (s .txns i) → rank (s .txns i .phase) < 5) → rank (x .phase) < 5 → (r : ℕ) → RowTraced (s .sizes) (s .chains) (update (s .txns) i x) es r
   early i x a b r = row-early (s .sizes) (s .chains) (s .txns) es r i x a b (h r)
 
-  published-or-not : (t : ℕ) (b : Bool) → eqb (number s (publish t)) 0 ≡ b → TracedAt (step s (publish t) .store) (cond b (addEvents s (txnOf s t) (pendingRows (s .sizes) (txnOf s t .writes)) es) es)
+  published-or-not : (t : ℕ) (b : Bool) → eqb (number s (publish t)) 0 ≡ b → TracedAt (step s (publish t) .store) (cond b (addEvents s (txnOf s t) (madeRows (s .sizes) (s .chains) (txnOf s t .number) (txnOf s t .writes)) es) es)
   unfolding accepted
   published-or-not t true e =
       let z = eqb-true _ _ e in

@@ -10,13 +10,13 @@ use Rattle.model.specs.Lists.{member, least, pick, Among, Rising}
 use Rattle.model.specs.Store.{Sizes, Chains, IndexRead, ReadRecord, Txn, Open, Collected, Store, rank, sameKey}
 use Rattle.model.specs.Verdict.{Mark}
 use Rattle.model.specs.Seeing.{Live, seen, visible, firstVisible, versionOf, keyAt, pending, matches, recordOf, shows, snapshotNow}
-use Rattle.model.specs.Steps.{hasRead, postedRows, oldKey, keyBefore, readBuckets, neededBuckets}
+use Rattle.model.specs.Steps.{hasRead, postedRows, versionRows, madeRows, oldKey, keyBefore, readBuckets, neededBuckets}
 use Rattle.model.specs.Upstream.{creatorVisible, rowVisible, firstRow, pointer, matchesRow, Event, postingsOf, postingReplay, liveRows, snapshotRows, Coherent, stampAt, rawCandidates}
 use Rattle.model.specs.Refusals.{Step, begin, capture, collect, rows, put, erase, prepare, install, end, publish, validate, abort, Refusal, WrongShape, txnOf}
 use Rattle.model.specs.Shape.{rightShape}
 use Rattle.model.specs.Machine.{Judged, Refused, lentAfter, at, actor, accepted, step, stepIn, run}
 use Rattle.model.specs.History.{changing}
-use Rattle.model.specs.Holding.{Writes, Wants, Claims, Unpublished}
+use Rattle.model.specs.Holding.{Writes, Wants, Claims, Gets, Made, ErasesNothing, Unpublished}
 use Rattle.model.specs.Given.{number, Names, BucketTaken, RowTaken, given, Given, StaleStamp, documented}
 use Rattle.model.specs.Effects.{SameVersion}
 use Rattle.model.specs.Leaves.{Leaves, MarksOnly}
@@ -55,7 +55,21 @@ pub record NothingLost (s : Store) : Type 0 where
   pub claims : (i r : ℕ) → Claims (s .sizes) (s .txns i) r → s .held .claim r ≡ s .txns i .number
   pub every-pending : (i r : ℕ) → pending (s .txns i .writes) r ≡ true → Writes (s .sizes) (s .txns i) r
   pub old-prepared : (i r : ℕ) → rank (s .txns i .phase) ≡ 4 → Writes (s .sizes) (s .txns i) r → s .index .posted r ≡ oldKey (s .chains) r
-  pub old-installed : (i r : ℕ) → Live (s .txns i) → 5 ≤ rank (s .txns i .phase) → Writes (s .sizes) (s .txns i) r → s .index .posted r ≡ keyBefore (s .chains) r
+  -- once installed it is headed by a version of its own, over the posted key; or it erases nothing, and no key is posted
+  pub made-or-nothing : (i r : ℕ) → Live (s .txns i) → 5 ≤ rank (s .txns i .phase) → Writes (s .sizes) (s .txns i) r → Made (s .sizes) (s .chains) (s .txns i) r ⊎ (ErasesNothing (s .chains) (s .txns i) r × (s .index .posted r ≡ none))
+  pub old-installed : (i r : ℕ) → Live (s .txns i) → 5 ≤ rank (s .txns i .phase) → Made (s .sizes) (s .chains) (s .txns i) r → s .index .posted r ≡ keyBefore (s .chains) r
+
+-- the claim keeps the head: s₁ is the store in which `prepare t` was accepted, s a later one in which t is live; install and publish see what prepare saw
+pub record HeadKept (s₁ s : Store) (t : ℕ) : Type 0 where
+  pub writes-stay : txnOf s t .writes ≡ txnOf s₁ t .writes
+  pub from-prepared : 4 ≤ rank (txnOf s t .phase)
+  -- Prepared: each pending row has the head that it had, and the same rows get a version
+  pub head-waits : rank (txnOf s t .phase) ≡ 4 → (r : ℕ) → Writes (s₁ .sizes) (txnOf s₁ t) r → s .chains .head r ≡ s₁ .chains .head r
+  pub gets-same : rank (txnOf s t .phase) ≡ 4 → versionRows (s .sizes) (s .chains) (txnOf s t .writes) ≡ versionRows (s₁ .sizes) (s₁ .chains) (txnOf s₁ t .writes)
+  -- Installed or Ended: these got one, over the head that prepare saw, and the others have that head still
+  pub made-same : 5 ≤ rank (txnOf s t .phase) → madeRows (s .sizes) (s .chains) t (txnOf s t .writes) ≡ versionRows (s₁ .sizes) (s₁ .chains) (txnOf s₁ t .writes)
+  pub made-over : 5 ≤ rank (txnOf s t .phase) → (r : ℕ) → Gets (s₁ .sizes) (s₁ .chains) (txnOf s₁ t) r → s .chains .next (s .chains .head r) ≡ s₁ .chains .head r
+  pub head-stays : 5 ≤ rank (txnOf s t .phase) → (r : ℕ) → Writes (s₁ .sizes) (txnOf s₁ t) r → (Gets (s₁ .sizes) (s₁ .chains) (txnOf s₁ t) r → ⊥) → s .chains .head r ≡ s₁ .chains .head r
 
 -- the index reads of each transaction are of distinct buckets: no index read's bucket has a later one
 unfoldable pub Distinct : List IndexRead → Type 0
@@ -104,7 +118,7 @@ pub record HistoryStands (s : Store) (es : List Event) : Type 0 where
   pub stamps-are : (b : ℕ) → s .index .stamp b ≡ stampAt (s .sizes) (λ c. 0) (changing es) b
   pub candidates-are : (k r : ℕ) → member r (postedRows s k) ≡ ltb r (s .sizes .rows) && rawCandidates (postingReplay (postingsOf (λ q. none)) es) k r
   -- what a live transaction sees of a row, unless it sees a version of it that is still unpublished
-  pub snapshots-are : (j r : ℕ) → Live (s .txns j) → ((w : ℕ) → Unpublished (s .sizes) (s .txns w) r → seen (s .txns j .snapshot) (s .chains .xmin (s .chains .head r)) ≡ false)
+  pub snapshots-are : (j r : ℕ) → Live (s .txns j) → ((w : ℕ) → Unpublished (s .sizes) (s .chains) (s .txns w) r → seen (s .txns j .snapshot) (s .chains .xmin (s .chains .head r)) ≡ false)
       → snapshotRows (λ q. none) es (s .txns j) r ≡ keyAt (s .chains) (versionOf (s .chains) (s .txns j .snapshot) r)
 
 -- a live transaction's xmin is the least of its active numbers and its own: so every number below it is seen, and none of these is among the active

@@ -6,8 +6,8 @@ use mathlib.Core.Option.{some}
 use mathlib.Core.List.{List, [], _∷_, _++_}
 use lib.ListN.{length}
 use Rattle.model.specs.Lists.{Among}
-use Rattle.model.specs.Store.{Chains, Write, Txn, Store, bucketIn, bucketOf}
-use Rattle.model.specs.Steps.{pendingRows, neededBuckets, keyBefore, newKey}
+use Rattle.model.specs.Store.{Sizes, Chains, Write, Txn, Store, bucketIn, bucketOf}
+use Rattle.model.specs.Steps.{pendingRows, versionRows, madeRows, neededBuckets, keyBefore, newKey}
 use Rattle.model.specs.Refusals.{Step, begin, capture, collect, rows, put, erase, prepare, install, end, publish, validate, abort, txnOf}
 use Rattle.model.specs.Given.{bucketFor}
 
@@ -28,7 +28,7 @@ clockAfter (abort t) n = n
 
 -- THE VERSIONS
 
--- the rows that get a version: at install the pending ones
+-- the rows that get a version: at install the pending ones that do
 abbrev pub makes : Store → Step → List ℕ
 makes s begin = []
 makes s (capture t k) = []
@@ -37,7 +37,7 @@ makes s (rows t room) = []
 makes s (put t r k payload) = []
 makes s (erase t r) = []
 makes s (prepare t) = []
-makes s (install t) = pendingRows (s .sizes) (txnOf s t .writes)
+makes s (install t) = versionRows (s .sizes) (s .chains) (txnOf s t .writes)
 makes s (end t) = []
 makes s (publish t) = []
 makes s (validate t) = []
@@ -50,6 +50,17 @@ pub record LastWrite (ws : List Write) (r : ℕ) (w : Write) : Type 0 where
   pub stands : ws ≡ earlier ++ (w ∷ later)
   pub row-is : w .row ≡ r
   pub none-later : (v : Write) → Among v later → v .row ≢ r
+
+-- a row is live: its head is a version with a key
+abbrev pub LiveHead : Chains → ℕ → Type 0
+LiveHead c r = (c .head r ≢ 0) × ((k : ℕ) × (c .key (c .head r) ≡ some k))
+
+-- which pending rows get a version: those that are live, and those whose last write is a put
+pub record GetsVersion (z : Sizes) (c : Chains) (x : Txn) (r : ℕ) : Type 0 where
+  pub row-in : r < z .rows
+  pub write : Write
+  pub last : LastWrite (x .writes) r write
+  pub live-or-put : LiveHead c r ⊎ ((k : ℕ) × (write .key ≡ some k))
 
 -- the version made of row r by x: over the old head, from the last write, open
 pub record NewVersion (x : Txn) (c c′ : Chains) (r : ℕ) : Type 0 where
@@ -82,7 +93,7 @@ pub record VersionsAfter (x : Txn) (rs : List ℕ) (c c′ : Chains) : Type 0 wh
 
 -- STAMPS AND POSTINGS
 
--- publish stamps bucket b: it is the bucket of the old or the new key of a pending row where the two differ
+-- publish stamps bucket b: it is the bucket of the old or the new key of a pending row that got a version, where the two differ
 abbrev pub Stamps : Store → Step → ℕ → Type 0
 Stamps s begin b = ⊥
 Stamps s (capture t k) b = ⊥
@@ -93,7 +104,7 @@ Stamps s (erase t r) b = ⊥
 Stamps s (prepare t) b = ⊥
 Stamps s (install t) b = ⊥
 Stamps s (end t) b = ⊥
-Stamps s (publish t) b = (r : ℕ) × Among r (pendingRows (s .sizes) (txnOf s t .writes)) × (keyBefore (s .chains) r ≢ newKey (txnOf s t) r)
+Stamps s (publish t) b = (r : ℕ) × Among r (madeRows (s .sizes) (s .chains) (txnOf s t .number) (txnOf s t .writes)) × (keyBefore (s .chains) r ≢ newKey (txnOf s t) r)
     × ((k : ℕ) × ((keyBefore (s .chains) r ≡ some k) ⊎ (newKey (txnOf s t) r ≡ some k)) × (b ≡ bucketOf (s .sizes) k))
 Stamps s (validate t) b = ⊥
 Stamps s (abort t) b = ⊥

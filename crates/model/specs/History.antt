@@ -1,10 +1,10 @@
--- The history of a run, as upstream keeps it: each accepted publish adds an event for each pending row, ascending; the newest stands first.
+-- The history of a run, as upstream keeps it: each accepted publish adds an event for each pending row that got a version, ascending; the newest stands first.
 use Prim.Native.Nat.{ℕ}
 use mathlib.Core.Bool.{cond}
 use mathlib.Core.List.{List, [], _∷_}
 use lib.Dec.{eqb}
 use Rattle.model.specs.Store.{Txn, Store, sameKey}
-use Rattle.model.specs.Steps.{pendingRows, keyBefore, newKey}
+use Rattle.model.specs.Steps.{madeRows, keyBefore, newKey}
 use Rattle.model.specs.Upstream.{Event}
 use Rattle.model.specs.Refusals.{Step, begin, capture, collect, rows, put, erase, prepare, install, end, publish, validate, abort, txnOf}
 use Rattle.model.specs.Machine.{answerNumber, step}
@@ -28,7 +28,7 @@ stepEvents s (erase t r) older = older
 stepEvents s (prepare t) older = older
 stepEvents s (install t) older = older
 stepEvents s (end t) older = older
-stepEvents s (publish t) older = cond (eqb (answerNumber (step s (publish t) .answer)) 0) (addEvents s (txnOf s t) (pendingRows (s .sizes) (txnOf s t .writes)) older) older
+stepEvents s (publish t) older = cond (eqb (answerNumber (step s (publish t) .answer)) 0) (addEvents s (txnOf s t) (madeRows (s .sizes) (s .chains) (txnOf s t .number) (txnOf s t .writes)) older) older
 stepEvents s (validate t) older = older
 stepEvents s (abort t) older = older
 

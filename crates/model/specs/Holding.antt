@@ -1,13 +1,13 @@
--- What a transaction needs, as facts: buckets while Holding and from Prepared on, its pending rows from Prepared on.
+-- What a transaction needs, as facts: buckets while Holding and from Prepared on, its pending rows from Prepared on; and which of these rows get a version.
 use Prim.Native.Nat.{ℕ, _≤_}
 use mathlib.Core.Path.{_≡_}
 use mathlib.Core.Logic.{_⊎_}
-use mathlib.Core.Option.{Option}
+use mathlib.Core.Option.{Option, none}
 use mathlib.Core.List.{List, _++_}
 use Rattle.model.specs.Lists.{join, Among}
-use Rattle.model.specs.Store.{Sizes, Holding, Txn, rank}
+use Rattle.model.specs.Store.{Sizes, Chains, Holding, Txn, rank}
 use Rattle.model.specs.Seeing.{Live}
-use Rattle.model.specs.Steps.{pendingRows, newKey, keyBuckets, readBuckets}
+use Rattle.model.specs.Steps.{pendingRows, versionRows, madeRows, oldKey, newKey, keyBuckets, readBuckets}
 
 -- r is a pending row of x
 abbrev pub Writes : Sizes → Txn → ℕ → Type 0
@@ -24,6 +24,16 @@ Wants z posted x b = ((k : ℕ) × (x .phase ≡ Holding b k)) ⊎ ((4 ≤ rank 
 abbrev pub Claims : Sizes → Txn → ℕ → Type 0
 Claims z x r = (4 ≤ rank (x .phase)) × Writes z x r
 
--- x has installed row r and not published it
-abbrev pub Unpublished : Sizes → Txn → ℕ → Type 0
-Unpublished z x r = Live x × (5 ≤ rank (x .phase)) × Writes z x r
+-- r is a pending row of x that gets a version; that got one; of which x erases nothing: no live head, and the last write is an erase
+abbrev pub Gets : Sizes → Chains → Txn → ℕ → Type 0
+Gets z c x r = Among r (versionRows z c (x .writes))
+
+abbrev pub Made : Sizes → Chains → Txn → ℕ → Type 0
+Made z c x r = Among r (madeRows z c (x .number) (x .writes))
+
+abbrev pub ErasesNothing : Chains → Txn → ℕ → Type 0
+ErasesNothing c x r = (oldKey c r ≡ none) × (newKey x r ≡ none)
+
+-- x has made a version of row r and not published it
+abbrev pub Unpublished : Sizes → Chains → Txn → ℕ → Type 0
+Unpublished z c x r = Live x × (5 ≤ rank (x .phase)) × Made z c x r

@@ -7,10 +7,10 @@ use lib.Dec.{eqb, ltb, leb}
 use lib.ListN.{length}
 use Rattle.limits.specs.Limits.{mostRows, mostLive, mostIndexReads, mostRecords, mostWrites, lastNumber}
 use Rattle.model.specs.Lists.{pick, first, some-of}
-use Rattle.model.specs.Store.{Sizes, Txn, Store, rank, bucketOf}
+use Rattle.model.specs.Store.{Sizes, Chains, Txn, Store, rank, bucketOf}
 use Rattle.model.specs.Seeing.{live}
 use Rattle.model.specs.Verdict.{verdict, verdictNumber}
-use Rattle.model.specs.Steps.{hasRead, foundRows, recordsAfter, pendingRows, readBuckets, neededBuckets}
+use Rattle.model.specs.Steps.{hasRead, foundRows, recordsAfter, pendingRows, versionRows, readBuckets, neededBuckets}
 
 pub data Refusal : Type 0 where
   WrongSize NoNumbers Full NoSuch WrongPhase NoRow Taken Stale Marked ManyReads NoRoom ManyRecords ManyWrites NoVersions Conflict Malformed WrongShape : Refusal
@@ -65,13 +65,13 @@ liveCount txns = length (pick (λ i. live (txns i)) 0 mostLive)
 unfoldable pub byAnother : (ℕ → ℕ) → ℕ → ℕ → Bool
 byAnother f n j = not (eqb (f j) 0) && not (eqb (f j) n)
 
--- versions reserved by the others Prepared: their distinct pending rows
-unfoldable pub reservedBy : Sizes → Txn → ℕ
-reservedBy z x = cond (live x && eqb (rank (x .phase)) 4) (length (pendingRows z (x .writes))) 0
+-- versions reserved by one who is Prepared: a version for each distinct pending row that gets one
+unfoldable pub reservedBy : Sizes → Chains → Txn → ℕ
+reservedBy z c x = cond (live x && eqb (rank (x .phase)) 4) (length (versionRows z c (x .writes))) 0
 
-unfoldable pub reserved : Sizes → (ℕ → Txn) → ℕ → ℕ
-reserved z txns zero = 0
-reserved z txns (suc n) = reserved z txns n + reservedBy z (txns n)
+unfoldable pub reserved : Sizes → Chains → (ℕ → Txn) → ℕ → ℕ
+reserved z c txns zero = 0
+reserved z c txns (suc n) = reserved z c txns n + reservedBy z c (txns n)
 
 -- put, erase: not marked, a row below the row count, and not a 17th pending write
 abbrev pub writeChecks : Store → ℕ → ℕ → List (Bool × Refusal)
@@ -114,7 +114,7 @@ checks s (erase t r) = found s t (inPhase s t 1) (writeChecks s t r)
 checks s (prepare t) = found s t (inPhase s t 1)
     ((bucketsTaken s t (neededBuckets s (txnOf s t)) || rowsClaimed s t, Taken)
     ∷ (not (eqb (verdictNumber (verdict (s .chains) (s .index) (txnOf s t))) 0), Conflict)
-    ∷ (ltb (s .sizes .versions) (s .chains .used + reserved (s .sizes) (s .txns) mostLive + length (pendingRows (s .sizes) (txnOf s t .writes))), NoVersions)
+    ∷ (ltb (s .sizes .versions) (s .chains .used + reserved (s .sizes) (s .chains) (s .txns) mostLive + length (versionRows (s .sizes) (s .chains) (txnOf s t .writes))), NoVersions)
     ∷ [])
 checks s (install t) = found s t (inPhase s t 4) []
 checks s (end t) = found s t (inPhase s t 5) []

@@ -7,7 +7,7 @@ use Rattle.limits.specs.Limits.{mostRows, mostVersions, mostBuckets, mostLive, 
 use Rattle.model.specs.Lists.{least, every, all-of}
 use Rattle.model.specs.Store.{Sizes, Chains, IndexRead, Write, ReadRecord, Txn, Store, rank, bucketIn}
 use Rattle.model.specs.Seeing.{live}
-use Rattle.model.specs.Steps.{pendingRows}
+use Rattle.model.specs.Steps.{pendingRows, getsVersion, headedBy}
 use Rattle.model.specs.Refusals.{liveCount, reserved}
 
 -- a size is from 1 to the most
@@ -40,9 +40,9 @@ goodRanges z used x =
     && all-of (λ (r : IndexRead). ltb (r .bucket) (z .buckets)) (x .reads)
     && ltb (bucketIn (x .phase)) (z .buckets)
 
--- each pending row of an Installed or Ended transaction headed by a version of that xmin
+-- each pending row of an Installed or Ended transaction headed by a version of that xmin; or its last write is an erase, and it has no live head
 unfoldable pub goodHeads : Sizes → Chains → Txn → Bool
-goodHeads z c x = ltb (rank (x .phase)) 5 || all-of (λ r. leb 1 (c .head r) && eqb (c .xmin (c .head r)) (x .number)) (pendingRows z (x .writes))
+goodHeads z c x = ltb (rank (x .phase)) 5 || all-of (λ r. headedBy c (x .number) r || not (getsVersion c (x .writes) r)) (pendingRows z (x .writes))
 
 -- a live transaction: its number below the clock, snapshot xmin the least of its active numbers and its own
 unfoldable pub goodTxn : Store → Txn → Bool
@@ -65,4 +65,4 @@ rightShape s =
     && every mostLive (λ i. not (live (s .txns i)) || goodTxn s (s .txns i))
     && distinctNumbers (s .txns)
     && leb (s .clock + liveCount (s .txns)) lastNumber
-    && leb (s .chains .used + reserved (s .sizes) (s .txns) mostLive) (s .sizes .versions)
+    && leb (s .chains .used + reserved (s .sizes) (s .chains) (s .txns) mostLive) (s .sizes .versions)

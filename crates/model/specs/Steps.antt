@@ -3,10 +3,10 @@ use Prim.Native.Nat.{ℕ, suc, _+_}
 use mathlib.Core.Bool.{Bool, true, false, cond, _&&_, _||_}
 use mathlib.Core.Option.{Option, none, some}
 use mathlib.Core.List.{List, [], _∷_, _++_, map}
-use lib.Dec.{eqb}
+use lib.Dec.{eqb, leb}
 use Rattle.model.specs.Lists.{member, least, pick, some-of, join}
 use Rattle.model.specs.Table.{update, updateAll}
-use Rattle.model.specs.Store.{Sizes, Chains, Index, Held, Phase, Open, Holding, Collected, Prepared, Installed, IndexRead, Write, ReadRecord, Txn, Store, noTxn, bucketIn, keyIn, sameKey, bucketOf}
+use Rattle.model.specs.Store.{Sizes, Chains, Index, Held, Phase, Open, Holding, Collected, Prepared, Installed, IndexRead, Write, ReadRecord, Txn, Store, noTxn, bucketIn, keyIn, keyed, sameKey, bucketOf}
 use Rattle.model.specs.Seeing.{keyAt, lastWrite, pending, writtenKey, matches, recordOf, activeNumbers}
 
 -- one part of the store, or of a transaction, anew
@@ -147,6 +147,22 @@ keyBefore c r = keyAt c (c .next (c .head r))
 abbrev pub newKey : Txn → ℕ → Option ℕ
 newKey x r = writtenKey (lastWrite (x .writes) r)
 
+-- a pending row gets a version where its head is live or its last write is a put; an erase of nothing gets none
+unfoldable pub getsVersion : Chains → List Write → ℕ → Bool
+getsVersion c ws r = keyed (oldKey c r) || keyed (writtenKey (lastWrite ws r))
+
+-- the distinct pending rows that get a version, ascending
+unfoldable pub versionRows : Sizes → Chains → List Write → List ℕ
+versionRows z c ws = pick (λ r. pending ws r && getsVersion c ws r) 0 (z .rows)
+
+-- a row is headed by a version of transaction n
+unfoldable pub headedBy : Chains → ℕ → ℕ → Bool
+headedBy c n r = leb 1 (c .head r) && eqb (c .xmin (c .head r)) n
+
+-- after install: the distinct pending rows that got a version, ascending
+unfoldable pub madeRows : Sizes → Chains → ℕ → List Write → List ℕ
+madeRows z c n ws = pick (λ r. pending ws r && headedBy c n r) 0 (z .rows)
+
 -- the bucket of a key; no key needs none
 unfoldable pub keyBuckets : Sizes → Option ℕ → List ℕ
 keyBuckets z none = []
@@ -186,23 +202,24 @@ unfoldable pub writtenPayload : Option Write → ℕ
 writtenPayload none = 0
 writtenPayload (some w) = w .payload
 
--- for each distinct pending row, ascending
+-- for each row of a list, in its order
 unfoldable pub pushAll : Txn → List ℕ → Chains → Chains
 pushAll x [] c = c
 pushAll x (r ∷ rs) c = pushAll x rs (push (x .number) r (newKey x r) (writtenPayload (lastWrite (x .writes) r)) c)
 
+-- install: for each distinct pending row that gets a version, ascending
 abbrev pub installed : Store → ℕ → Store
-installed s i = becomes (withChains s (pushAll (s .txns i) (pendingRows (s .sizes) (s .txns i .writes)) (s .chains))) i Installed
+installed s i = becomes (withChains s (pushAll (s .txns i) (versionRows (s .sizes) (s .chains) (s .txns i .writes)) (s .chains))) i Installed
 
 -- publish: postings follow the new keys
 unfoldable pub repost : Txn → List ℕ → (ℕ → Option ℕ) → ℕ → Option ℕ
 repost x rs posted r = cond (member r rs) (newKey x r) (posted r)
 
--- only where old and new key differ do both their buckets get the stamp
+-- only where a row got a version, and its old and new key differ, do both their buckets get the stamp
 unfoldable pub changedBuckets : Store → Txn → List ℕ
 changedBuckets s x =
     join (λ r. cond (sameKey (keyBefore (s .chains) r) (newKey x r)) [] (keyBuckets (s .sizes) (keyBefore (s .chains) r) ++ keyBuckets (s .sizes) (newKey x r)))
-    (pendingRows (s .sizes) (x .writes))
+    (madeRows (s .sizes) (s .chains) (x .number) (x .writes))
 
 abbrev pub publishedIndex : Store → Txn → Index
 publishedIndex s x = record {

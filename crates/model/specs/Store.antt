@@ -125,6 +125,11 @@ keyIn Prepared = 0
 keyIn Installed = 0
 keyIn Ended = 0
 
+-- a key is there
+unfoldable pub keyed : Option ℕ → Bool
+keyed none = false
+keyed (some k) = true
+
 -- two keys, or none: none differs from any key
 unfoldable pub sameKey : Option ℕ → Option ℕ → Bool
 sameKey none none = true

@@ -53,11 +53,11 @@ module _ (versions lists : List ℕ) (count limit used : ℕ) (prepared : List �
       prepare-conflict d = sym (on ∙ rw (a, b, d))
 
       module _ (d : isClear (verdictOf versions buckets lists t) ≡ true) where
-        pub prepare-lacks : lacks lists prepared (t .slot) (t .«writes_n») used limit ≡ true → left (refusedOf t 13) rows buckets ≡ prepareOf versions lists count limit used prepared t rows buckets
+        pub prepare-lacks : lacks rows versions lists prepared (t .slot) (t .«writes_n») used limit ≡ true → left (refusedOf t 13) rows buckets ≡ prepareOf versions lists count limit used prepared t rows buckets
         unfolding prepareWith
         prepare-lacks f = sym (on ∙ rw (a, b, d, f))
 
-        pub prepare-done : lacks lists prepared (t .slot) (t .«writes_n») used limit ≡ false
+        pub prepare-done : lacks rows versions lists prepared (t .slot) (t .«writes_n») used limit ≡ false
             → left (record { answer = tell.Done; txn = withPhase t phase.Prepared }) (claimAll rows (t .number) (rowsWritten lists (t .slot) (t .«writes_n»))) (holdAll buckets (t .number) (front st)) ≡ prepareOf versions lists count limit used prepared t rows buckets
         unfolding prepareWith
         prepare-done f = sym (on ∙ rw (a, b, d, f))

@@ -16,7 +16,7 @@ use Rattle.record.specs.declared.Transaction.{Transaction}
 use Rattle.record.specs.declared.Answered.{Answered}
 use Rattle.holders.specs.Needs.{Listed, pushAll, listedIn, front, readsNeed, rowsWritten, writesNeed}
 use Rattle.holders.specs.Holders.{anyTaken, anyClaimed, holdAll, claimAll}
-use Rattle.install.specs.Install.{pendingInto}
+use Rattle.install.specs.Install.{versionsInto}
 use Rattle.verdict.specs.Judged.{verdictOf}
 
 -- words for the buckets of all index reads and of the old and the new keys of all pending writes
@@ -41,28 +41,28 @@ isClear (verdict.Bucket b captured present) = false
 isClear (verdict.Row r p) = false
 isClear verdict.Mark = false
 
--- how many distinct rows the pending writes of a slot have; at most sixteen
-unfoldable pub distinctIn : List ℕ → ℕ → ℕ → ℕ
-distinctIn lists slot n = min (pendingInto lists slot n (replicate mostWrites 0) .n) mostWrites
+-- how many distinct rows of the pending writes of a slot get a version; at most sixteen
+unfoldable pub versionsIn : List ℕ → List ℕ → List ℕ → ℕ → ℕ → ℕ
+versionsIn rows versions lists slot n = min (versionsInto rows versions lists slot n (replicate mostWrites 0) .n) mostWrites
 
 -- of each slot, of its first pending writes, as many as are said
-unfoldable pub reservedIn : List ℕ → List ℕ → ℕ
-reservedIn lists prepared =
-    distinctIn lists 0 (getD prepared 0 0)
-    + distinctIn lists 1 (getD prepared 1 0)
-    + distinctIn lists 2 (getD prepared 2 0)
-    + distinctIn lists 3 (getD prepared 3 0)
-    + distinctIn lists 4 (getD prepared 4 0)
-    + distinctIn lists 5 (getD prepared 5 0)
-    + distinctIn lists 6 (getD prepared 6 0)
-    + distinctIn lists 7 (getD prepared 7 0)
+unfoldable pub reservedIn : List ℕ → List ℕ → List ℕ → List ℕ → ℕ
+reservedIn rows versions lists prepared =
+    versionsIn rows versions lists 0 (getD prepared 0 0)
+    + versionsIn rows versions lists 1 (getD prepared 1 0)
+    + versionsIn rows versions lists 2 (getD prepared 2 0)
+    + versionsIn rows versions lists 3 (getD prepared 3 0)
+    + versionsIn rows versions lists 4 (getD prepared 4 0)
+    + versionsIn rows versions lists 5 (getD prepared 5 0)
+    + versionsIn rows versions lists 6 (getD prepared 6 0)
+    + versionsIn rows versions lists 7 (getD prepared 7 0)
 
 -- three numbers together are above a limit
 abbrev pub exceeds : ℕ → ℕ → ℕ → ℕ → Bool
 exceeds used reserved own limit = ltb limit (used + reserved + own)
 
-unfoldable pub lacks : List ℕ → List ℕ → ℕ → ℕ → ℕ → ℕ → Bool
-lacks lists prepared slot n used limit = exceeds used (reservedIn lists prepared) (distinctIn lists slot n) limit
+unfoldable pub lacks : List ℕ → List ℕ → List ℕ → List ℕ → ℕ → ℕ → ℕ → ℕ → Bool
+lacks rows versions lists prepared slot n used limit = exceeds used (reservedIn rows versions lists prepared) (versionsIn rows versions lists slot n) limit
 
 -- the buckets that prepare needs, listed
 unfoldable pub neededInto : List ℕ → List ℕ → List ℕ → ℕ → ℕ → ℕ → ℕ → List ℕ → Listed
@@ -83,7 +83,7 @@ prepareWith versions lists limit used prepared t rows buckets needed =
     cond (anyTaken buckets (t .number) (front needed)) (left (refusedOf t 7) rows buckets)
     (cond (anyClaimed rows (t .number) (rowsWritten lists (t .slot) (t .«writes_n»))) (left (refusedOf t 7) rows buckets)
     (cond (not (isClear (verdictOf versions buckets lists t))) (left (refusedOf t 14) rows buckets)
-    (cond (lacks lists prepared (t .slot) (t .«writes_n») used limit) (left (refusedOf t 13) rows buckets)
+    (cond (lacks rows versions lists prepared (t .slot) (t .«writes_n») used limit) (left (refusedOf t 13) rows buckets)
     (left (record { answer = tell.Done; txn = withPhase t phase.Prepared }) (claimAll rows (t .number) (rowsWritten lists (t .slot) (t .«writes_n»))) (holdAll buckets (t .number) (front needed))))))
 
 unfoldable pub prepareOf : List ℕ → List ℕ → ℕ → ℕ → ℕ → List ℕ → Transaction → List ℕ → List ℕ → Left

@@ -6,7 +6,7 @@ use holders::hold_all;
 use holders::push_reads;
 use holders::push_writes;
 use install::MOST_PENDING;
-use install::pending_rows;
+use install::version_rows;
 use limits::MOST_INDEX_READS;
 use limits::MOST_LIVE;
 use limits::MOST_WRITES;
@@ -26,7 +26,7 @@ use verdict::verdict;
 ghost use mathlib.Core.Path.{_≡_};
 ghost use Prim.Native.Nat.{_≤_};
 ghost use Rattle.limits.specs.Limits.{mostWrites};
-ghost use Rattle.prepare.specs.Prepare.{readsTakenIn, validateOf, isClear, distinctIn, reservedIn, exceeds, lacks, neededInto, prepareOf};
+ghost use Rattle.prepare.specs.Prepare.{readsTakenIn, validateOf, isClear, versionsIn, reservedIn, exceeds, lacks, neededInto, prepareOf};
 
 // Words for the buckets of all index reads and of the old and the new keys of all pending writes.
 pub const MOST_NEEDED: usize = (MOST_INDEX_READS + MOST_WRITES + MOST_WRITES) as usize;
@@ -73,30 +73,30 @@ fn is_clear(v: Verdict) -> bool
     }
 }
 
-// How many distinct rows the pending writes of a slot have.
-fn distinct_rows(lists: &[u64], slot: u32, count: u32) -> u64
-    ensures { λ r. ⌜ (r ≡ distinctIn (now (lists .entry)) slot count) × (r ≤ mostWrites) ⌝ }
+// How many distinct rows of the pending writes of a slot get a version.
+fn count_versions(rows: &[u64], versions: &[u64], lists: &[u64], slot: u32, count: u32) -> u64
+    ensures { λ r. ⌜ (r ≡ versionsIn (now (rows .entry)) (now (versions .entry)) (now (lists .entry)) slot count) × (r ≤ mostWrites) ⌝ }
 {
     let mut list = [0u64; MOST_PENDING];
-    let n = pending_rows(lists, slot, count, &mut list);
+    let n = version_rows(rows, versions, lists, slot, count, &mut list);
     if n < MOST_PENDING {
         return n as u64;
     }
     MOST_PENDING as u64
 }
 
-// The versions that Prepared transactions have reserved: of each slot the distinct rows of its first pending writes, as many as `prepared` says.
-pub fn reserved(lists: &[u64], prepared: [u32; MOST_LIVE]) -> u64
-    ensures { λ r. ⌜ r ≡ reservedIn (now (lists .entry)) prepared ⌝ }
+// The versions that Prepared transactions have reserved: of each slot the distinct rows that get one, of its first pending writes, as many as `prepared` says.
+pub fn reserved(rows: &[u64], versions: &[u64], lists: &[u64], prepared: [u32; MOST_LIVE]) -> u64
+    ensures { λ r. ⌜ r ≡ reservedIn (now (rows .entry)) (now (versions .entry)) (now (lists .entry)) prepared ⌝ }
 {
-    distinct_rows(lists, 0, prepared[0])
-        + distinct_rows(lists, 1, prepared[1])
-        + distinct_rows(lists, 2, prepared[2])
-        + distinct_rows(lists, 3, prepared[3])
-        + distinct_rows(lists, 4, prepared[4])
-        + distinct_rows(lists, 5, prepared[5])
-        + distinct_rows(lists, 6, prepared[6])
-        + distinct_rows(lists, 7, prepared[7])
+    count_versions(rows, versions, lists, 0, prepared[0])
+        + count_versions(rows, versions, lists, 1, prepared[1])
+        + count_versions(rows, versions, lists, 2, prepared[2])
+        + count_versions(rows, versions, lists, 3, prepared[3])
+        + count_versions(rows, versions, lists, 4, prepared[4])
+        + count_versions(rows, versions, lists, 5, prepared[5])
+        + count_versions(rows, versions, lists, 6, prepared[6])
+        + count_versions(rows, versions, lists, 7, prepared[7])
 }
 
 // Whether three numbers together are above a limit.
@@ -112,8 +112,10 @@ fn exceed(used: u64, reserved: u64, own: u64, limit: u64) -> bool
     limit - used - reserved < own
 }
 
-// Whether there are too few versions: used, reserved by others, and the own distinct pending rows are above the limit.
+// Whether there are too few versions: used, reserved by others, and the own rows that get one are above the limit.
 fn no_versions(
+    rows: &[u64],
+    versions: &[u64],
     lists: &[u64],
     prepared: [u32; MOST_LIVE],
     slot: u32,
@@ -121,10 +123,10 @@ fn no_versions(
     used: u64,
     version_count: u64,
 ) -> bool
-    ensures { λ r. ⌜ r ≡ lacks (now (lists .entry)) prepared slot count used «version_count» ⌝ }
+    ensures { λ r. ⌜ r ≡ lacks (now (rows .entry)) (now (versions .entry)) (now (lists .entry)) prepared slot count used «version_count» ⌝ }
 {
-    let others = reserved(lists, prepared);
-    let own = distinct_rows(lists, slot, count);
+    let others = reserved(rows, versions, lists, prepared);
+    let own = count_versions(rows, versions, lists, slot, count);
     exceed(used, others, own, version_count)
 }
 
@@ -193,7 +195,16 @@ pub fn prepare(
     if !is_clear(verdict(versions, buckets, lists, t)) {
         return refused(t, CONFLICT);
     }
-    if no_versions(lists, prepared, t.slot, t.writes_n, used, version_count) {
+    if no_versions(
+        rows,
+        versions,
+        lists,
+        prepared,
+        t.slot,
+        t.writes_n,
+        used,
+        version_count,
+    ) {
         return refused(t, NO_VERSIONS);
     }
     hold_all(buckets, &list, n, t.number);

@@ -202,7 +202,7 @@ module _ (z : Sizes) (t : Transaction) (clock used : ℕ) (b : Tables) where
       (λ e. rw e (guard (anyTaken (b .buckets) (t .number) (front (neededInto (b .rows) (b .versions) (b .lists) (z .buckets) (t .slot) (t .«reads_n») (t .«writes_n») (replicate mostNeeded 0)))) (λ e. rw e (inl refl))
       (λ e. rw e (guard (anyClaimed (b .rows) (t .number) (rowsWritten (b .lists) (t .slot) (t .«writes_n»))) (λ e. rw e (inl refl))
       (λ e. rw e (guard (isClear (verdictOf (b .versions) (b .buckets) (b .lists) t))
-      (λ e. rw e (guard (lacks (b .lists) (o .prepared) (t .slot) (t .«writes_n») used (z .versions)) (λ e. rw e (inl refl)) (λ e. rw e refl)))
+      (λ e. rw e (guard (lacks (b .rows) (b .versions) (b .lists) (o .prepared) (t .slot) (t .«writes_n») used (z .versions)) (λ e. rw e (inl refl)) (λ e. rw e refl)))
       (λ e. rw e (inl refl))))))))
 
   answer-kept : (s : Step) (room : ℕ) (rs : List ℕ) (new : List ReadRecord) → Kept s (answerOf (b .lists) (b .found) t room rs new .reply .txn .number ≡ t .number) (inFound (answerOf (b .lists) (b .found) t room rs new) clock used b)

@@ -1,4 +1,4 @@
--- An open and calls that meet the premises of the page of statements: a read that finds a row, another transaction that publishes meanwhile, a clear verdict; and a capture that finds a stale stamp. Assumes nothing.
+-- An open and calls that meet the premises of the page of statements: a read that finds a row, another transaction that publishes meanwhile, a clear verdict; a prepare of erases of something and of nothing; and a capture that finds a stale stamp. Assumes nothing.
 use Prim.Native.Nat.{ℕ}
 use mathlib.Core.Path.{_≡_, refl, ap, _∙_}
 use mathlib.Core.Bool.{true}
@@ -16,11 +16,12 @@ use Rattle.protocol.specs.declared.Step.the-variants as ask
 use Rattle.protocol.specs.declared.Answer.the-variants as tell
 use Rattle.protocol.specs.declared.Verdict.the-variants as verdict
 use Rattle.protocol.specs.View.{told}
+use Rattle.answers.specs.Answers.{numberOf}
 use Rattle.tables.specs.Lists.{listsWords}
 use Rattle.turns.specs.Turns.{openOf}
 use Rattle.promises.specs.Calls.{Call, called}
-use Rattle.promises.specs.Demands.{Opening, openNumber, after, storeAfter, reading, validating}
-use Rattle.promises.proofs.Sequences.{answer-after}
+use Rattle.promises.specs.Demands.{Opening, openNumber, after, storeAfter, reading, validating, preparing}
+use Rattle.promises.proofs.Sequences.{answer-after, number-after}
 
 -- 4 rows, 8 versions and 4 buckets, over tables full of sevens
 abbrev pub o : Opening
@@ -60,6 +61,17 @@ collected = (reached.met .2, reached.met .3)
 pub validated : called (after o (before ++ (reading 3 list ∷ between))) (validating 3) .answer ≡ tell.Judged verdict.Clear
 unfolding run
 validated = answer-after o opens (before ++ (reading 3 list ∷ between)) (validating 3) ∙ ap told (reached.met .4)
+
+-- transaction 3 erases the empty rows 0 and 1, this one after a put, and row 2, which is live; once it is prepared another is installed, and then it is itself: the premises of calls-heads
+abbrev pub erasing : List Call
+erasing = without (ask.Begin ∷ ask.Put 1 2 6 10 ∷ ask.Prepare 1 ∷ ask.Install 1 ∷ ask.End 1 ∷ ask.Publish 1 ∷ ask.Begin ∷ ask.Erase 3 0 ∷ ask.Put 3 1 5 8 ∷ ask.Erase 3 1 ∷ ask.Erase 3 2 ∷ [])
+
+abbrev pub meanwhile : List Call
+meanwhile = without (ask.Begin ∷ ask.Put 4 3 3 7 ∷ ask.Prepare 4 ∷ ask.Install 4 ∷ ask.Install 3 ∷ [])
+
+pub claimed : (numberOf (called (after o erasing) (preparing 3) .answer) ≡ 0) × Lives (storeAfter o (erasing ++ (preparing 3 ∷ meanwhile))) 3
+unfolding run
+claimed = (number-after o opens erasing (preparing 3) ∙ reached.met-heads .0, reached.met-heads .3)
 
 -- the calls after which transaction 3 is marked: the premises of marked-calls
 abbrev pub stale : List Call

@@ -11,8 +11,8 @@ use Rattle.model.specs.Refusals.{Step as Asked, rows, validate, txnOf}
 use Rattle.model.specs.Machine as machine
 use Rattle.model.specs.Machine.{lentAfter, at, step, run, canOpen}
 use Rattle.model.specs.Given.{number, Lives}
-use Rattle.model.specs.Demands.{MarkedOpen, MarkedGives, LeastXmins, StandingRead}
-use Rattle.model.proofs.Promises.{finished-read, validated-read, kept-marked, marked-stops, kept-xmin}
+use Rattle.model.specs.Demands.{HeadKept, MarkedOpen, MarkedGives, LeastXmins, StandingRead}
+use Rattle.model.proofs.Promises.{finished-read, validated-read, kept-heads, kept-marked, marked-stops, kept-xmin}
 use Rattle.protocol.specs.declared.Answer.the-variants as tell
 use Rattle.protocol.specs.declared.Verdict.the-variants as verdict
 use Rattle.protocol.specs.View.{told}
@@ -20,7 +20,7 @@ use Rattle.answers.specs.Answers.{numberOf}
 use Rattle.steps.specs.Words.{sizesView, view}
 use Rattle.bridge.proofs.Running.{Stands}
 use Rattle.promises.specs.Calls.{Call, asking, called, stepsOf}
-use Rattle.promises.specs.Demands.{Opening, openNumber, after, storeAfter, Follows, reading, validating, MarkedCalls, ReadCall}
+use Rattle.promises.specs.Demands.{Opening, openNumber, after, storeAfter, Follows, reading, validating, preparing, MarkedCalls, ReadCall}
 use Rattle.promises.proofs.Opened.{tests, open-stands, open-view}
 use Rattle.promises.proofs.Calls.{stands-typed, sized-fit, called-as, calls-stand, calls-view}
 use Rattle.promises.proofs.Answered.{told-number, told-judged, open-done}
@@ -68,6 +68,9 @@ module _ (o : Opening) (e : openNumber o ≡ 0) where
   pub answer-after : (cs : List Call) (c : Call) → called (after o cs) c .answer ≡ told (step (storeAfter o cs) (asking c) .answer)
   answer-after cs c = rw (after-view cs) at (called-as (after o cs) (after-stands cs) c .answer)
 
+  pub number-after : (cs : List Call) (c : Call) → numberOf (called (after o cs) c .answer) ≡ number (storeAfter o cs) (asking c)
+  number-after cs c = ap numberOf (answer-after cs c) ∙ told-number (step (storeAfter o cs) (asking c) .answer)
+
   found-after : (cs : List Call) (c : Call) → called (after o cs) c .words .tables .found ≡ lentAfter (step (storeAfter o cs) (asking c) .answer) (c .lent)
   found-after cs c = rw (after-view cs) at (called-as (after o cs) (after-stands cs) c .found)
 
@@ -93,13 +96,17 @@ module _ (o : Opening) (e : openNumber o ≡ 0) where
   pub least-xmins : (cs : List Call) → LeastXmins (view (after o cs))
   least-xmins cs = subst LeastXmins (sym (after-view cs)) (kept-xmin (sizesView (o .sizes)) (o .clock) (stepsOf cs) opens (o .clock-in))
 
+  -- ---- what prepare saw
+
+  pub heads : (cs : List Call) (t : ℕ) (more : List Call) → numberOf (called (after o cs) (preparing t) .answer) ≡ 0 → Lives (storeAfter o (cs ++ (preparing t ∷ more))) t → HeadKept (storeAfter o cs) (storeAfter o (cs ++ (preparing t ∷ more))) t
+  heads cs t more z l =
+      let same = steps-after cs (preparing t) more in
+      subst (λ (s : Store). HeadKept (storeAfter o cs) s t) (sym same) (kept-heads (sizesView (o .sizes)) (o .clock) (stepsOf cs) opens (o .clock-in) t (stepsOf more) (sym (number-after cs (preparing t)) ∙ z) (subst (λ (s : Store). Lives s t) same l))
+
   -- ---- a marked transaction
 
   pub marked-open : (cs : List Call) → MarkedOpen (view (after o cs))
   marked-open cs = subst MarkedOpen (sym (after-view cs)) (kept-marked (sizesView (o .sizes)) (o .clock) (stepsOf cs))
-
-  number-after : (cs : List Call) (c : Call) → numberOf (called (after o cs) c .answer) ≡ number (storeAfter o cs) (asking c)
-  number-after cs c = ap numberOf (answer-after cs c) ∙ told-number (step (storeAfter o cs) (asking c) .answer)
 
   pub stops : (cs : List Call) (t : ℕ) → Lives (storeAfter o cs) t → txnOf (storeAfter o cs) t .marked ≡ true → MarkedCalls o cs t
   stops cs t l m =

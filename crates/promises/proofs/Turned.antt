@@ -43,7 +43,7 @@ use Rattle.bridge.proofs.Freeing.{freedAt, free-all, unclaim-all, free-all-leng
 use Rattle.bridge.proofs.Needing.{row-in}
 use Rattle.bridge.proofs.Pushing.{one-up, install-same}
 use Rattle.bridge.proofs.Aborting.{late-test, freedList, freed-in, freed-buckets, abort-chains, abort-index, ended-at}
-use Rattle.bridge.proofs.Publishing.{rowsAfter, bucketsAfter, stamped, stamped-is, freed-is, rows-long, buckets-long, publish-chains, publish-index, holders-freed, claims-freed, clock-below, phase-ended}
+use Rattle.bridge.proofs.Publishing.{rowsAfter, bucketsAfter, stamped, stamped-is, freed-is, rows-long, buckets-long, publish-chains, publish-index, holders-freed, claims-freed, clock-below}
 use Rattle.bridge.proofs.Writing.{end-same, put-same, erase-same}
 use Rattle.bridge.proofs.Judging.{validate-same}
 use Rattle.bridge.proofs.Capturing.{capture-same}
@@ -147,7 +147,7 @@ module _ (w : Words) (z : Sized w) (g : Shaped w) (n : ℕ) where
   published-at l a true e = rw (number-unswept w (standing w n) (tell.Refused 5)) (refused-same w z (standing w n) WrongPhase)
   published-at l a false e =
       let q = standing w n in
-      swept-at w z q l a _ _ (tell.Stamp (w .clock)) (machine.Stamp (w .clock)) (oneMore (w .clock)) (suc (w .clock)) _ _ _ (one-up (w .clock) (clock-below w g q l a)) (publish-chains w z q) (publish-index w z g q a (phase-ended (phaseView (txnAt w q .phase)) e))
+      swept-at w z q l a _ _ (tell.Stamp (w .clock)) (machine.Stamp (w .clock)) (oneMore (w .clock)) (suc (w .clock)) _ _ _ (one-up (w .clock) (clock-below w g q l a)) (publish-chains w z q) (publish-index w z g q a)
       (swept-freed w z q l a _ _ _ _ (holders-freed w z g q a) (claims-freed w z g q a)) (rows-long w z q) (buckets-long w z q) refl refl
 
   publish-turned : SameAs w (ask.Publish n) (turnedBy w (ask.Publish n))

@@ -82,12 +82,15 @@ pub record Follows (o : Opening) (cs : List Call) : Type 0 where
   pub fits : tablesFit (after o cs) ≡ true
   pub stands-for : view (after o cs) ≡ storeAfter o cs
 
--- a read into a list, and a validation
+-- a read into a list, a validation, and a prepare
 abbrev pub reading : ℕ → List ℕ → Call
 reading t lent = record { asks = ask.Rows t (length lent); lent = lent }
 
 abbrev pub validating : ℕ → Call
 validating t = record { asks = ask.Validate t; lent = [] }
+
+abbrev pub preparing : ℕ → Call
+preparing t = record { asks = ask.Prepare t; lent = [] }
 
 -- no more work in a marked transaction, after an accepted open and any calls: the number of each call that names it, and validate's verdict; its record stays as it is, whatever calls come, until one aborts it
 pub record MarkedCalls (o : Opening) (cs : List Call) (t : ℕ) : Type 0 where

@@ -24,7 +24,7 @@ module _ (rows versions lists : List ℕ) (count : ℕ) where
   unfolding freedIn neededIn
   freed-made installed bucket slot reads writes number buckets st₁ st₂ st₃ a b d = rw (three _ st₁ st₂ st₃ bucket _ _ a b d)
 
-  pub stamped-made : (slot writes stamp : ℕ) (buckets : List ℕ) (st : Listed) → st ≡ pushAll (record { out = replicate mostHeld 0; n = 0 }) (writesChange rows versions lists count slot writes)
-      → stampAll buckets stamp (take (st .n) (st .out)) ≡ stampedIn rows versions lists count slot writes stamp buckets
+  pub stamped-made : (number slot writes stamp : ℕ) (buckets : List ℕ) (st : Listed) → st ≡ pushAll (record { out = replicate mostHeld 0; n = 0 }) (writesChange rows versions lists count number slot writes)
+      → stampAll buckets stamp (take (st .n) (st .out)) ≡ stampedIn rows versions lists count number slot writes stamp buckets
   unfolding stampedIn
-  stamped-made slot writes stamp buckets st e = rw e
+  stamped-made number slot writes stamp buckets st e = rw e

@@ -33,8 +33,8 @@ abbrev pub mostHeld : ℕ
 mostHeld = mostIndexReads + mostWrites + mostWrites + 1
 
 -- the buckets of the pending rows whose key changed get the stamp
-unfoldable pub stampedIn : List ℕ → List ℕ → List ℕ → ℕ → ℕ → ℕ → ℕ → List ℕ → List ℕ
-stampedIn rows versions lists count slot n stamp buckets = stampAll buckets stamp (front (listedIn mostHeld (writesChange rows versions lists count slot n)))
+unfoldable pub stampedIn : List ℕ → List ℕ → List ℕ → ℕ → ℕ → ℕ → ℕ → ℕ → List ℕ → List ℕ
+stampedIn rows versions lists count number slot n stamp buckets = stampAll buckets stamp (front (listedIn mostHeld (writesChange rows versions lists count number slot n)))
 
 -- what a transaction needs of the buckets
 unfoldable pub neededIn : List ℕ → List ℕ → List ℕ → ℕ → Bool → ℕ → ℕ → ℕ → ℕ → List ℕ
@@ -56,7 +56,7 @@ publishOf versions lists count clock t rows buckets =
     (record {
       reply = record { answer = tell.Stamp clock; txn = idleOf (t .slot) };
       rows = unclaimAll (postedAll lists (t .slot) (t .«writes_n») rows (rowsWritten lists (t .slot) (t .«writes_n»))) (t .number) (rowsWritten lists (t .slot) (t .«writes_n»));
-      buckets = freedIn rows versions lists count true (bucketIn (phaseView (t .phase))) (t .slot) (t .«reads_n») (t .«writes_n») (t .number) (stampedIn rows versions lists count (t .slot) (t .«writes_n») clock buckets);
+      buckets = freedIn rows versions lists count true (bucketIn (phaseView (t .phase))) (t .slot) (t .«reads_n») (t .«writes_n») (t .number) (stampedIn rows versions lists count (t .number) (t .slot) (t .«writes_n») clock buckets);
     })
 
 -- abort: wrong phase; else buckets and claims are freed, and the record ends

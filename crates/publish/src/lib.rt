@@ -64,18 +64,19 @@ fn post_all(rows: &mut [u64], lists: &[u64], slot: u32, count: u32)
     }
 }
 
-// Only where old and new key differ do both their buckets get the stamp.
+// Only where a version was made and old and new key differ do both their buckets get the stamp.
 fn stamp_changes(
     rows: &[u64],
     versions: &[u64],
     buckets: &mut [u64],
     lists: &[u64],
     bucket_count: u64,
+    number: u64,
     slot: u32,
     count: u32,
     stamp: u64,
 )
-    ensures { λ _. ⌜ now (buckets .exit) ≡ stampedIn (now (rows .entry)) (now (versions .entry)) (now (lists .entry)) «bucket_count» slot count stamp (now (buckets .entry)) ⌝ }
+    ensures { λ _. ⌜ now (buckets .exit) ≡ stampedIn (now (rows .entry)) (now (versions .entry)) (now (lists .entry)) «bucket_count» number slot count stamp (now (buckets .entry)) ⌝ }
 {
     let mut list = [0u64; MOST_HELD];
     let n = push_changes(
@@ -83,6 +84,7 @@ fn stamp_changes(
         versions,
         lists,
         bucket_count,
+        number,
         slot,
         count,
         &mut list,
@@ -146,6 +148,7 @@ pub fn publish(
         buckets,
         lists,
         bucket_count,
+        t.number,
         t.slot,
         t.writes_n,
         clock,

@@ -4,35 +4,38 @@ use Prim.Native.Nat.{ℕ, zero, suc, _+_, _*_, _≤_, _<_}
 use mathlib.Core.Path.{_≡_, refl, sym, ap, _∙_}
 use mathlib.Core.Bool.{Bool, true, false, cond, not, _&&_, _||_}
 use mathlib.Core.Logic.{inl, inr}
+use mathlib.Core.Option.{none}
 use mathlib.Core.List.{List, [], _∷_, _++_, map}
 use native.Mathlib.Nat.{zero-add}
 use native.Mathlib.Omega.{arith}
 use lib.Dec.{eqb, ltb, leb}
-use lib.ListN.{length, take, getD, length-map, length-take, List·getD-map}
+use lib.ListN.{length, take, drop, getD, replicate, length-map, length-take, List·getD-map}
+use lib.Seq.{take-at}
 use borrow.Author.Tests.{eqb-true, ltb-true, leb-true, le-leb}
 use Rattle.limits.specs.Limits.{mostLive, mostActive, mostIndexReads, mostWrites, mostRows, lastNumber}
 use Rattle.model.specs.Lists.{pick, every, all-of, Among}
 use Rattle.model.specs.Store as model
-use Rattle.model.specs.Seeing.{live}
-use Rattle.model.specs.Steps.{pendingRows}
+use Rattle.model.specs.Seeing.{live, keyAt}
+use Rattle.model.specs.Steps as steps
+use Rattle.model.specs.Steps.{pendingRows, oldKey, getsVersion, versionRows}
 use Rattle.model.specs.Refusals.{liveCount, reservedBy, reserved}
 use Rattle.model.specs.Shape.{within, goodSizes, goodChains, goodCounts, goodRanges, goodHeads, goodTxn, distinctNumbers, rightShape}
 use Rattle.model.proofs.ListLaws.{and-l, and-r, same-test, each-all, every-each}
 use Rattle.model.proofs.Ranges.{good-sized}
-use Rattle.tables.specs.Fields.{headOf, xminOf, nextOf}
+use Rattle.tables.specs.Fields as fields
+use Rattle.tables.specs.Fields.{headOf, nextOf}
 use Rattle.tables.specs.Lists.{Kind, reads, writes, records, startOf, readOf, writeOf, recordOf, candidateOf, candidates, entryAt, listAt}
 use Rattle.tables.specs.Regions.{words, listOf}
 use Rattle.tables.specs.declared.lists.Write.{Write}
 use Rattle.tables.proofs.Parts.{part-field}
 use Rattle.tables.proofs.Spans.{list-length, list-map}
-use Rattle.buckets.specs.Buckets.{canonicalOf}
 use Rattle.buckets.proofs.Sorted.{buckets-no-longer}
-use Rattle.record.specs.View.{phaseView, readView, writeView, recordView, txnView, rowsPart, versionsPart, chainsView}
+use Rattle.record.specs.View.{keyView, phaseView, readView, writeView, recordView, txnView, rowsPart, versionsPart, chainsView}
 use Rattle.record.specs.Methods.{idleOf}
 use Rattle.record.specs.declared.Transaction.{Transaction}
-use Rattle.holders.specs.Needs.{pushAll, rowsWritten}
-use Rattle.install.specs.Install.{rowsListed, pendingInto}
-use Rattle.prepare.specs.Prepare.{distinctIn, reservedIn}
+use Rattle.holders.specs.Keys.{keyOf, versionKey, oldKeyOf, headedBy}
+use Rattle.holders.specs.Needs.{rowsWritten}
+use Rattle.prepare.specs.Prepare.{versionsIn, reservedIn}
 use Rattle.places.specs.declared.Sizes.{Sizes}
 use Rattle.places.specs.Places.{preparedCount, liveIn}
 use Rattle.steps.specs.Words.{Words, sizesView, txnAt, view, othersIn}
@@ -40,10 +43,11 @@ use Rattle.bridge.proofs.Places.{number-at}
 use Rattle.bridge.proofs.Listing.{all-each, every-at}
 use Rattle.bridge.proofs.Starting.{nonzero, pick-nonzero, live-nonzero}
 use Rattle.bridge.proofs.Needing.{written-pending, pending-written}
-use Rattle.bridge.proofs.Distinct.{sorted-pending, listed-pending}
+use Rattle.bridge.proofs.Distinct.{sorted-pending, listed-pending, gets-same, version-count, versions-fewer}
+use Rattle.bridge.proofs.Preparing.{none-reserved}
 use Rattle.shape.specs.Shape.{tablesLent, inPlace, allInPlace, tablesFit, shapeOf}
 use Rattle.links.specs.Links.{chainsFit}
-use Rattle.fits.specs.Fits.{countsFit, writesIn, rangesFit, headedBy, headsFit, leastOf, txnFits, placeFits}
+use Rattle.fits.specs.Fits.{countsFit, writesIn, rangesFit, rowFits, headsFit, leastOf, txnFits, placeFits}
 use Rattle.shape.specs.Tests.{txnsFit, unlike, distinctAt, allDistinct}
 
 -- the second test matters only where the first holds
@@ -131,26 +135,49 @@ module _ (xs : List ℕ) (t : Transaction) where
 
 -- where pointers are in the part of the table that its size names
 module _ (rows versions xs : List ℕ) (z : Sizes) (used : ℕ) (room : used ≤ z .versions) (heads : (r : ℕ) → r < z .rows → headOf rows r ≤ used) (t : Transaction) where
-  headed-same : (r : ℕ) → r < z .rows
-      → leb 1 (headOf (rowsPart (sizesView z) rows) r) && eqb (xminOf (versionsPart (sizesView z) versions) (headOf (rowsPart (sizesView z) rows) r)) (t .number)
-      ≡ headedBy rows versions (t .number) r
+  abbrev chains : model.Chains
+  chains = chainsView (rowsPart (sizesView z) rows) (versionsPart (sizesView z) versions) used
+
+  headed-same : (r : ℕ) → r < z .rows → steps.headedBy chains (t .number) r ≡ headedBy rows versions (t .number) r
+  unfolding steps.headedBy headedBy
   headed-same r h = rw (part-field 4 0 (z .rows) rows r (omega arith) h, part-field 6 0 (suc (z .versions)) versions (headOf rows r) (omega arith) (omega (arith, heads r h)))
 
-  heads-same : writesIn xs (t .slot) (t .«writes_n») (z .rows) ≡ true
-      → goodHeads (sizesView z) (chainsView (rowsPart (sizesView z) rows) (versionsPart (sizesView z) versions) used) (txnView xs t) ≡ headsFit rows versions xs t
+  -- the key of a row's head
+  pub head-key : (r : ℕ) → r < z .rows → keyOf (oldKeyOf rows versions false r) ≡ oldKey chains r
+  unfolding oldKeyOf versionKey keyAt
+  head-key r h =
+      rw (part-field 4 0 (z .rows) rows r (omega arith) h, part-field 6 3 (suc (z .versions)) versions (headOf rows r) (omega arith) (omega (arith, heads r h)), part-field 6 4 (suc (z .versions)) versions (headOf rows r) (omega arith) (omega (arith, heads r h)))
+      (by (eqb (headOf rows r) 0))
+    where
+      by : (b : Bool) → keyOf (cond b (record { keyed = 0; key = 0 }) (record { keyed = fields.keyedOf versions (headOf rows r); key = fields.keyOf versions (headOf rows r) }))
+          ≡ cond b none (keyView (fields.keyedOf versions (headOf rows r)) (fields.keyOf versions (headOf rows r)))
+      by true = refl
+      by false = refl
+
+  row-same : t .«writes_n» ≤ mostWrites → (r : ℕ) → r < z .rows → steps.headedBy chains (t .number) r || not (getsVersion chains (txnView xs t .writes) r) ≡ rowFits rows versions xs (t .slot) (t .«writes_n») (t .number) r
+  row-same few r h = rw (headed-same r h, gets-same rows versions xs t chains r few (head-key r h))
+
+  heads-same : t .«writes_n» ≤ mostWrites → writesIn xs (t .slot) (t .«writes_n») (z .rows) ≡ true → goodHeads (sizesView z) chains (txnView xs t) ≡ headsFit rows versions xs t
   unfolding goodHeads headsFit
-  heads-same e =
+  heads-same few e =
       let rs = rowsWritten xs (t .slot) (t .«writes_n») in
       let below = rows-below xs t (z .rows) e in
-      let part : ℕ → Bool = λ r. leb 1 (headOf (rowsPart (sizesView z) rows) r) && eqb (xminOf (versionsPart (sizesView z) versions) (headOf (rowsPart (sizesView z) rows) r)) (t .number) in
+      let part : ℕ → Bool = λ r. steps.headedBy chains (t .number) r || not (getsVersion chains (txnView xs t .writes) r) in
+      let fit : ℕ → Bool = rowFits rows versions xs (t .slot) (t .«writes_n») (t .number) in
       ap (λ (b : Bool). ltb (model.rank (phaseView (t .phase))) 5 || b)
       (all-both part (pendingRows (sizesView z) (txnView xs t .writes)) rs (λ r m. pending-written xs (t .slot) (t .«writes_n») (sizesView z) r m) (λ r m. written-pending xs (t .slot) (t .«writes_n») (sizesView z) r (below r m) m)
-      ∙ (all-same part (headedBy rows versions (t .number)) rs (λ r m. headed-same r (below r m))
-      ∙ entries (λ (w : Write). w .row) writeOf writes xs (t .slot) (t .«writes_n») (headedBy rows versions (t .number))))
+      ∙ (all-same part fit rs (λ r m. row-same few r (below r m))
+      ∙ entries (λ (w : Write). w .row) writeOf writes xs (t .slot) (t .«writes_n») fit))
 
 -- a live transaction's number and snapshot; its counts and ranges
 abbrev seenFits : ℕ → Transaction → Bool
 seenFits clock t = ltb (t .number) clock && eqb (t .snapshot .xmin) (leastOf t)
+
+few-in : (clock : ℕ) (xs : List ℕ) (z : Sizes) (used : ℕ) (t : Transaction) → seenFits clock t && countsFit t && rangesFit xs z used t ≡ true → t .«writes_n» ≤ mostWrites
+few-in clock xs z used t f =
+    let counts = and-r (seenFits clock t) (countsFit t) (and-l (seenFits clock t && countsFit t) (rangesFit xs z used t) f) in
+    let two = and-l (leb (t .«reads_n») mostIndexReads && leb (t .«writes_n») mostWrites) _ (and-l _ (leb (t .«candidates_n») mostRows) counts) in
+    leb-true (t .«writes_n») mostWrites (and-r (leb (t .«reads_n») mostIndexReads) _ two)
 
 module _ (rows versions xs : List ℕ) (z : Sizes) (clock used : ℕ) (t : Transaction) (e : txnFits rows versions xs z clock used t ≡ true) where
   front-fits : seenFits clock t && countsFit t && rangesFit xs z used t ≡ true
@@ -158,28 +185,25 @@ module _ (rows versions xs : List ℕ) (z : Sizes) (clock used : ℕ) (t : Trans
   front-fits = and-l (seenFits clock t && countsFit t && rangesFit xs z used t) (headsFit rows versions xs t) e
 
   few-writes : t .«writes_n» ≤ mostWrites
-  few-writes =
-      let counts = and-r (seenFits clock t) (countsFit t) (and-l (seenFits clock t && countsFit t) (rangesFit xs z used t) front-fits) in
-      let two = and-l (leb (t .«reads_n») mostIndexReads && leb (t .«writes_n») mostWrites) _ (and-l _ (leb (t .«candidates_n») mostRows) counts) in
-      leb-true (t .«writes_n») mostWrites (and-r (leb (t .«reads_n») mostIndexReads) _ two)
+  few-writes = few-in clock xs z used t front-fits
 
   writes-fit : writesIn xs (t .slot) (t .«writes_n») (z .rows) ≡ true
   writes-fit = writes-true xs t z used (and-r (seenFits clock t && countsFit t) (rangesFit xs z used t) front-fits)
 
 -- how many versions a Prepared transaction has reserved
-none-distinct : (xs : List ℕ) (s : ℕ) → distinctIn xs s 0 ≡ 0
-unfolding distinctIn pendingInto rowsListed pushAll listOf canonicalOf
-none-distinct xs s = refl
-
-distinct-count : (xs : List ℕ) (t : Transaction) (z : Sizes) → z .rows ≤ 256 → t .«writes_n» ≤ mostWrites → writesIn xs (t .slot) (t .«writes_n») (z .rows) ≡ true
-    → distinctIn xs (t .slot) (t .«writes_n») ≡ length (pendingRows (sizesView z) (txnView xs t .writes))
-unfolding distinctIn
-distinct-count xs t z most few e =
-    let rs = rowsWritten xs (t .slot) (t .«writes_n») in
-    let below = rows-below xs t (z .rows) e in
-    let n = entries-length (λ (w : Write). w .row) writeOf writes xs (t .slot) (t .«writes_n») in
-    rw (listed-pending xs (t .slot) (t .«writes_n») (sizesView z) below (omega arith) (omega (arith, n)))
-    (omega (arith, ap length (sorted-pending xs (t .slot) (t .«writes_n») (sizesView z) below), buckets-no-longer rs, n))
+module _ (rows versions xs : List ℕ) (z : Sizes) (used : ℕ) (room : used ≤ z .versions) (heads : (r : ℕ) → r < z .rows → headOf rows r ≤ used) (t : Transaction) where
+  versions-count : z .rows ≤ 256 → t .«writes_n» ≤ mostWrites → writesIn xs (t .slot) (t .«writes_n») (z .rows) ≡ true
+      → versionsIn rows versions xs (t .slot) (t .«writes_n») ≡ length (versionRows (sizesView z) (chains rows versions xs z used room heads t) (txnView xs t .writes))
+  unfolding versionsIn
+  versions-count most few e =
+      let c = chains rows versions xs z used room heads t in
+      let rs = rowsWritten xs (t .slot) (t .«writes_n») in
+      let ps = pendingRows (sizesView z) (txnView xs t .writes) in
+      let below = rows-below xs t (z .rows) e in
+      let n = entries-length (λ (w : Write). w .row) writeOf writes xs (t .slot) (t .«writes_n») in
+      let into = listed-pending xs (t .slot) (t .«writes_n») (sizesView z) below (omega arith) (omega (arith, n)) in
+      let m : length (versionRows (sizesView z) c (txnView xs t .writes)) ≤ mostWrites = omega (arith, versions-fewer (sizesView z) c (txnView xs t .writes), ap length (sorted-pending xs (t .slot) (t .«writes_n») (sizesView z) below), buckets-no-longer rs, n) in
+      rw (version-count rows versions xs t (sizesView z) c few (head-key rows versions xs z used room heads t) (rw into (take-at ps (drop (length ps) (replicate mostWrites 0)) (length ps) refl)) m) (omega arith)
 
 -- ---- the whole
 
@@ -193,7 +217,7 @@ tested w =
     && txnsFit (w .tables .rows) (w .tables .versions) (w .tables .lists) (w .sizes) (w .clock) (w .used) (w .txns)
     && allDistinct (othersIn (w .txns) .numbers)
     && leb (w .clock + liveIn (othersIn (w .txns) .numbers)) lastNumber
-    && leb (w .used + reservedIn (w .tables .lists) (othersIn (w .txns) .prepared)) (w .sizes .versions))
+    && leb (w .used + reservedIn (w .tables .rows) (w .tables .versions) (w .tables .lists) (othersIn (w .txns) .prepared)) (w .sizes .versions))
 
 module _ (w : Words) where
   chains-same : goodChains (sizesView (w .sizes)) (view w .chains) ≡ chainsFit (w .tables .rows) (w .tables .versions) (w .sizes) (w .used)
@@ -245,7 +269,7 @@ module _ (w : Words) where
         let heads : (r : ℕ) → r < w .sizes .rows → headOf (w .tables .rows) r ≤ w .used = λ r l. leb-true _ (w .used) (every-at (w .sizes .rows) (λ r. leb (headOf (w .tables .rows) r) (w .used)) (and-r (leb (w .used) (w .sizes .versions)) _ first) r l) in
         and-same _ _ _ _
         (and-same _ _ _ _ (and-same (seenFits (w .clock) t) _ _ _ refl (λ e. counts-same (w .tables .lists) t (few-active i h))) (λ e. ranges-same (w .tables .lists) t (w .sizes) (w .used)))
-        (λ e. heads-same (w .tables .rows) (w .tables .versions) (w .tables .lists) (w .sizes) (w .used) (leb-true (w .used) (w .sizes .versions) (and-l _ _ first)) heads t (writes-true (w .tables .lists) t (w .sizes) (w .used) (and-r (seenFits (w .clock) t && countsFit t) _ e)))
+        (λ e. heads-same (w .tables .rows) (w .tables .versions) (w .tables .lists) (w .sizes) (w .used) (leb-true (w .used) (w .sizes .versions) (and-l _ _ first)) heads t (few-in (w .clock) (w .tables .lists) (w .sizes) (w .used) t e) (writes-true (w .tables .lists) t (w .sizes) (w .used) (and-r (seenFits (w .clock) t && countsFit t) _ e)))
 
     txns-same : chainsFit (w .tables .rows) (w .tables .versions) (w .sizes) (w .used) ≡ true
         → every mostLive (λ i. not (live (view w .txns i)) || goodTxn (view w) (view w .txns i)) ≡ txnsFit (w .tables .rows) (w .tables .versions) (w .tables .lists) (w .sizes) (w .clock) (w .used) (w .txns)
@@ -256,28 +280,37 @@ module _ (w : Words) where
         go true x y e = refl
         go false x y e = e
 
-    module _ (sizes : goodSizes (sizesView (w .sizes)) ≡ true) (txns : txnsFit (w .tables .rows) (w .tables .versions) (w .tables .lists) (w .sizes) (w .clock) (w .used) (w .txns) ≡ true) where
+    module _ (sizes : goodSizes (sizesView (w .sizes)) ≡ true) (chainsGood : chainsFit (w .tables .rows) (w .tables .versions) (w .sizes) (w .used) ≡ true) (txns : txnsFit (w .tables .rows) (w .tables .versions) (w .tables .lists) (w .sizes) (w .clock) (w .used) (w .txns) ≡ true) where
+      first : leb (w .used) (w .sizes .versions) && every (w .sizes .rows) (λ r. leb (headOf (w .tables .rows) r) (w .used)) ≡ true
+      first = and-l (leb (w .used) (w .sizes .versions) && every (w .sizes .rows) (λ r. leb (headOf (w .tables .rows) r) (w .used))) _ chainsGood
+
+      room : w .used ≤ w .sizes .versions
+      room = leb-true (w .used) (w .sizes .versions) (and-l _ _ first)
+
+      heads : (r : ℕ) → r < w .sizes .rows → headOf (w .tables .rows) r ≤ w .used
+      heads r l = leb-true _ (w .used) (every-at (w .sizes .rows) (λ r. leb (headOf (w .tables .rows) r) (w .used)) (and-r (leb (w .used) (w .sizes .versions)) _ first) r l)
+
       live-fits : (i : ℕ) → i < mostLive → eqb (txnAt w i .number) 0 ≡ false → txnFits (w .tables .rows) (w .tables .versions) (w .tables .lists) (w .sizes) (w .clock) (w .used) (txnAt w i) ≡ true
       unfolding placeFits
       live-fits i h e = rw e at (every-at mostLive (λ i. placeFits (w .tables .rows) (w .tables .versions) (w .tables .lists) (w .sizes) (w .clock) (w .used) (txnAt w i)) txns i h)
 
-      count-same : (i : ℕ) → i < mostLive → eqb (txnAt w i .number) 0 ≡ false → distinctIn (w .tables .lists) i (txnAt w i .«writes_n») ≡ length (pendingRows (sizesView (w .sizes)) (view w .txns i .writes))
+      count-same : (i : ℕ) → i < mostLive → eqb (txnAt w i .number) 0 ≡ false → versionsIn (w .tables .rows) (w .tables .versions) (w .tables .lists) i (txnAt w i .«writes_n») ≡ length (versionRows (sizesView (w .sizes)) (view w .chains) (view w .txns i .writes))
       count-same i h e =
           let t = txnAt w i in
           let fits = live-fits i h e in
-          ap (λ (j : ℕ). distinctIn (w .tables .lists) j (t .«writes_n»)) (sym (own-slot i h))
-          ∙ distinct-count (w .tables .lists) t (w .sizes) (good-sized (sizesView (w .sizes)) sizes .rows-most) (few-writes _ _ (w .tables .lists) (w .sizes) (w .clock) (w .used) t fits) (writes-fit _ _ (w .tables .lists) (w .sizes) (w .clock) (w .used) t fits)
+          ap (λ (j : ℕ). versionsIn (w .tables .rows) (w .tables .versions) (w .tables .lists) j (t .«writes_n»)) (sym (own-slot i h))
+          ∙ versions-count (w .tables .rows) (w .tables .versions) (w .tables .lists) (w .sizes) (w .used) room heads t (good-sized (sizesView (w .sizes)) sizes .rows-most) (few-writes _ _ (w .tables .lists) (w .sizes) (w .clock) (w .used) t fits) (writes-fit _ _ (w .tables .lists) (w .sizes) (w .clock) (w .used) t fits)
 
-      reserved-one : (i : ℕ) → i < mostLive → distinctIn (w .tables .lists) i (getD (othersIn (w .txns) .prepared) i 0) ≡ reservedBy (sizesView (w .sizes)) (view w .txns i)
+      reserved-one : (i : ℕ) → i < mostLive → versionsIn (w .tables .rows) (w .tables .versions) (w .tables .lists) i (getD (othersIn (w .txns) .prepared) i 0) ≡ reservedBy (sizesView (w .sizes)) (view w .chains) (view w .txns i)
       unfolding reservedBy
       reserved-one i h = rw (List·getD-map (λ (t : Transaction). preparedCount (t .number) (t .phase) (t .«writes_n»)) (w .txns) i (idleOf i)) (go (eqb (txnAt w i .number) 0) refl (eqb (model.rank (phaseView (txnAt w i .phase))) 4))
         where
-          go : (b : Bool) → eqb (txnAt w i .number) 0 ≡ b → (c : Bool) → distinctIn (w .tables .lists) i (cond b 0 (cond c (txnAt w i .«writes_n») 0)) ≡ cond (not b && c) (length (pendingRows (sizesView (w .sizes)) (view w .txns i .writes))) 0
-          go true e c = none-distinct (w .tables .lists) i
-          go false e false = none-distinct (w .tables .lists) i
+          go : (b : Bool) → eqb (txnAt w i .number) 0 ≡ b → (c : Bool) → versionsIn (w .tables .rows) (w .tables .versions) (w .tables .lists) i (cond b 0 (cond c (txnAt w i .«writes_n») 0)) ≡ cond (not b && c) (length (versionRows (sizesView (w .sizes)) (view w .chains) (view w .txns i .writes))) 0
+          go true e c = none-reserved (w .tables .rows) (w .tables .versions) (w .tables .lists) i
+          go false e false = none-reserved (w .tables .rows) (w .tables .versions) (w .tables .lists) i
           go false e true = count-same i h e
 
-      reserved-same : reservedIn (w .tables .lists) (othersIn (w .txns) .prepared) ≡ reserved (sizesView (w .sizes)) (view w .txns) mostLive
+      reserved-same : reservedIn (w .tables .rows) (w .tables .versions) (w .tables .lists) (othersIn (w .txns) .prepared) ≡ reserved (sizesView (w .sizes)) (view w .chains) (view w .txns) mostLive
       unfolding reservedIn reserved
       reserved-same = omega (arith, reserved-one 0 (omega arith), reserved-one 1 (omega arith), reserved-one 2 (omega arith), reserved-one 3 (omega arith), reserved-one 4 (omega arith), reserved-one 5 (omega arith), reserved-one 6 (omega arith), reserved-one 7 (omega arith))
 
@@ -302,4 +335,4 @@ module _ (w : Words) where
       (λ e.
       let front : sizes && chains && txns ≡ true = and-l _ _ (and-l _ _ e) in
       let good = and-l (goodSizes (sizesView (w .sizes))) (leb 1 (w .clock)) (and-l sizes chains (and-l (sizes && chains) txns front)) in
-      ap (λ (n : ℕ). leb (w .used + n) (w .sizes .versions)) (sym (reserved-same places good (and-r (sizes && chains) txns front)))))
+      ap (λ (n : ℕ). leb (w .used + n) (w .sizes .versions)) (sym (reserved-same places good (and-r sizes chains (and-l (sizes && chains) txns front)) (and-r (sizes && chains) txns front)))))

@@ -218,5 +218,9 @@ pub fn right_shape(
     if !sum_within(m.clock, live_count(numbers), LAST_NUMBER) {
         return false;
     }
-    sum_within(m.used, reserved(lists, prepared), sizes.versions)
+    sum_within(
+        m.used,
+        reserved(rows_table, versions, lists, prepared),
+        sizes.versions,
+    )
 }

@@ -2,19 +2,24 @@
 -- Assumes nothing.
 use Prim.Native.Nat.{ℕ}
 use mathlib.Core.Path.{refl}
-use mathlib.Core.Bool.{Bool, _&&_, _||_}
+use mathlib.Core.Bool.{Bool, true, _&&_, _||_}
 use mathlib.Core.List.{List, []}
 use lib.Dec.{eqb, ltb, leb}
 use Rattle.limits.specs.Limits.{mostIndexReads, mostWrites, mostRecords, mostRows}
+use Rattle.model.specs.Lists.{every}
+use Rattle.model.specs.Store.{rank}
+use Rattle.tables.specs.Lists.{writeAt}
+use Rattle.record.specs.View.{phaseView}
 use Rattle.record.specs.Methods.{withWrites}
 use Rattle.record.specs.declared.Phase.the-variants as phase
 use Rattle.record.specs.declared.Transaction.{Transaction}
 use Rattle.places.specs.declared.Sizes.{Sizes}
+use Rattle.holders.specs.Keys.{newKeyOf, headedBy}
 use Rattle.fits.specs.Fits.{countsFit, rangesFit, leastOf, txnFits, placeFits}
 use Rattle.tightness.specs.Wrong.{Excludes}
 use Rattle.tightness.proofs.Apart.{apart, bit}
 use Rattle.tightness.proofs.Computes.{computes}
-use Rattle.tightness.proofs.Small.{live, writer, puts, sizes}
+use Rattle.tightness.proofs.Small.{live, writer, erases, puts, headed, keyedBy, sizes}
 
 -- `counts_fit`: the pending writes are not counted
 pub counts-fit-writes-untested : Excludes countsFit (λ t. leb (t .«reads_n») mostIndexReads && leb (t .«records_n») mostRecords && leb (t .«candidates_n») mostRows)
@@ -31,12 +36,28 @@ Given = List ℕ × List ℕ × List ℕ × Sizes × ℕ × ℕ × Transaction
 abbrev fits : Given → Bool
 fits (rows, versions, lists, z, clock, used, t) = placeFits rows versions lists z clock used t
 
+-- the other tests, and this one of the pending rows of an Installed or Ended transaction
+abbrev rowsTested : (List ℕ → List ℕ → List ℕ → Transaction → ℕ → Bool) → Given → Bool
+rowsTested row-fits (rows, versions, lists, z, clock, used, t) =
+    eqb (t .number) 0
+    || (ltb (t .number) clock && eqb (t .snapshot .xmin) (leastOf t) && countsFit t && rangesFit lists z used t && (ltb (rank (phaseView (t .phase))) 5 || every (t .«writes_n») (λ i. row-fits rows versions lists t (writeAt lists (t .slot) i .row))))
+
 -- `place_fits`: a free place is tested as a live one is
 pub place-fits-free-tested : Excludes fits (λ (rows, versions, lists, z, clock, used, t). txnFits rows versions lists z clock used t)
 unfolding computes
 place-fits-free-tested = apart ([], [], [], sizes, 0, 0, live 0 phase.Open) bit refl
 
 -- `place_fits`: the heads of an Installed transaction's pending rows are not tested
-pub place-fits-heads-untested : Excludes fits (λ (rows, versions, lists, z, clock, used, t). eqb (t .number) 0 || (ltb (t .number) clock && eqb (t .snapshot .xmin) (leastOf t) && countsFit t && rangesFit lists z used t))
+pub place-fits-heads-untested : Excludes fits (rowsTested (λ rows versions lists t r. true))
 unfolding computes
 place-fits-heads-untested = apart ([], [], puts, sizes, 2, 0, writer phase.Installed) bit refl
+
+-- `place_fits`: an erase of nothing must be headed too
+pub place-fits-nothing-headed : Excludes fits (rowsTested (λ rows versions lists t r. headedBy rows versions (t .number) r))
+unfolding computes
+place-fits-nothing-headed = apart ([], [], erases, sizes, 2, 0, writer phase.Installed) bit refl
+
+-- `place_fits`: an erase may have any head
+pub place-fits-erase-any-head : Excludes fits (rowsTested (λ rows versions lists t r. headedBy rows versions (t .number) r || eqb (newKeyOf lists (t .slot) (t .«writes_n») r .keyed) 0))
+unfolding computes
+place-fits-erase-any-head = apart (headed, keyedBy 3, erases, sizes, 4, 1, writer phase.Installed) bit refl

@@ -2,9 +2,9 @@
 -- Assumes nothing.
 use Prim.Native.Nat.{ℕ, _+_, _-_, _%_, min}
 use mathlib.Core.Path.{refl}
-use mathlib.Core.Bool.{Bool, true, false, cond, not}
+use mathlib.Core.Bool.{Bool, true, false, cond, not, _||_}
 use mathlib.Core.List.{List, [], _∷_, map}
-use lib.Dec.{eqb}
+use lib.Dec.{eqb, leb}
 use lib.ListN.{getD, set, take}
 use Rattle.limits.specs.Limits.{mostWrites}
 use Rattle.model.specs.Lists.{some-of, all-of, join}
@@ -15,13 +15,14 @@ use Rattle.tables.specs.declared.lists.IndexRead.{IndexRead}
 use Rattle.scans.specs.Scans.{firstPlace}
 use Rattle.record.specs.Methods.{takenBy}
 use Rattle.holders.specs.declared.Key.{Key}
-use Rattle.holders.specs.Keys.{keyOf, noKey, versionKey, oldKeyOf, writtenAt, newKeyOf}
-use Rattle.holders.specs.Needs.{Listed, pushOne, pushAll, bucketsFor, readsNeed, rowsWritten, writesNeed, writesChange}
+use Rattle.holders.specs.Keys as keys
+use Rattle.holders.specs.Keys.{keyOf, noKey, versionKey, oldKeyOf, writtenAt, newKeyOf, getsVersionOf}
+use Rattle.holders.specs.Needs.{Listed, pushOne, pushAll, bucketsFor, readsNeed, rowsWritten, writeNeeds, writesNeed, writesChange}
 use Rattle.holders.specs.Holders as spec
 use Rattle.tightness.specs.Wrong.{Excludes}
 use Rattle.tightness.proofs.Apart.{apart, either-way, bit, count}
 use Rattle.tightness.proofs.Computes.{computes}
-use Rattle.tightness.proofs.Small.{starting, twice}
+use Rattle.tightness.proofs.Small.{starting, erases, headed, keyedBy, erasedBy, twice}
 
 -- row 0 of head 2 and claim 6, whose chain is version 2, of key 7, over version 1, of this key
 abbrev row : List ℕ
@@ -89,6 +90,43 @@ pub same-key-any : Excludes sameKey (λ (a, b). eqb (a .keyed) (b .keyed))
 unfolding computes
 same-key-any = apart (record { keyed = 1; key = 6 }, record { keyed = 1; key = 7 }) bit refl
 
+-- what the contracts of `headed_by` and `gets_version` ask for
+abbrev headedBy : List ℕ × List ℕ × ℕ × ℕ → Bool
+headedBy (rows, versions, number, r) = keys.headedBy rows versions number r
+
+abbrev getsVersion : List ℕ × List ℕ × List ℕ × ℕ × ℕ × ℕ → Bool
+getsVersion (rows, versions, lists, slot, n, r) = getsVersionOf rows versions lists slot n r
+
+-- `headed_by`: a row without a head is headed by 0
+pub headed-by-no-head : Excludes headedBy (λ (rows, versions, number, r). eqb (fields.xminOf versions (fields.headOf rows r)) number)
+unfolding computes
+headed-by-no-head = apart ([], [], 0, 0) bit refl
+
+-- `headed_by`: whoever made the head
+pub headed-by-anyone : Excludes headedBy (λ (rows, versions, number, r). leb 1 (fields.headOf rows r))
+unfolding computes
+headed-by-anyone = apart (row, chain 6, 5, 0) bit refl
+
+-- `gets_version`: every pending row, an erase of an empty one too
+pub gets-version-always : Excludes getsVersion (λ (rows, versions, lists, slot, n, r). true)
+unfolding computes
+gets-version-always = apart ([], [], erases, 0, 1, 0) bit refl
+
+-- `gets_version`: an erase never, not even of a live row
+pub gets-version-puts-only : Excludes getsVersion (λ (rows, versions, lists, slot, n, r). not (eqb (newKeyOf lists slot n r .keyed) 0))
+unfolding computes
+gets-version-puts-only = apart (row, chain 6, erases, 0, 1, 0) bit refl
+
+-- `gets_version`: an erased head is live
+pub gets-version-any-head : Excludes getsVersion (λ (rows, versions, lists, slot, n, r). leb 1 (fields.headOf rows r) || not (eqb (newKeyOf lists slot n r .keyed) 0))
+unfolding computes
+gets-version-any-head = apart (headed, erasedBy 3, erases, 0, 1, 0) bit refl
+
+-- `gets_version`: a live row is judged by the version under its head
+pub gets-version-under-head : Excludes getsVersion (λ (rows, versions, lists, slot, n, r). not (eqb (oldKeyOf rows versions true r .keyed) 0) || not (eqb (newKeyOf lists slot n r .keyed) 0))
+unfolding computes
+gets-version-under-head = apart (headed, keyedBy 3, erases, 0, 1, 0) bit refl
+
 -- numbers put behind the first n of a list
 abbrev pushed : List ℕ → ℕ → List ℕ → Listed
 pushed out n xs = pushAll (record { out = out; n = n }) xs
@@ -106,8 +144,8 @@ pushReads (lists, slot, reads, out, n) = pushed out n (readsNeed lists slot read
 abbrev pushWrites : List ℕ × List ℕ × List ℕ × ℕ × Bool × ℕ × ℕ × List ℕ × ℕ → Listed
 pushWrites (rows, versions, lists, buckets, installed, slot, writes, out, n) = pushed out n (writesNeed rows versions lists buckets installed slot writes)
 
-abbrev pushChanges : List ℕ × List ℕ × List ℕ × ℕ × ℕ × ℕ × List ℕ × ℕ → Listed
-pushChanges (rows, versions, lists, buckets, slot, writes, out, n) = pushed out n (writesChange rows versions lists buckets slot writes)
+abbrev pushChanges : List ℕ × List ℕ × List ℕ × ℕ × ℕ × ℕ × ℕ × List ℕ × ℕ → Listed
+pushChanges (rows, versions, lists, buckets, number, slot, writes, out, n) = pushed out n (writesChange rows versions lists buckets number slot writes)
 
 -- room for four
 abbrev room : List ℕ
@@ -153,20 +191,26 @@ unfolding computes
 push-writes-new-key-only = apart (row, chain 6, twice, 4, true, 0, 2, room, 0) count refl
 
 -- `push_writes`: a write that keeps its key needs no bucket
-pub push-writes-changed-only : Excludes pushWrites (λ (rows, versions, lists, buckets, installed, slot, writes, out, n). pushChanges (rows, versions, lists, buckets, slot, writes, out, n))
+pub push-writes-changed-only : Excludes pushWrites (λ (rows, versions, lists, buckets, installed, slot, writes, out, n). pushChanges (rows, versions, lists, buckets, 2, slot, writes, out, n))
 unfolding computes
 push-writes-changed-only = apart (row, chain 7, twice, 4, true, 0, 2, room, 0) count refl
 
 -- `push_changes`: a write that keeps its key changes its bucket
-pub push-changes-kept-key-too : Excludes pushChanges (λ (rows, versions, lists, buckets, slot, writes, out, n). pushWrites (rows, versions, lists, buckets, true, slot, writes, out, n))
+pub push-changes-kept-key-too : Excludes pushChanges (λ (rows, versions, lists, buckets, number, slot, writes, out, n). pushWrites (rows, versions, lists, buckets, true, slot, writes, out, n))
 unfolding computes
-push-changes-kept-key-too = apart (row, chain 7, twice, 4, 0, 2, room, 0) count refl
+push-changes-kept-key-too = apart (row, chain 7, twice, 4, 2, 0, 2, room, 0) count refl
 
 -- `push_changes`: the new key's bucket alone
 pub push-changes-new-key-only : Excludes pushChanges
-    (λ (rows, versions, lists, buckets, slot, writes, out, n). pushed out n (join (λ r. cond (sameKey (oldKeyOf rows versions true r, newKeyOf lists slot writes r)) [] (bucketsFor buckets (newKeyOf lists slot writes r))) (rowsWritten lists slot writes)))
+    (λ (rows, versions, lists, buckets, number, slot, writes, out, n). pushed out n (join (λ r. cond (sameKey (oldKeyOf rows versions true r, newKeyOf lists slot writes r)) [] (bucketsFor buckets (newKeyOf lists slot writes r))) (rowsWritten lists slot writes)))
 unfolding computes
-push-changes-new-key-only = apart (row, chain 6, twice, 4, 0, 2, room, 0) count refl
+push-changes-new-key-only = apart (row, chain 6, twice, 4, 2, 0, 2, room, 0) count refl
+
+-- `push_changes`: a row that got no version too
+pub push-changes-unmade-too : Excludes pushChanges
+    (λ (rows, versions, lists, buckets, number, slot, writes, out, n). pushed out n (join (λ r. cond (sameKey (oldKeyOf rows versions true r, newKeyOf lists slot writes r)) [] (writeNeeds rows versions lists buckets true slot writes r)) (rowsWritten lists slot writes)))
+unfolding computes
+push-changes-unmade-too = apart (row, chain 6, erases, 4, 5, 0, 1, room, 0) count refl
 
 -- what the contracts of the functions over the first n buckets of a list ask for
 abbrev anyTaken : List ℕ × List ℕ × ℕ × ℕ → Bool

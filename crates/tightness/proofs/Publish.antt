@@ -18,7 +18,7 @@ use Rattle.publish.specs.Publish.{Left, freedIn, endOf, publishOf, abortOf}
 use Rattle.tightness.specs.Wrong.{Excludes}
 use Rattle.tightness.proofs.Apart.{apart, numberIn}
 use Rattle.tightness.proofs.Computes.{computes}
-use Rattle.tightness.proofs.Small.{live, writer, puts}
+use Rattle.tightness.proofs.Small.{live, writer, puts, keyedBy}
 
 -- `end`: the phase is not tested
 pub end-any-phase : Excludes endOf (λ t. record { answer = tell.Done; txn = withPhase t phase.Ended })
@@ -30,9 +30,9 @@ pub end-stays-installed : Excludes endOf (λ t. cond (not (eqb (rank (phaseView 
 unfolding computes
 end-stays-installed = apart (live 1 phase.Installed) (λ (a : Answered). rank (phaseView (a .txn .phase))) refl
 
--- row 0 claimed by transaction 1
+-- row 0 headed by version 1 and claimed by transaction 1
 abbrev claimed : List ℕ
-claimed = 0 ∷ 1 ∷ 0 ∷ 0 ∷ []
+claimed = 1 ∷ 1 ∷ 0 ∷ 0 ∷ []
 
 -- bucket 0 held by it
 abbrev held : List ℕ
@@ -53,7 +53,7 @@ abbrev Given : Type 0
 Given = List ℕ × List ℕ × ℕ × ℕ × Transaction × List ℕ × List ℕ
 
 abbrev given : Phase → Given
-given ph = ([], puts, 1, 2, writer ph, claimed, held)
+given ph = (keyedBy 1, puts, 1, 2, writer ph, claimed, held)
 
 abbrev publishes : Given → Left
 publishes (versions, lists, count, clock, t, rows, buckets) = publishOf versions lists count clock t rows buckets

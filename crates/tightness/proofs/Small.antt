@@ -68,6 +68,16 @@ erases = roomFor writes
 abbrev pub puts : List ℕ
 puts = starting writes (0 ∷ 1 ∷ 5 ∷ 9 ∷ [])
 
+-- row 0 headed by version 1, and that version: made by this number, open, of key 6; and erased
+abbrev pub headed : List ℕ
+headed = 1 ∷ 0 ∷ 0 ∷ 0 ∷ []
+
+abbrev pub keyedBy : ℕ → List ℕ
+keyedBy n = replicate versionWords 0 ++ (n ∷ 0 ∷ 0 ∷ 1 ∷ 6 ∷ 0 ∷ [])
+
+abbrev pub erasedBy : ℕ → List ℕ
+erasedBy n = replicate versionWords 0 ++ (n ∷ 0 ∷ 0 ∷ 0 ∷ 0 ∷ 0 ∷ [])
+
 -- two pending writes of row 0, of key 6 and of key 7
 abbrev pub twice : List ℕ
 twice = starting writes (0 ∷ 1 ∷ 6 ∷ 9 ∷ 0 ∷ 1 ∷ 7 ∷ 9 ∷ [])

@@ -16,7 +16,7 @@ use Rattle.model.specs.Lists.{member, pick, Among}
 use Rattle.model.specs.Table.{update, update-same, update-other, update-elim}
 use Rattle.model.specs.Store.{Sizes, Txn, Store, noTxn, fresh, rank}
 use Rattle.model.specs.Seeing.{live, activeNumbers, Live}
-use Rattle.model.specs.Steps.{pendingRows, newTxn}
+use Rattle.model.specs.Steps.{madeRows, newTxn}
 use Rattle.model.specs.Upstream.{Event}
 use Rattle.model.specs.History.{eventOf, addEvents, stepEvents, historyOver, history}
 use Rattle.model.specs.Refusals.{Step, begin, capture, collect, rows, put, erase, prepare, install, end, publish, validate, abort, placeOf, txnOf, liveCount}
@@ -152,7 +152,7 @@ module _ (s : Store) (es : List Event) (p : Protocol) (g : Good s) (f : Follows 
       stamped = f .stamped;
     }
 
-    follows-published : rank (s .txns i .phase) ≡ 6 → Follows (suc (s .clock)) (update (s .txns) i noTxn) (addEvents s (s .txns i) (pendingRows (s .sizes) (s .txns i .writes)) es) (afterAction p (Publish (s .txns i .number) (s .clock)))
+    follows-published : rank (s .txns i .phase) ≡ 6 → Follows (suc (s .clock)) (update (s .txns) i noTxn) (addEvents s (s .txns i) (madeRows (s .sizes) (s .chains) (s .txns i .number) (s .txns i .writes)) es) (afterAction p (Publish (s .txns i .number) (s .clock)))
     follows-published r = record {
       clock-is = refl;
       runs = λ j. update-elim (λ y. Live y → rank (y .phase) < 6 → p .active (y .number) ≡ true) (s .txns) i noTxn j (λ e a. absurd (omega arith)) (λ d. f .runs j);
@@ -166,7 +166,7 @@ module _ (s : Store) (es : List Event) (p : Protocol) (g : Good s) (f : Follows 
       stamped = λ e m. ⊎-elim
           (λ o. update-other (p .published) _ (some (s .clock)) (e .creator) (λ q. none-some (p .published (e .creator)) (rw q (f .unpublished i l)) (f .stamped e o)) ∙ f .stamped e o)
           (λ w. rw (w .0, w .1) (update-same (p .published) _ (some (s .clock))))
-          (added-which s (s .txns i) (pendingRows (s .sizes) (s .txns i .writes)) es e m);
+          (added-which s (s .txns i) (madeRows (s .sizes) (s .chains) (s .txns i .number) (s .txns i .writes)) es e m);
     }
 
 -- each action was allowed, and the protocol after them follows the store
@@ -190,7 +190,7 @@ module _ (clock : ℕ) (s : Store) (es : List Event) (acts : List Action) (g : G
   ends i t e l r x w = rw (← e) ((h .1 .runs i l r, h .0), follows-ended s es here g (h .1) (protocol-valid clock acts (h .0)) i l x w)
 
   publishes : (i t : ℕ) → s .txns i .number ≡ t → Live (s .txns i) → rank (s .txns i .phase) ≡ 6
-      → ProtocolHistory clock (Publish t (s .clock) ∷ acts) × Follows (suc (s .clock)) (update (s .txns) i noTxn) (addEvents s (s .txns i) (pendingRows (s .sizes) (s .txns i .writes)) es) (protocolAfter clock (Publish t (s .clock) ∷ acts))
+      → ProtocolHistory clock (Publish t (s .clock) ∷ acts) × Follows (suc (s .clock)) (update (s .txns) i noTxn) (addEvents s (s .txns i) (madeRows (s .sizes) (s .chains) (s .txns i .number) (s .txns i .writes)) es) (protocolAfter clock (Publish t (s .clock) ∷ acts))
   publishes i t e l r =
       let few = some-live (s .txns) i (in-place (s .clock) (s .txns) (g .numbers) i l) l in
       rw (← e) (((h .1 .has-ended i l (omega arith), h .1 .unpublished i l, omega (arith, h .1 .clock-is), omega (arith, g .room .numbers-left)), h .0), follows-published s es here g (h .1) (protocol-valid clock acts (h .0)) i l r)

@@ -14,7 +14,7 @@ use Rattle.model.specs.Lists.{member, least, Among}
 use Rattle.model.specs.Table.{cond-elim}
 use Rattle.model.specs.Store.{Sizes, Txn, Store, fresh, sameKey, bucketOf}
 use Rattle.model.specs.Seeing.{versionOf, keyAt, Live}
-use Rattle.model.specs.Steps.{pendingRows, newKey, keyBuckets}
+use Rattle.model.specs.Steps.{madeRows, newKey, keyBuckets}
 use Rattle.model.specs.Upstream.{Event, eventBuckets, stampAt, pointer}
 use Rattle.model.specs.History.{eventOf, addEvents, stepEvents, historyOver, history, changing}
 use Rattle.model.specs.Refusals.{Step, begin, capture, collect, rows, put, erase, prepare, install, end, publish, validate, abort, txnOf}
@@ -23,6 +23,7 @@ use Rattle.model.specs.Given.{number}
 use Rattle.model.specs.Holding.{Unpublished}
 use Rattle.model.proofs.ListLaws.{among-left, among-right, or-cases, member-among, among-member}
 use Rattle.model.proofs.SeeingLaws.{same-key, keyAt-zero, keyAt-key, key-bucket}
+use Rattle.model.proofs.Made.{made-writes}
 use Rattle.model.proofs.Holders.{needs-old, needs-new}
 use Rattle.model.proofs.Good.{Good, good-run, opened-good}
 use Rattle.model.proofs.UpstreamLaws.{first-same}
@@ -104,7 +105,7 @@ module _ (clock : ℕ) (s : Store) (es : List Event) (acts : List Action) (h : B
   guarded-step z g (prepare t) = g
   guarded-step z g (install t) = g
   guarded-step z g (end t) = g
-  guarded-step z g (publish t) = cond-elim (GuardedStampHistory z (λ b. 0)) (eqb (number s (publish t)) 0) _ es (λ e. guarded-added z s (txnOf s t) (pendingRows (s .sizes) (txnOf s t .writes)) es (λ q m. omega (arith, stamp-below q m .1)) g) (λ e. g)
+  guarded-step z g (publish t) = cond-elim (GuardedStampHistory z (λ b. 0)) (eqb (number s (publish t)) 0) _ es (λ e. guarded-added z s (txnOf s t) (madeRows (s .sizes) (s .chains) (txnOf s t .number) (txnOf s t .writes)) es (λ q m. omega (arith, stamp-below q m .1)) g) (λ e. g)
   guarded-step z g (validate t) = g
   guarded-step z g (abort t) = g
 
@@ -171,9 +172,11 @@ module _ (z : Sizes) (clock : ℕ) (before : List Step) (o : canOpen z clock ≡
   pub protocol-is-valid : ProtocolValid (protocolAfter clock done)
   protocol-is-valid = protocol-valid clock done (beside .0)
 
-  -- who has installed a row and not published it holds the buckets of both its keys, so that nobody captures them meanwhile
-  pub waiting-held : (w r k : ℕ) → Unpublished (now .sizes) (now .txns w) r → (now .index .posted r ≡ some k) ⊎ (newKey (now .txns w) r ≡ some k) → now .held .holder (bucketOf (now .sizes) k) ≡ now .txns w .number
-  waiting-held w r k u e = kept-held z clock before o l .holds w _ (inr (omega (arith, u .1), ⊎-elim (needs-old (now .sizes) (now .index .posted) (now .txns w) r k (u .2)) (needs-new (now .sizes) (now .index .posted) (now .txns w) r k (u .2)) e))
+  -- who has made a version of a row and not published it holds the buckets of both its keys, so that nobody captures them meanwhile
+  pub waiting-held : (w r k : ℕ) → Unpublished (now .sizes) (now .chains) (now .txns w) r → (now .index .posted r ≡ some k) ⊎ (newKey (now .txns w) r ≡ some k) → now .held .holder (bucketOf (now .sizes) k) ≡ now .txns w .number
+  waiting-held w r k u e =
+      let m = made-writes (now .sizes) (now .chains) (now .txns w) r (u .2) in
+      kept-held z clock before o l .holds w _ (inr (omega (arith, u .1), ⊎-elim (needs-old (now .sizes) (now .index .posted) (now .txns w) r k m) (needs-new (now .sizes) (now .index .posted) (now .txns w) r k m) e))
 
   module _ (j : ℕ) (a : Live (now .txns j)) where
     -- `event_chronology`: of every event and every live transaction

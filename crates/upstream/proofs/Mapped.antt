@@ -88,7 +88,7 @@ module _ (z : Sizes) (clock : ℕ) (before : List Step) (o : canOpen z clock ≡
     mine = g .holders .buckets .owns j (bucketOf (now .sizes) k) (inl (k, ph))
 
     -- nobody else who has installed has the key before or after
-    none-waits : (w r : ℕ) → Unpublished (now .sizes) (now .txns w) r → (now .index .posted r ≡ some k) ⊎ (newKey (now .txns w) r ≡ some k) → ⊥
+    none-waits : (w r : ℕ) → Unpublished (now .sizes) (now .chains) (now .txns w) r → (now .index .posted r ≡ some k) ⊎ (newKey (now .txns w) r ≡ some k) → ⊥
     none-waits w r u e =
         let q : w ≡ j = g .numbers .distinct w j (u .0) (sym (waiting-held z clock before o l w r k u e) ∙ mine) in
         omega (arith, ap rank ph, rw q at (u .1))

@@ -10,7 +10,7 @@ use Rattle.model.specs.Lists.{member, Among}
 use Rattle.model.specs.Table.{updateAll}
 use Rattle.model.specs.Store.{Chains, Index, IndexRead, Txn, Store, sameKey}
 use Rattle.model.specs.Verdict.{Verdict, Clear, Bucket, Row, Mark, verdictNumber, verdict}
-use Rattle.model.specs.Steps.{pendingRows, oldKey, keyBefore, newKey, keyBuckets, readBuckets, neededBuckets, changedBuckets}
+use Rattle.model.specs.Steps.{pendingRows, madeRows, oldKey, keyBefore, newKey, keyBuckets, readBuckets, neededBuckets, changedBuckets}
 use Rattle.model.specs.Refusals.{publish, txnOf}
 use Rattle.model.specs.Machine.{accepted, step}
 use Rattle.model.specs.Given.{number}
@@ -33,7 +33,7 @@ lock-keys s x b = (
     keysOf : ℕ → List ℕ
     keysOf r = keyBuckets (s .sizes) (oldKey (s .chains) r) ++ keyBuckets (s .sizes) (newKey x r)
 
--- `change_keys`, as document 01 has them: the buckets of both keys of a pending row whose key changes, and no others
+-- `change_keys`, as document 01 has them: the buckets of both keys of a pending row that got a version and whose key changes, and no others
 module _ (s : Store) (x : Txn) (b : ℕ) where
   abbrev pub ChangedAt : ℕ → Type 0
   ChangedAt r = (sameKey (keyBefore (s .chains) r) (newKey x r) ≡ false) × (Among b (keyBuckets (s .sizes) (keyBefore (s .chains) r)) ⊎ Among b (keyBuckets (s .sizes) (newKey x r)))
@@ -42,11 +42,11 @@ module _ (s : Store) (x : Txn) (b : ℕ) where
   changed-at r true e j = absurd j
   changed-at r false e j = (e, among-cases b (keyBuckets (s .sizes) (keyBefore (s .chains) r)) _ j)
 
-  pub change-keys : Among b (changedBuckets s x) ↔ ((r : ℕ) × Among r (pendingRows (s .sizes) (x .writes)) × ChangedAt r)
+  pub change-keys : Among b (changedBuckets s x) ↔ ((r : ℕ) × Among r (madeRows (s .sizes) (s .chains) (x .number) (x .writes)) × ChangedAt r)
   unfolding changedBuckets
   change-keys = (
-    λ m. let w = join-which _ (pendingRows (s .sizes) (x .writes)) b m in (w .0, w .1, changed-at (w .0) (sameKey (keyBefore (s .chains) (w .0)) (newKey x (w .0))) refl (w .2)),
-    λ w. which-join _ (pendingRows (s .sizes) (x .writes)) b (w .0) (w .1) (rw (w .2 .0) (⊎-elim (among-left b (keyBuckets (s .sizes) (keyBefore (s .chains) (w .0))) _) (among-right b (keyBuckets (s .sizes) (keyBefore (s .chains) (w .0))) _) (w .2 .1))),
+    λ m. let w = join-which _ (madeRows (s .sizes) (s .chains) (x .number) (x .writes)) b m in (w .0, w .1, changed-at (w .0) (sameKey (keyBefore (s .chains) (w .0)) (newKey x (w .0))) refl (w .2)),
+    λ w. which-join _ (madeRows (s .sizes) (s .chains) (x .number) (x .writes)) b (w .0) (w .1) (rw (w .2 .0) (⊎-elim (among-left b (keyBuckets (s .sizes) (keyBefore (s .chains) (w .0))) _) (among-right b (keyBuckets (s .sizes) (keyBefore (s .chains) (w .0))) _) (w .2 .1))),
   )
 
 -- `publish_index_stamps`: one stamp is taken from the clock; the changed buckets get it and no others (`stamp_relation`)

@@ -44,4 +44,4 @@ HistoryValid clock s x es acts = HistoryKept clock s x es acts × HistoryMapsSna
 
 -- x sees no version of the row that still waits for its publish
 abbrev pub NoneWaiting : Store → Txn → ℕ → Type 0
-NoneWaiting s x r = (w : ℕ) → Unpublished (s .sizes) (s .txns w) r → seen (x .snapshot) (s .chains .xmin (s .chains .head r)) ≡ false
+NoneWaiting s x r = (w : ℕ) → Unpublished (s .sizes) (s .chains) (s .txns w) r → seen (x .snapshot) (s .chains .xmin (s .chains .head r)) ≡ false

@@ -6,6 +6,13 @@ use borrow.Author.Needs.{needs}
 use Rattle.holders.proofs.push_change.Statement.{statement}
 use Rattle.holders.proofs.push_change.Tie as tie
 
+headed-by-requires : tie.Need-headed-by-requires
+headed-by-requires c κs = search needs
+
+returns : tie.Need-returns
+unfolding writeChanges pushAll
+returns c = rw (← c .before .headed-by .ensures, c .if1 .taken)
+
 old-key-requires : tie.Need-old-key-requires
 old-key-requires c κs = search needs
 
@@ -15,9 +22,9 @@ new-key-requires c κs = search needs
 same-key-requires : tie.Need-same-key-requires
 same-key-requires c κs = search needs
 
-returns : tie.Need-returns
+returns-2 : tie.Need-returns-2
 unfolding writeChanges pushAll
-returns c = rw (← c .before .before .before .old-key .ensures, ← c .before .before .new-key .ensures, ← c .before .same-key .ensures, c .if1 .taken)
+returns-2 c = rw (← c .before .before .before .before .before .headed-by .ensures, c .before .before .before .before .if1 .left, ← c .before .before .before .old-key .ensures, ← c .before .before .new-key .ensures, ← c .before .same-key .ensures, c .if2 .taken)
 
 push-key-requires : tie.Need-push-key-requires
 push-key-requires c κs = search needs
@@ -28,19 +35,21 @@ push-key-requires-2 c κs = search needs
 same-length : tie.Need-same-length
 same-length c = search needs
 
-returns-2 : tie.Need-returns-2
+returns-3 : tie.Need-returns-3
 unfolding writeChanges writeNeeds
-returns-2 c = rw (← c .before .before .before .before .before .before .before .before .before .before .before .old-key .ensures, ← c .before .before .before .before .before .before .before .before .before .before .new-key .ensures, ← c .before .before .before .before .before .before .before .before .before .same-key .ensures, c .before .before .before .before .before .before .before .before .if1 .left, push-append, ← c .before .before .before .before .before .before .push-key .ensures) (c .before .before .push-key2 .ensures)
+returns-3 c = rw (← c .before .before .before .before .before .before .before .before .before .before .before .before .before .headed-by .ensures, c .before .before .before .before .before .before .before .before .before .before .before .before .if1 .left, ← c .before .before .before .before .before .before .before .before .before .before .before .old-key .ensures, ← c .before .before .before .before .before .before .before .before .before .before .new-key .ensures, ← c .before .before .before .before .before .before .before .before .before .same-key .ensures, c .before .before .before .before .before .before .before .before .if2 .left, push-append, ← c .before .before .before .before .before .before .push-key .ensures) (c .before .before .push-key2 .ensures)
 
 pub push-change-spec : {M : Type 1} → statement M
 push-change-spec =
     tie.close
     (tie.spec
+    headed-by-requires
+    returns
     old-key-requires
     new-key-requires
     same-key-requires
-    returns
+    returns-2
     push-key-requires
     push-key-requires-2
     same-length
-    returns-2)
+    returns-3)

@@ -14,13 +14,13 @@ use Rattle.holders.proofs.push_changes.Statement.{statement}
 use Rattle.holders.proofs.push_changes.Tie as tie
 
 abbrev Inv-loop : tie.InvT-loop
-Inv-loop rows versions lists bucket-count slot count out₀ n m₀ i₀ out m i =
+Inv-loop rows versions lists bucket-count number slot count out₀ n m₀ i₀ out m i =
     (i ≤ count)
     × (length out ≡ length out₀)
-    × (pushAll (record { out = out₀; n = n }) (join (writeChanges rows versions lists bucket-count slot count) (rowsWritten lists slot count)) ≡ pushAll (record { out = out; n = m }) (join (writeChanges rows versions lists bucket-count slot count) (drop i (rowsWritten lists slot count))))
+    × (pushAll (record { out = out₀; n = n }) (join (writeChanges rows versions lists bucket-count number slot count) (rowsWritten lists slot count)) ≡ pushAll (record { out = out; n = m }) (join (writeChanges rows versions lists bucket-count number slot count) (drop i (rowsWritten lists slot count))))
 
 abbrev μ-loop : tie.MeasureT-loop
-μ-loop rows versions lists bucket-count slot count out₀ n m₀ i₀ out m i = count - i
+μ-loop rows versions lists bucket-count number slot count out₀ n m₀ i₀ out m i = count - i
 
 loop-holds : tie.Need-loop-holds Inv-loop μ-loop
 loop-holds c = (search needs, refl, refl)
@@ -38,7 +38,7 @@ loop-less : tie.Need-loop-less Inv-loop μ-loop
 loop-less c = search needs
 
 loop-again : tie.Need-loop-again Inv-loop μ-loop
-loop-again c = let l = c .before .before .before .before .before .before .loop in (omega arith, c .before .before .push-change .kept .1 .1 .1 .1 .1 .1 .1 .0 ∙ l .inv .1, l .inv .2 ∙ join-turn _ (record { out = l .out; n = l .m }) _ (rowsWritten (c .before .before .before .before .before .before .before .before .before .before .before .args .lists .now) (c .before .before .before .before .before .before .before .before .before .before .before .args .slot) (c .before .before .before .before .before .before .before .before .before .before .before .args .count)) (l .i) (c .before .before .before .before .write-row-at .result) (fields-next (λ (w : Write). w .row) writeOf writes (c .before .before .before .before .before .before .before .before .before .before .before .args .lists .now) (c .before .before .before .before .before .before .before .before .before .before .before .args .slot) (c .before .before .before .before .before .before .before .before .before .before .before .args .count) (l .i) (c .before .before .before .before .write-row-at .result) (omega arith) (c .before .before .before .before .write-row-at .ensures)) (c .before .before .push-change .ensures))
+loop-again c = let l = c .before .before .before .before .before .before .loop in (omega arith, c .before .before .push-change .kept .1 .1 .1 .1 .1 .1 .1 .1 .0 ∙ l .inv .1, l .inv .2 ∙ join-turn _ (record { out = l .out; n = l .m }) _ (rowsWritten (c .before .before .before .before .before .before .before .before .before .before .before .args .lists .now) (c .before .before .before .before .before .before .before .before .before .before .before .args .slot) (c .before .before .before .before .before .before .before .before .before .before .before .args .count)) (l .i) (c .before .before .before .before .write-row-at .result) (fields-next (λ (w : Write). w .row) writeOf writes (c .before .before .before .before .before .before .before .before .before .before .before .args .lists .now) (c .before .before .before .before .before .before .before .before .before .before .before .args .slot) (c .before .before .before .before .before .before .before .before .before .before .before .args .count) (l .i) (c .before .before .before .before .write-row-at .result) (omega arith) (c .before .before .before .before .write-row-at .ensures)) (c .before .before .push-change .ensures))
 
 same-length : tie.Need-same-length Inv-loop μ-loop
 same-length c = c .before .loop .inv .1

@@ -15,11 +15,11 @@ returns : tie.Need-returns
 unfolding installOf
 returns c = rw (← c .before .phase-rank .ensures, ne-eqb _ _ (c .if1 .taken))
 
-slice-aggregate-pending-rows : tie.Need-slice-aggregate-pending-rows
-slice-aggregate-pending-rows c = search needs
+slice-aggregate-version-rows : tie.Need-slice-aggregate-version-rows
+slice-aggregate-version-rows c = search needs
 
-pending-rows-requires : tie.Need-pending-rows-requires
-pending-rows-requires c κs = search needs
+version-rows-requires : tie.Need-version-rows-requires
+version-rows-requires c κs = search needs
 
 slice-aggregate-push-all-rows : tie.Need-slice-aggregate-push-all-rows
 slice-aggregate-push-all-rows c = search needs
@@ -37,7 +37,7 @@ same-length-2 : tie.Need-same-length-2
 same-length-2 c = search needs
 
 returns-2 : tie.Need-returns-2
-returns-2 c = let a = c .before .before .before .before .before .before .before .before .before .before .before .before .before .before .before .before .before .args in rw (c .with-phase .ensures) (install-made (a .lists .now) (a .t) _ _ _ (rw (← c .before .before .before .before .before .before .before .before .before .before .before .before .before .phase-rank .ensures) (eq-eqb _ _ (c .before .before .before .before .before .before .before .before .before .before .before .before .if1 .left))) (c .before .before .before .before .before .before .before .before .before .before .pending-rows .ensures) (c .before .before .before .before .before .push-all-rows .ensures))
+returns-2 c = let a = c .before .before .before .before .before .before .before .before .before .before .before .before .before .before .before .before .before .before .before .args in rw (c .with-phase .ensures) (install-made (a .lists .now) (a .t) _ _ _ (rw (← c .before .before .before .before .before .before .before .before .before .before .before .before .before .before .before .phase-rank .ensures) (eq-eqb _ _ (c .before .before .before .before .before .before .before .before .before .before .before .before .before .before .if1 .left))) (c .before .before .before .before .before .before .before .before .before .before .version-rows .ensures) (c .before .before .before .before .before .push-all-rows .ensures))
 
 pub install-spec : {M : Type 1} → statement M
 install-spec =
@@ -45,8 +45,8 @@ install-spec =
     (tie.spec
     phase-rank-requires
     returns
-    slice-aggregate-pending-rows
-    pending-rows-requires
+    slice-aggregate-version-rows
+    version-rows-requires
     slice-aggregate-push-all-rows
     push-all-rows-requires
     with-phase-requires

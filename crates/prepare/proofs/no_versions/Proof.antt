@@ -9,16 +9,16 @@ use Rattle.prepare.proofs.no_versions.Tie as tie
 reserved-requires : tie.Need-reserved-requires
 reserved-requires c κs = search needs
 
-distinct-rows-requires : tie.Need-distinct-rows-requires
-distinct-rows-requires c κs = search needs
+count-versions-requires : tie.Need-count-versions-requires
+count-versions-requires c κs = search needs
 
 exceed-requires : tie.Need-exceed-requires
 exceed-requires c κs = search needs
 
 returns : tie.Need-returns
 unfolding lacks
-returns c = rw (← c .before .before .reserved .ensures, ← c .before .distinct-rows .ensures .0) (c .exceed .ensures)
+returns c = rw (← c .before .before .reserved .ensures, ← c .before .count-versions .ensures .0) (c .exceed .ensures)
 
 pub no-versions-spec : {M : Type 1} → statement M
 no-versions-spec =
-    tie.close (tie.spec reserved-requires distinct-rows-requires exceed-requires returns)
+    tie.close (tie.spec reserved-requires count-versions-requires exceed-requires returns)

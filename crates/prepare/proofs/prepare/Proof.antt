@@ -89,7 +89,7 @@ same-length-8 : tie.Need-same-length-8
 same-length-8 c = search needs
 
 returns-5 : tie.Need-returns-5
-returns-5 c = let a = c .before .before .before .before .before .before .before .before .before .before .before .before .before .before .before .before .before .before .before .before .before .before .before .before .args in rw (c .refused5 .ensures) (prepare-lacks (a .versions .now) (a .lists .now) (a .bucket-count) (a .version-count) (a .used) _ (a .t) (a .rows .now) (a .buckets .now) _ (rw (← c .before .before .before .before .before .before .before .before .before .before .before .before .before .before .before .before .before .before .before .phase-rank .ensures) (eq-eqb _ _ (c .before .before .before .before .before .before .before .before .before .before .before .before .before .before .before .before .before .before .if1 .left))) (c .before .before .before .before .before .before .before .before .before .before .before .before .before .before .before .push-needed .ensures) (sym (c .before .before .before .before .before .before .before .before .before .before .before .any-taken .ensures) ∙ c .before .before .before .before .before .before .before .before .before .before .if2 .left) (sym (c .before .before .before .before .before .before .before .before .any-claimed .ensures) ∙ c .before .before .before .before .before .before .before .if3 .left) (rw (c .before .before .before .before .before .verdict .ensures) at (sym (c .before .before .before .before .is-clear .ensures) ∙ not-false (c .before .before .before .before .is-clear .result) (c .before .before .before .if4 .left))) (sym (c .before .before .no-versions .ensures) ∙ c .before .if5 .taken))
+returns-5 c = let a = c .before .before .before .before .before .before .before .before .before .before .before .before .before .before .before .before .before .before .before .before .before .before .before .before .before .args in rw (c .refused5 .ensures) (prepare-lacks (a .versions .now) (a .lists .now) (a .bucket-count) (a .version-count) (a .used) _ (a .t) (a .rows .now) (a .buckets .now) _ (rw (← c .before .before .before .before .before .before .before .before .before .before .before .before .before .before .before .before .before .before .before .before .phase-rank .ensures) (eq-eqb _ _ (c .before .before .before .before .before .before .before .before .before .before .before .before .before .before .before .before .before .before .before .if1 .left))) (c .before .before .before .before .before .before .before .before .before .before .before .before .before .before .before .before .push-needed .ensures) (sym (c .before .before .before .before .before .before .before .before .before .before .before .before .any-taken .ensures) ∙ c .before .before .before .before .before .before .before .before .before .before .before .if2 .left) (sym (c .before .before .before .before .before .before .before .before .before .any-claimed .ensures) ∙ c .before .before .before .before .before .before .before .before .if3 .left) (rw (c .before .before .before .before .before .before .verdict .ensures) at (sym (c .before .before .before .before .before .is-clear .ensures) ∙ not-false (c .before .before .before .before .before .is-clear .result) (c .before .before .before .before .if4 .left))) (sym (c .before .before .no-versions .ensures) ∙ c .before .if5 .taken))
 
 slice-aggregate-hold-all : tie.Need-slice-aggregate-hold-all
 slice-aggregate-hold-all c = search needs
@@ -110,7 +110,7 @@ same-length-10 : tie.Need-same-length-10
 same-length-10 c = search needs
 
 returns-6 : tie.Need-returns-6
-returns-6 c = let a = c .before .before .before .before .before .before .before .before .before .before .before .before .before .before .before .before .before .before .before .before .before .before .before .before .before .before .before .before .before .before .before .before .before .args in rw (c .with-phase .ensures, c .before .before .before .claim-all .ensures, c .before .before .before .before .before .before .before .hold-all .ensures) (prepare-done (a .versions .now) (a .lists .now) (a .bucket-count) (a .version-count) (a .used) _ (a .t) (a .rows .now) (a .buckets .now) _ (rw (← c .before .before .before .before .before .before .before .before .before .before .before .before .before .before .before .before .before .before .before .before .before .before .before .before .before .before .before .before .phase-rank .ensures) (eq-eqb _ _ (c .before .before .before .before .before .before .before .before .before .before .before .before .before .before .before .before .before .before .before .before .before .before .before .before .before .before .before .if1 .left))) (c .before .before .before .before .before .before .before .before .before .before .before .before .before .before .before .before .before .before .before .before .before .before .before .before .push-needed .ensures) (sym (c .before .before .before .before .before .before .before .before .before .before .before .before .before .before .before .before .before .before .before .before .any-taken .ensures) ∙ c .before .before .before .before .before .before .before .before .before .before .before .before .before .before .before .before .before .before .before .if2 .left) (sym (c .before .before .before .before .before .before .before .before .before .before .before .before .before .before .before .before .before .any-claimed .ensures) ∙ c .before .before .before .before .before .before .before .before .before .before .before .before .before .before .before .before .if3 .left) (rw (c .before .before .before .before .before .before .before .before .before .before .before .before .before .before .verdict .ensures) at (sym (c .before .before .before .before .before .before .before .before .before .before .before .before .before .is-clear .ensures) ∙ not-false (c .before .before .before .before .before .before .before .before .before .before .before .before .before .is-clear .result) (c .before .before .before .before .before .before .before .before .before .before .before .before .if4 .left))) (sym (c .before .before .before .before .before .before .before .before .before .before .before .no-versions .ensures) ∙ c .before .before .before .before .before .before .before .before .before .before .if5 .left))
+returns-6 c = let a = c .before .before .before .before .before .before .before .before .before .before .before .before .before .before .before .before .before .before .before .before .before .before .before .before .before .before .before .before .before .before .before .before .before .before .args in rw (c .with-phase .ensures, c .before .before .before .claim-all .ensures, c .before .before .before .before .before .before .before .hold-all .ensures) (prepare-done (a .versions .now) (a .lists .now) (a .bucket-count) (a .version-count) (a .used) _ (a .t) (a .rows .now) (a .buckets .now) _ (rw (← c .before .before .before .before .before .before .before .before .before .before .before .before .before .before .before .before .before .before .before .before .before .before .before .before .before .before .before .before .before .phase-rank .ensures) (eq-eqb _ _ (c .before .before .before .before .before .before .before .before .before .before .before .before .before .before .before .before .before .before .before .before .before .before .before .before .before .before .before .before .if1 .left))) (c .before .before .before .before .before .before .before .before .before .before .before .before .before .before .before .before .before .before .before .before .before .before .before .before .before .push-needed .ensures) (sym (c .before .before .before .before .before .before .before .before .before .before .before .before .before .before .before .before .before .before .before .before .before .any-taken .ensures) ∙ c .before .before .before .before .before .before .before .before .before .before .before .before .before .before .before .before .before .before .before .before .if2 .left) (sym (c .before .before .before .before .before .before .before .before .before .before .before .before .before .before .before .before .before .before .any-claimed .ensures) ∙ c .before .before .before .before .before .before .before .before .before .before .before .before .before .before .before .before .before .if3 .left) (rw (c .before .before .before .before .before .before .before .before .before .before .before .before .before .before .before .verdict .ensures) at (sym (c .before .before .before .before .before .before .before .before .before .before .before .before .before .before .is-clear .ensures) ∙ not-false (c .before .before .before .before .before .before .before .before .before .before .before .before .before .before .is-clear .result) (c .before .before .before .before .before .before .before .before .before .before .before .before .before .if4 .left))) (sym (c .before .before .before .before .before .before .before .before .before .before .before .no-versions .ensures) ∙ c .before .before .before .before .before .before .before .before .before .before .if5 .left))
 
 pub prepare-spec : {M : Type 1} → statement M
 prepare-spec =

@@ -23,7 +23,7 @@ same-length : tie.Need-same-length
 same-length c = search needs
 
 returns : tie.Need-returns
-returns c = let a = c .before .before .before .before .before .before .before .before .before .before .before .before .args in c .before .before .stamp-all .ensures ∙ stamped-made (a .rows .now) (a .versions .now) (a .lists .now) (a .bucket-count) (a .slot) (a .count) (a .stamp) (a .buckets .now) _ (c .before .before .before .before .before .before .push-changes .ensures)
+returns c = let a = c .before .before .before .before .before .before .before .before .before .before .before .before .args in c .before .before .stamp-all .ensures ∙ stamped-made (a .rows .now) (a .versions .now) (a .lists .now) (a .bucket-count) (a .number) (a .slot) (a .count) (a .stamp) (a .buckets .now) _ (c .before .before .before .before .before .before .push-changes .ensures)
 
 pub stamp-changes-spec : {M : Type 1} → statement M
 stamp-changes-spec =

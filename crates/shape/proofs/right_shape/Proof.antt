@@ -212,7 +212,7 @@ returns-9 c =
     let o = c .before .before .before .before .before .before .before .before .before .others-of .ensures in
     let d : c .before .before .before .before .before .before .distinct-numbers .result ≡ allDistinct (othersIn (a .m .txns) .numbers) = c .before .before .before .before .before .before .distinct-numbers .ensures ∙ ap (λ (x : Others). allDistinct (x .numbers)) o in
     let s : c .before .before .before .sum-within .result ≡ leb (a .m .clock + liveIn (othersIn (a .m .txns) .numbers)) lastNumber = c .before .before .before .sum-within .ensures ∙ ap (λ (x : ℕ). leb (a .m .clock + x) lastNumber) (c .before .before .before .before .live-count .ensures ∙ ap (λ (x : Others). liveIn (x .numbers)) o) in
-    let v : c .sum-within2 .result ≡ leb (a .m .used + reservedIn (a .lists .now) (othersIn (a .m .txns) .prepared)) (a .m .sizes .versions) = c .sum-within2 .ensures ∙ ap (λ (x : ℕ). leb (a .m .used + x) (a .m .sizes .versions)) (c .before .reserved .ensures ∙ ap (λ (x : Others). reservedIn (a .lists .now) (x .prepared)) o) in
+    let v : c .sum-within2 .result ≡ leb (a .m .used + reservedIn (a .rows-table .now) (a .versions .now) (a .lists .now) (othersIn (a .m .txns) .prepared)) (a .m .sizes .versions) = c .sum-within2 .ensures ∙ ap (λ (x : ℕ). leb (a .m .used + x) (a .m .sizes .versions)) (c .before .reserved .ensures ∙ ap (λ (x : Others). reservedIn (a .rows-table .now) (a .versions .now) (a .lists .now) (x .prepared)) o) in
     rw (
       shape-tested w n,
       ← c .before .before .before .before .before .before .before .before .before .before .before .before .before .before .before .before .before .before .before .before .before .tables-lent .ensures,

@@ -119,6 +119,11 @@ impl Transaction {
         self.pending.iter().rev().find(|write| write.row == row)
     }
 
+    /// The key that a pending row is to have, none where it is to be erased.
+    fn new_key(&self, row: u32) -> Option<u64> {
+        self.last_write(row).and_then(|write| write.key)
+    }
+
     fn has_recorded(&self, pointer: usize) -> bool {
         self.read_records.iter().any(|record| record.pointer == pointer)
     }
@@ -180,6 +185,11 @@ impl Store {
 
     fn version(&self, pointer: usize) -> Option<&Version> {
         self.versions.get(pointer.checked_sub(1)?)
+    }
+
+    /// The key of a live row: one whose head version is there and not erased.
+    fn live_key(&self, row: u32) -> Option<u64> {
+        self.version(self.rows[row as usize].head).and_then(|head| head.key)
     }
 
     fn bucket_of(&self, key: u64) -> usize {
@@ -356,9 +366,8 @@ impl Store {
         let rows = transaction.pending_rows();
         let mut buckets: BTreeSet<usize> = transaction.index_reads.iter().map(|read| read.bucket).collect();
         for &row in &rows {
-            let old = self.version(self.rows[row as usize].head).and_then(|version| version.key);
-            let new = transaction.last_write(row).and_then(|write| write.key);
-            buckets.extend(old.into_iter().chain(new).map(|key| self.bucket_of(key)));
+            let keys = self.live_key(row).into_iter().chain(transaction.new_key(row));
+            buckets.extend(keys.map(|key| self.bucket_of(key)));
         }
         let bucket_taken = buckets.iter().any(|&bucket| self.held_by_another(bucket, number));
         let row_taken = rows.iter().any(|&row| ![0, number].contains(&self.rows[row as usize].claim));
@@ -369,8 +378,9 @@ impl Store {
             return Err(14);
         }
         let others = self.transactions.values().filter(|other| other.number != number && other.phase == Phase::Prepared);
-        let reserved: usize = others.map(|other| other.pending_rows().len()).sum();
-        if self.versions.len() + reserved + rows.len() > self.version_limit {
+        let reserved: usize = others.map(|other| self.rows_with_version(other).len()).sum();
+        let needed = self.rows_with_version(transaction).len();
+        if self.versions.len() + reserved + needed > self.version_limit {
             return Err(13);
         }
         for bucket in buckets {
@@ -383,10 +393,16 @@ impl Store {
         Ok(Values::Nothing)
     }
 
+    /// The pending rows that get a version: all but those that are not live and are to be erased.
+    fn rows_with_version(&self, transaction: &Transaction) -> BTreeSet<u32> {
+        let gets_version = |&row: &u32| self.live_key(row).is_some() || transaction.new_key(row).is_some();
+        transaction.pending_rows().into_iter().filter(gets_version).collect()
+    }
+
     fn install(&mut self, number: u64) -> Answer {
         let transaction = self.transaction(number, |phase| phase == Phase::Prepared)?;
         let mut installed = Vec::new();
-        for row in transaction.pending_rows() {
+        for row in self.rows_with_version(transaction) {
             let write = transaction.last_write(row).expect("a pending row has a write");
             let head = self.rows[row as usize].head;
             installed.push((row, Version { xmin: number, xmax: 0, next: head, key: write.key, payload: write.payload }));
@@ -413,7 +429,9 @@ impl Store {
         let stamp = self.clock;
         self.clock += 1;
         for row in rows {
-            let installed = self.version(self.rows[row as usize].head).expect("install made a head");
+            let head = self.version(self.rows[row as usize].head);
+            // an erase of nothing got no version
+            let Some(installed) = head.filter(|head| head.xmin == number) else { continue };
             let new = installed.key;
             let old = self.version(installed.next).and_then(|version| version.key);
             if old == new {
