@@ -1,5 +1,7 @@
 //! Logs that walk up to a limit of document 01 and past it, or whose reads others overtake.
 
+use std::ops::Range;
+
 use twin::Step;
 
 use crate::random::Random;
@@ -14,6 +16,7 @@ pub fn at_a_limit(steps: u64, random: &mut Random) -> Vec<u8> {
         read_records,
         pending_writes,
         versions,
+        erases,
         clock,
         room,
         rows_out_of_range,
@@ -139,6 +142,50 @@ fn versions(random: &mut Random) -> Writer {
         }
     }
     writer
+}
+
+/// Erases of erased, live and empty rows beside puts, with few versions left, so that it shows which of these rows get one.
+fn erases(random: &mut Random) -> Writer {
+    let erased = random.below(4) as u32;
+    let put = erased + random.below(4) as u32;
+    let mut writer = Writer::open(8, put + erased + random.from_to(1, 2) as u32, 64, 1);
+    let early = writer.begin();
+    in_one(&mut writer, 0..put, |number, row| Step::Put { number, row, key: u64::from(row), payload: 0 });
+    in_one(&mut writer, 0..erased, |number, row| Step::Erase { number, row });
+    for _ in 0..random.from_to(5, 7) {
+        let Some(number) = writer.begin() else { break };
+        for _ in 0..random.from_to(1, 3) {
+            put_or_erase(&mut writer, number, random);
+        }
+        let last = [Step::Prepare { number }, Step::Install { number }, Step::End { number }, Step::Publish { number }];
+        let taken = random.one_of(&[4, 4, 3, 1, 1, 1]);
+        last[..taken].iter().for_each(|&step| drop(writer.step(step)));
+    }
+    // a bucket that was stamped is stale for the one that began first
+    for number in early.into_iter().chain(writer.begin()) {
+        for _ in 0..random.from_to(1, 3) {
+            writer.read(number, random.below(4), 256);
+        }
+        let _ = writer.step(Step::Validate { number });
+    }
+    writer
+}
+
+/// A transaction of its own with a write for each row.
+fn in_one(writer: &mut Writer, rows: Range<u32>, write: fn(u64, u32) -> Step) {
+    if let Some(number) = writer.begin() {
+        rows.for_each(|row| drop(writer.step(write(number, row))));
+        writer.commit(number);
+    }
+}
+
+/// One or two writes of one row, whose key is mostly its own.
+fn put_or_erase(writer: &mut Writer, number: u64, random: &mut Random) {
+    let row = random.below(6) as u32;
+    let key = if random.percent(80) { u64::from(row) } else { random.below(6) };
+    for _ in 0..random.from_to(1, 2) {
+        let _ = writer.step(random.one_of(&[Step::Put { number, row, key, payload: 0 }, Step::Erase { number, row }]));
+    }
 }
 
 /// A clock whose numbers run out, also where eight are live just then.

@@ -3,7 +3,10 @@
 use std::collections::{BTreeMap, BTreeSet};
 
 use generator::{log, room, Family, Random};
+use told::{told, OFTEN};
 use twin::Step;
+
+mod told;
 
 const LOGS: u64 = 4000;
 const STEPS: u64 = 60;
@@ -40,9 +43,6 @@ const NUMBERS_MARKED: [(&str, &[u32]); 11] = [
     ("validate", &[0, 7]),
     ("abort", &[0]),
 ];
-
-/// What comes less often tries too little.
-const OFTEN: u64 = 20;
 
 /// The longest lines, as the host wrapper counts on them.
 const LONGEST_ROWS_LINE: usize = 330;
@@ -124,20 +124,15 @@ struct Marked {
 
 impl Marked {
     fn add(&mut self, log: &[u8]) {
-        let report = String::from_utf8(twin::whole_report(log).1).expect("a report is text");
-        let mut rest = log;
         let mut row_count = 0;
         let mut pending: BTreeMap<u64, u64> = BTreeMap::new();
         let mut marked = BTreeSet::new();
-        for line in report.lines() {
-            let Some((step, next)) = twin::read_record(rest) else { return };
-            rest = next;
+        for (step, answer) in told(log) {
             if let Step::Open { rows, .. } = step {
                 row_count = rows;
             }
             let Some(number) = number_of(&step) else { continue };
-            let (word, answer) = line.split_once(' ').expect("a line has its number");
-            let answer: u32 = answer.split(' ').next().and_then(|answer| answer.parse().ok()).expect("a number");
+            let word = step.word();
             if marked.contains(&number) {
                 *self.lines.entry((word.to_string(), answer)).or_default() += 1;
             }
