@@ -115,7 +115,8 @@ impl<'s> Transaction<'s> {
         self.write(Step::put(self.number, row, key, payload))
     }
 
-    /// The row is to hold nothing once the transaction is published.
+    /// The row is to hold nothing once the transaction is published. Where it holds nothing already when it is prepared, this takes
+    /// no version.
     pub fn erase(&self, row: u32) -> Result<(), Error> {
         self.write(Step::erase(self.number, row))
     }

@@ -165,6 +165,27 @@ fn a_marked_transaction_takes_no_more_work_and_is_aborted() {
 }
 
 #[test]
+fn erases_of_empty_rows_leave_every_version_to_others() {
+    let store = Store::open(256, 1, 64, 1).expect("sizes in range");
+    for first in (0..256).step_by(16) {
+        let update = store.begin().expect("a place is free");
+        (first..first + 16).for_each(|row| update.erase(row).expect("16 writes"));
+        update.publish().expect("no version is needed");
+    }
+    let write = |row: u32| {
+        let update = store.begin()?;
+        update.put(row, 10, 0)?;
+        update.publish()
+    };
+    assert!(write(0).is_ok(), "the only version");
+    assert_eq!(write(1), Err(Error::Refused(Refusal::VersionsUsedUp)));
+    let live = store.begin().expect("a place is free");
+    live.erase(0).expect("row 0");
+    assert_eq!(live.publish(), Err(Error::Refused(Refusal::VersionsUsedUp)), "an erase of a live row needs one");
+    assert_eq!(store.look(10), Ok(vec![0]));
+}
+
+#[test]
 fn a_read_that_is_refused_half_way_leaves_its_transaction_usable() {
     let store = loaded();
     for first in (0..80).step_by(16) {
