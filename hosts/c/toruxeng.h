@@ -9,10 +9,10 @@
 #include <stddef.h>
 #include <stdint.h>
 
-#define TORUXENG_VERSION "0.3.1"
+#define TORUXENG_VERSION "0.4.0"
 #define TORUXENG_VERSION_MAJOR 0
-#define TORUXENG_VERSION_MINOR 3
-#define TORUXENG_VERSION_PATCH 1
+#define TORUXENG_VERSION_MINOR 4
+#define TORUXENG_VERSION_PATCH 0
 
 #ifdef __cplusplus
 extern "C" {
