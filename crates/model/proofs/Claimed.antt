@@ -1,30 +1,31 @@
--- The claim keeps the head: from an accepted prepare on nobody else gives a version to its pending rows, so install and publish see what prepare saw. Assumes nothing.
+-- The claim keeps the head: from an accepted prepare on nobody else gives a version to its pending rows, so install and publish see what prepare saw; and one that erases nothing leaves nothing. Assumes nothing.
 use mathlib.Core.Path.{_≡_, refl, sym, ap, _∙_}
 use mathlib.Core.Bool.{true}
-use mathlib.Core.Logic.{_≢_, ⊎-elim}
-use mathlib.Core.List.{List}
+use mathlib.Core.Logic.{_≢_, inl, ⊎-elim}
+use mathlib.Core.List.{List, [], _∷_}
 use Prim.Native.Nat.{ℕ, _≤_, _<_}
 use native.Mathlib.Omega.{arith}
 use Rattle.limits.specs.Limits.{lastNumber}
-use Rattle.model.specs.Table.{update, update-elim}
+use Rattle.model.specs.Lists.{member, join, Among}
+use Rattle.model.specs.Table.{update, updateAll, update-elim}
 use Rattle.model.specs.Store.{Sizes, Chains, Prepared, Installed, Ended, Txn, Store, noTxn, fresh, rank}
 use Rattle.model.specs.Seeing.{keyAt}
-use Rattle.model.specs.Steps.{newTxn, withPhase, oldKey, prepared, installed, versionRows, madeRows}
-use Rattle.model.specs.Refusals.{Step, prepare, txnOf}
+use Rattle.model.specs.Steps.{newTxn, withPhase, pendingRows, oldKey, versionRows, madeRows, prepared, pushAll, installed, changedBuckets}
+use Rattle.model.specs.Refusals.{Step, prepare, install, publish, txnOf}
 use Rattle.model.specs.Machine.{at, accepted, step, run, canOpen}
-use Rattle.model.specs.Holding.{Writes, Gets, Made}
+use Rattle.model.specs.Holding.{Writes, Gets, Made, ErasesNothing}
 use Rattle.model.specs.Given.{number, Lives}
-use Rattle.model.specs.Demands.{HeadKept}
+use Rattle.model.specs.Demands.{HeadKept, CostsNothing}
 use Rattle.model.proofs.ListLaws.{pick-among}
 use Rattle.model.proofs.Move.{Move, stay, did-begin, did-mark, did-capture, did-collect, did-rows, did-write, did-prepare, did-install, did-end, did-publish, did-abort, step-move, run-inv}
 use Rattle.model.proofs.Numbers.{clock-move}
-use Rattle.model.proofs.Holders.{one-claim}
+use Rattle.model.proofs.Holders.{one-claim, repost-elim}
 use Rattle.model.proofs.Made.{gets-writes, made-writes, made-head, which-made, gets-or-not, nothing-got, versionRows-same}
 use Rattle.model.proofs.Grown.{Grown}
-use Rattle.model.proofs.Written.{keyAt-grown, installs}
-use Rattle.model.proofs.Good.{Good, good-move, sizes-run, opened-good}
+use Rattle.model.proofs.Written.{keyAt-grown, installs, posted-new}
+use Rattle.model.proofs.Good.{Good, good-move, good-run, sizes-run, opened-good}
 use Rattle.model.proofs.Conditions.{lives-number}
-use Rattle.model.proofs.Refused.{prepare-0}
+use Rattle.model.proofs.Refused.{prepare-0, install-0, publish-0}
 use Rattle.model.proofs.Outcomes.{done-does}
 
 -- row r is headed in c as it was in c₁
@@ -206,3 +207,52 @@ head-kept z clock before e c t more o l =
     let sizes : s .sizes ≡ s₁ .sizes = sizes-run s₂ more ∙ ap (λ w. w .sizes) after in
     let w = keeps-run (s₁ .chains) (txnOf s₁ t) s₂ (good-move s₁ s₂ g (step-move s₁ (prepare t))) (rw after (keeps-prepared s₁ t g (r .1) (r .2))) more in
     kept-in s₁ t g (r .1) (r .2) s sizes (rw sizes at (w .here (at s t) (lives-number s t l ∙ sym (lives-number s₁ t (r .1)))))
+
+-- ---- where every pending row erases nothing
+
+no-entries : (xs : List ℕ) → ((x : ℕ) → Among x xs → ⊥) → xs ≡ []
+no-entries [] empty = refl
+no-entries (x ∷ xs) empty = absurd (empty x (inl refl))
+
+module _ (s : Store) (t : ℕ) (g : Good s) (l : Lives s t) where
+  -- no row gets a version
+  nothing-installed : versionRows (s .sizes) (s .chains) (txnOf s t .writes) ≡ [] → number s (install t) ≡ 0 → step s (install t) .store .chains ≡ s .chains
+  unfolding accepted pushAll
+  nothing-installed e z = ap (λ w. w .store .chains) (done-does s (install t) z) ∙ rw e
+
+  -- no row got one
+  module _ (e : madeRows (s .sizes) (s .chains) t (txnOf s t .writes) ≡ []) (z : number s (publish t) ≡ 0) where
+    made-none : madeRows (s .sizes) (s .chains) (txnOf s t .number) (txnOf s t .writes) ≡ []
+    made-none = ap (λ n. madeRows (s .sizes) (s .chains) n (txnOf s t .writes)) (lives-number s t l) ∙ e
+
+    nothing-published : step s (publish t) .store .chains ≡ s .chains
+    unfolding accepted
+    nothing-published = ap (λ w. w .store .chains) (done-does s (publish t) z)
+
+    nothing-stamped : (b : ℕ) → step s (publish t) .store .index .stamp b ≡ s .index .stamp b
+    unfolding accepted updateAll changedBuckets join member
+    nothing-stamped b = ap (λ w. w .store .index .stamp b) (done-does s (publish t) z) ∙ rw made-none
+
+    nothing-posted : (r : ℕ) → step s (publish t) .store .index .posted r ≡ s .index .posted r
+    unfolding accepted
+    nothing-posted r = ap (λ w. w .store .index .posted r) (done-does s (publish t) z) ∙ repost-elim (λ o. o ≡ s .index .posted r) (txnOf s t) (pendingRows (s .sizes) (txnOf s t .writes)) (s .index .posted) r
+        (λ w. sym (posted-new s (g .numbers) (g .holders) (g .written) (at s t) r (omega (arith, lives-number s t l, l .3)) (omega (arith, publish-0 s t .0 z .2)) w (λ m. rw made-none at m)))
+        (λ d. refl)
+
+pub costs-nothing : (z : Sizes) (clock : ℕ) (before : List Step) → canOpen z clock ≡ true → clock ≤ lastNumber → (t : ℕ) (more : List Step) →
+    let s₁ = run (fresh z clock) before in
+    let s = run (step s₁ (prepare t) .store) more in
+    number s₁ (prepare t) ≡ 0 → Lives s t → ((r : ℕ) → Writes (s₁ .sizes) (txnOf s₁ t) r → ErasesNothing (s₁ .chains) (txnOf s₁ t) r) → CostsNothing s t
+costs-nothing z clock before e c t more o l nothing =
+    let s₁ = run (fresh z clock) before in
+    let s = run (step s₁ (prepare t) .store) more in
+    let k = head-kept z clock before e c t more o l in
+    let g = good-run _ (good-move s₁ _ (opened-good z clock before e c) (step-move s₁ (prepare t))) more in
+    let none = no-entries (versionRows (s₁ .sizes) (s₁ .chains) (txnOf s₁ t .writes)) (λ r m. nothing-got (s₁ .sizes) (s₁ .chains) (txnOf s₁ t) r (nothing r (gets-writes (s₁ .sizes) (s₁ .chains) (txnOf s₁ t) r m)) m) in
+    let made : number s (publish t) ≡ 0 → madeRows (s .sizes) (s .chains) t (txnOf s t .writes) ≡ [] = λ d. k .made-same (omega (arith, publish-0 s t .0 d .2)) ∙ none in
+    record {
+      installs-none = λ d. nothing-installed s t g l (k .gets-same (install-0 s t .0 d .2) ∙ none) d;
+      publishes-none = λ d. nothing-published s t g l (made d) d;
+      stamps-none = λ d. nothing-stamped s t g l (made d) d;
+      posts-none = λ d. nothing-posted s t g l (made d) d;
+    }

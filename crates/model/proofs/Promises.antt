@@ -14,16 +14,17 @@ use Rattle.model.specs.Steps.{readBuckets}
 use Rattle.model.specs.Refusals.{Step, rows, validate, prepare, install, txnOf}
 use Rattle.model.specs.Machine.{Rows, Judged, Done, step, run, canOpen}
 use Rattle.model.specs.History.{history}
+use Rattle.model.specs.Holding.{Writes, ErasesNothing}
 use Rattle.model.specs.Causes.{Cause}
 use Rattle.model.specs.Given.{_and_, number, Lives, Ready, BucketsFree, openNumber, GivenOpen}
 use Rattle.model.specs.Effects.{makes, GetsVersion}
-use Rattle.model.specs.Demands.{ExactAnswer, MarkLives, Shapely, NothingLost, HeadKept, DistinctAt, MarkedOpen, NoMoreWork, KeptVersion, HistoryStands, LeastXmins, UpstreamSees, FinishedRead, StandingRead}
+use Rattle.model.specs.Demands.{ExactAnswer, MarkLives, Shapely, NothingLost, HeadKept, CostsNothing, DistinctAt, MarkedOpen, NoMoreWork, KeptVersion, HistoryStands, LeastXmins, UpstreamSees, FinishedRead, StandingRead}
 use Rattle.model.proofs.Making.{gets-when}
 use Rattle.model.proofs.Exact.{open-exactly}
 use Rattle.model.proofs.Marking.{mark-lives}
 use Rattle.model.proofs.Distinct.{distinct-opened}
 use Rattle.model.proofs.Marked.{marked-opened, no-more-work}
-use Rattle.model.proofs.Claimed.{head-kept}
+use Rattle.model.proofs.Claimed.{head-kept, costs-nothing}
 use Rattle.model.proofs.Answering.{exact, judges}
 use Rattle.model.proofs.Keeping.{shapely, nothing-lost, lasting, history-stands, least-xmins, upstream-sees}
 use Rattle.model.proofs.Standing.{finished, validated, prepared}
@@ -82,6 +83,13 @@ pub kept-heads : (z : Sizes) (clock : ℕ) (before : List Step) → canOpen z cl
     let s = run (step s₁ (prepare t) .store) more in
     number s₁ (prepare t) ≡ 0 → Lives s t → HeadKept s₁ s t
 kept-heads = head-kept
+
+-- An erase of nothing costs nothing: where every pending row erases nothing at prepare, install and publish leave every version, head, stamp and posting as they were.
+pub nothing-costs : (z : Sizes) (clock : ℕ) (before : List Step) → canOpen z clock ≡ true → clock ≤ lastNumber → (t : ℕ) (more : List Step) →
+    let s₁ = run (fresh z clock) before in
+    let s = run (step s₁ (prepare t) .store) more in
+    number s₁ (prepare t) ≡ 0 → Lives s t → ((r : ℕ) → Writes (s₁ .sizes) (txnOf s₁ t) r → ErasesNothing (s₁ .chains) (txnOf s₁ t) r) → CostsNothing s t
+nothing-costs = costs-nothing
 
 -- The index reads of each transaction are of distinct buckets.
 pub kept-reads : (z : Sizes) (clock : ℕ) (before : List Step) → DistinctAt (run (fresh z clock) before)

@@ -1,7 +1,7 @@
--- Runs that meet the premises of the page of statements: a read that finds a row, another transaction that publishes meanwhile, a clear verdict; a stale stamp and a mark that lasts; a version that ends; a claim that keeps its heads; two live at once; and the history of a run. Assumes nothing.
-use mathlib.Core.Path.{_≡_, refl}
+-- Runs that meet the premises of the page of statements: a read that finds a row, another transaction that publishes meanwhile, a clear verdict; a stale stamp and a mark that lasts; a version that ends; a claim that keeps its heads; erases of nothing; two live at once; and the history of a run. Assumes nothing.
+use mathlib.Core.Path.{_≡_, refl, sym, subst}
 use mathlib.Core.Bool.{true, false}
-use mathlib.Core.Logic.{inl}
+use mathlib.Core.Logic.{inl, inr}
 use mathlib.Core.Option.{none, some}
 use mathlib.Core.List.{List, [], _∷_, _++_}
 use Prim.Native.Nat.{ℕ, _<_}
@@ -9,15 +9,16 @@ use native.Mathlib.Omega.{arith}
 use lib.Dec.{ltb}
 use borrow.Author.Tests.{ltb-true}
 use Rattle.limits.specs.Limits.{mostLive}
+use Rattle.model.specs.Lists.{Among}
 use Rattle.model.specs.Store.{Sizes, Store, Collected, fresh, rank}
 use Rattle.model.specs.Verdict.{Clear, Mark}
 use Rattle.model.specs.Refusals.{Step, begin, capture, collect, rows, put, erase, prepare, install, end, publish, validate, abort, txnOf}
 use Rattle.model.specs.Seeing.{Live, seen, shows, snapshotNow}
-use Rattle.model.specs.Steps.{versionRows, madeRows}
+use Rattle.model.specs.Steps.{pendingRows, versionRows, madeRows}
 use Rattle.model.specs.Machine.{Done, Rows, Judged, step, run, canOpen}
 use Rattle.model.specs.Upstream.{postingsOf, remove, insert, postingReplay}
 use Rattle.model.specs.History.{addEvents, stepEvents, historyOver, history}
-use Rattle.model.specs.Holding.{Unpublished}
+use Rattle.model.specs.Holding.{Writes, ErasesNothing, Unpublished}
 use Rattle.model.specs.Given.{number, Lives, StaleStamp}
 use Rattle.model.proofs.Computes.{computes}
 use Rattle.model.proofs.Numbers.{in-place}
@@ -111,6 +112,29 @@ pub met-heads : (number s₆ (prepare 3) ≡ 0) × Lives s₇ 3 × (rank (txnOf 
     × (s₆ .chains .used ≡ 1) × (s₇ .chains .used ≡ 2) × (s₈ .chains .used ≡ 3)
 unfolding computes
 met-heads = (refl, (0, omega arith, refl, omega arith), refl, (0, omega arith, refl, omega arith), refl, refl, refl, refl, refl, refl, refl)
+
+-- transaction 1 erases row 0, and writes row 1 and erases it again: both are empty
+abbrev pub s₉ : Store
+s₉ = run (fresh sizes 1) (begin ∷ erase 1 0 ∷ put 1 1 5 8 ∷ erase 1 1 ∷ [])
+
+abbrev pub s₁₀ : Store
+s₁₀ = run (step s₉ (prepare 1) .store) (install 1 ∷ end 1 ∷ [])
+
+both-empty : (pendingRows (s₉ .sizes) (txnOf s₉ 1 .writes) ≡ 0 ∷ 1 ∷ []) × ErasesNothing (s₉ .chains) (txnOf s₉ 1) 0 × ErasesNothing (s₉ .chains) (txnOf s₉ 1) 1
+unfolding computes
+both-empty = (refl, (refl, refl), (refl, refl))
+
+each-empty : (r : ℕ) → Writes (s₉ .sizes) (txnOf s₉ 1) r → ErasesNothing (s₉ .chains) (txnOf s₉ 1) r
+each-empty r m = one-of (subst (Among r) (both-empty .0) m)
+  where
+    one-of : Among r (0 ∷ 1 ∷ []) → ErasesNothing (s₉ .chains) (txnOf s₉ 1) r
+    one-of (inl e) = subst (ErasesNothing (s₉ .chains) (txnOf s₉ 1)) (sym e) (both-empty .1)
+    one-of (inr (inl e)) = subst (ErasesNothing (s₉ .chains) (txnOf s₉ 1)) (sym e) (both-empty .2)
+
+-- the premises of nothing-costs
+pub met-nothing : (number s₉ (prepare 1) ≡ 0) × Lives s₁₀ 1 × ((r : ℕ) → Writes (s₉ .sizes) (txnOf s₉ 1) r → ErasesNothing (s₉ .chains) (txnOf s₉ 1) r) × (number s₁₀ (publish 1) ≡ 0)
+unfolding computes
+met-nothing = (refl, (0, omega arith, refl, omega arith), each-empty, refl)
 
 -- the premise of kept-history's snapshots: in s₁ transaction 3 is live, and no version of row 2 waits for its publish
 none-late : (w : ℕ) → w < mostLive → ltb (rank (s₁ .txns w .phase)) 5 ≡ true

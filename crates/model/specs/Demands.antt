@@ -71,6 +71,13 @@ pub record HeadKept (s₁ s : Store) (t : ℕ) : Type 0 where
   pub made-over : 5 ≤ rank (txnOf s t .phase) → (r : ℕ) → Gets (s₁ .sizes) (s₁ .chains) (txnOf s₁ t) r → s .chains .next (s .chains .head r) ≡ s₁ .chains .head r
   pub head-stays : 5 ≤ rank (txnOf s t .phase) → (r : ℕ) → Writes (s₁ .sizes) (txnOf s₁ t) r → (Gets (s₁ .sizes) (s₁ .chains) (txnOf s₁ t) r → ⊥) → s .chains .head r ≡ s₁ .chains .head r
 
+-- an erase of nothing costs nothing: the install and the publish of t leave every version, head, stamp and posting as they were
+pub record CostsNothing (s : Store) (t : ℕ) : Type 0 where
+  pub installs-none : number s (install t) ≡ 0 → step s (install t) .store .chains ≡ s .chains
+  pub publishes-none : number s (publish t) ≡ 0 → step s (publish t) .store .chains ≡ s .chains
+  pub stamps-none : number s (publish t) ≡ 0 → (b : ℕ) → step s (publish t) .store .index .stamp b ≡ s .index .stamp b
+  pub posts-none : number s (publish t) ≡ 0 → (r : ℕ) → step s (publish t) .store .index .posted r ≡ s .index .posted r
+
 -- the index reads of each transaction are of distinct buckets: no index read's bucket has a later one
 unfoldable pub Distinct : List IndexRead → Type 0
 Distinct [] = Unit {0}

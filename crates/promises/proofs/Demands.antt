@@ -9,7 +9,8 @@ use Rattle.model.specs.Verdict.{Verdict}
 use Rattle.model.specs.Refusals.{validate, txnOf}
 use Rattle.model.specs.Machine.{step}
 use Rattle.model.specs.Given.{Lives}
-use Rattle.model.specs.Demands.{HeadKept, MarkedOpen, LeastXmins, StandingRead}
+use Rattle.model.specs.Holding.{Writes, ErasesNothing}
+use Rattle.model.specs.Demands.{HeadKept, CostsNothing, MarkedOpen, LeastXmins, StandingRead}
 use Rattle.protocol.specs.declared.Answer.the-variants as tell
 use Rattle.protocol.specs.declared.Verdict.the-variants as verdict
 use Rattle.answers.specs.Answers.{numberOf}
@@ -18,7 +19,7 @@ use Rattle.promises.specs.Calls.{Call, called, Typed, AnyCall}
 use Rattle.promises.specs.Demands.{ExactCall, Opening, openNumber, ExactOpen, after, storeAfter, Follows, reading, validating, preparing, MarkedCalls, JudgedCall, ReadCall}
 use Rattle.promises.proofs.Calls.{any-call}
 use Rattle.promises.proofs.Answered.{exactly, judges, opens-exactly}
-use Rattle.promises.proofs.Sequences.{follows, least-xmins, heads, marked-open, stops, reads, stands}
+use Rattle.promises.proofs.Sequences.{follows, least-xmins, heads, costless, marked-open, stops, reads, stands}
 
 -- DEMAND 1, of a call on any words that the code's types allow: its number exactly when, in order; its values; what it leaves. And of open.
 pub exact-call : (w : Words) (c : Call) → Typed w → ExactCall w c
@@ -47,6 +48,11 @@ calls-xmin = least-xmins
 pub calls-heads : (o : Opening) → openNumber o ≡ 0 → (cs : List Call) (t : ℕ) (more : List Call) → numberOf (called (after o cs) (preparing t) .answer) ≡ 0 → Lives (storeAfter o (cs ++ (preparing t ∷ more))) t
     → HeadKept (storeAfter o cs) (storeAfter o (cs ++ (preparing t ∷ more))) t
 calls-heads = heads
+
+-- An erase of nothing costs nothing: where every pending row erases nothing at prepare, install and publish leave every version, head, stamp and posting as they were.
+pub calls-nothing : (o : Opening) → openNumber o ≡ 0 → (cs : List Call) (t : ℕ) (more : List Call) → numberOf (called (after o cs) (preparing t) .answer) ≡ 0 → Lives (storeAfter o (cs ++ (preparing t ∷ more))) t
+    → ((r : ℕ) → Writes (storeAfter o cs .sizes) (txnOf (storeAfter o cs) t) r → ErasesNothing (storeAfter o cs .chains) (txnOf (storeAfter o cs) t) r) → CostsNothing (storeAfter o (cs ++ (preparing t ∷ more))) t
+calls-nothing = costless
 
 -- Every marked transaction is Open, so no call of rows meets one; and no more work is done in it, until it is aborted.
 pub calls-marked : (o : Opening) → openNumber o ≡ 0 → (cs : List Call) → MarkedOpen (view (after o cs))

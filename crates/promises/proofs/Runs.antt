@@ -1,4 +1,4 @@
--- An open and calls that meet the premises of the page of statements: a read that finds a row, another transaction that publishes meanwhile, a clear verdict; a prepare of erases of something and of nothing; and a capture that finds a stale stamp. Assumes nothing.
+-- An open and calls that meet the premises of the page of statements: a read that finds a row, another transaction that publishes meanwhile, a clear verdict; a prepare of erases of something and of nothing, and one of nothing alone; and a capture that finds a stale stamp. Assumes nothing.
 use Prim.Native.Nat.{ℕ}
 use mathlib.Core.Path.{_≡_, refl, ap, _∙_}
 use mathlib.Core.Bool.{true}
@@ -7,6 +7,7 @@ use native.Mathlib.Omega.{arith}
 use lib.ListN.{replicate}
 use Rattle.model.specs.Store.{Collected}
 use Rattle.model.specs.Refusals.{txnOf}
+use Rattle.model.specs.Holding.{Writes, ErasesNothing}
 use Rattle.model.specs.Given.{Lives}
 use Rattle.model.specs.Shape.{goodSizes}
 use Rattle.model.specs.Machine.{run, canOpen}
@@ -72,6 +73,15 @@ meanwhile = without (ask.Begin ∷ ask.Put 4 3 3 7 ∷ ask.Prepare 4 ∷ ask.Ins
 pub claimed : (numberOf (called (after o erasing) (preparing 3) .answer) ≡ 0) × Lives (storeAfter o (erasing ++ (preparing 3 ∷ meanwhile))) 3
 unfolding run
 claimed = (number-after o opens erasing (preparing 3) ∙ reached.met-heads .0, reached.met-heads .3)
+
+-- transaction 1 erases two empty rows, one of them after a put: the premises of calls-nothing
+abbrev pub emptying : List Call
+emptying = without (ask.Begin ∷ ask.Erase 1 0 ∷ ask.Put 1 1 5 8 ∷ ask.Erase 1 1 ∷ [])
+
+pub emptied : (numberOf (called (after o emptying) (preparing 1) .answer) ≡ 0) × Lives (storeAfter o (emptying ++ (preparing 1 ∷ without (ask.Install 1 ∷ ask.End 1 ∷ [])))) 1
+    × ((r : ℕ) → Writes (storeAfter o emptying .sizes) (txnOf (storeAfter o emptying) 1) r → ErasesNothing (storeAfter o emptying .chains) (txnOf (storeAfter o emptying) 1) r)
+unfolding run
+emptied = (number-after o opens emptying (preparing 1) ∙ reached.met-nothing .0, reached.met-nothing .1, reached.met-nothing .2)
 
 -- the calls after which transaction 3 is marked: the premises of marked-calls
 abbrev pub stale : List Call

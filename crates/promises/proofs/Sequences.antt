@@ -11,8 +11,9 @@ use Rattle.model.specs.Refusals.{Step as Asked, rows, validate, txnOf}
 use Rattle.model.specs.Machine as machine
 use Rattle.model.specs.Machine.{lentAfter, at, step, run, canOpen}
 use Rattle.model.specs.Given.{number, Lives}
-use Rattle.model.specs.Demands.{HeadKept, MarkedOpen, MarkedGives, LeastXmins, StandingRead}
-use Rattle.model.proofs.Promises.{finished-read, validated-read, kept-heads, kept-marked, marked-stops, kept-xmin}
+use Rattle.model.specs.Holding.{Writes, ErasesNothing}
+use Rattle.model.specs.Demands.{HeadKept, CostsNothing, MarkedOpen, MarkedGives, LeastXmins, StandingRead}
+use Rattle.model.proofs.Promises.{finished-read, validated-read, kept-heads, nothing-costs, kept-marked, marked-stops, kept-xmin}
 use Rattle.protocol.specs.declared.Answer.the-variants as tell
 use Rattle.protocol.specs.declared.Verdict.the-variants as verdict
 use Rattle.protocol.specs.View.{told}
@@ -102,6 +103,12 @@ module _ (o : Opening) (e : openNumber o ≡ 0) where
   heads cs t more z l =
       let same = steps-after cs (preparing t) more in
       subst (λ (s : Store). HeadKept (storeAfter o cs) s t) (sym same) (kept-heads (sizesView (o .sizes)) (o .clock) (stepsOf cs) opens (o .clock-in) t (stepsOf more) (sym (number-after cs (preparing t)) ∙ z) (subst (λ (s : Store). Lives s t) same l))
+
+  pub costless : (cs : List Call) (t : ℕ) (more : List Call) → numberOf (called (after o cs) (preparing t) .answer) ≡ 0 → Lives (storeAfter o (cs ++ (preparing t ∷ more))) t
+      → ((r : ℕ) → Writes (storeAfter o cs .sizes) (txnOf (storeAfter o cs) t) r → ErasesNothing (storeAfter o cs .chains) (txnOf (storeAfter o cs) t) r) → CostsNothing (storeAfter o (cs ++ (preparing t ∷ more))) t
+  costless cs t more z l nothing =
+      let same = steps-after cs (preparing t) more in
+      subst (λ (s : Store). CostsNothing s t) (sym same) (nothing-costs (sizesView (o .sizes)) (o .clock) (stepsOf cs) opens (o .clock-in) t (stepsOf more) (sym (number-after cs (preparing t)) ∙ z) (subst (λ (s : Store). Lives s t) same l) nothing)
 
   -- ---- a marked transaction
 
