@@ -45,7 +45,7 @@ use Rattle.bridge.proofs.Tabled.{hold-all, hold-other, hold-length, cla
 use Rattle.bridge.proofs.Writing.{sized-phase}
 use Rattle.bridge.proofs.Judging.{taken-same, verdict-same}
 use Rattle.bridge.proofs.Needing.{all-same, listedNeeds, row-in, row-pending, pending-row, needed-listed, listed-needed}
-use Rattle.bridge.proofs.Aborting.{listed-few, listed-in, writes-few}
+use Rattle.bridge.proofs.Aborting.{listed-few, listed-in}
 use Rattle.bridge.proofs.Distinct.{versions-counted}
 
 -- a test of some entry sees only which entries there are

@@ -10,16 +10,16 @@ use Rattle.model.specs.Store.{Chains, Snapshot, Holding, Store, rank, sa
 use Rattle.model.specs.Seeing.{seen, versionOf, keyAt, Live}
 use Rattle.model.specs.Steps.{postedRows, keyBefore, newKey, keyBuckets, changedBuckets, madeRows}
 use Rattle.model.specs.Lists.{Among}
-use Rattle.model.specs.Holding.{Writes, Wants, needs, Made}
+use Rattle.model.specs.Holding.{Wants, needs, Made}
 use Rattle.model.proofs.ListLaws.{among-cases, join-which, which-pick}
 use Rattle.model.proofs.Chained.{Chained}
 use Rattle.model.proofs.Numbers.{Numbers}
 use Rattle.model.proofs.SeeingLaws.{same-key, key-same, keyAt-pos}
 use Rattle.model.proofs.Holders.{HoldersAt, needs-old, needs-new}
+use Rattle.model.proofs.Made.{made-writes}
 use Rattle.model.proofs.Written.{WrittenAt}
 use Rattle.model.proofs.Told.{Turn, Carries, ToldAt}
 use Rattle.model.proofs.Walk.{Finds, nothing, here, down, version-finds}
-use Rattle.model.proofs.Made.{made-writes}
 
 -- no version that carries k, or stands on one that does, has another key than the version under it and is unseen
 abbrev pub NoTurn : Chains → Snapshot → ℕ → Type 0

@@ -21,12 +21,12 @@ use Rattle.model.specs.History.{eventOf, addEvents, stepEvents, historyO
 use Rattle.model.specs.Seeing.{Live}
 use Rattle.model.specs.Given.{number}
 use Rattle.model.proofs.ListLaws.{and-l, and-r, and-both, same-test, member-among, among-member, pick-which, which-pick, rising-above, pick-rising}
+use Rattle.model.proofs.Made.{made-writes}
+use Rattle.model.proofs.Written.{posted-new}
 use Rattle.model.proofs.Good.{Good, sizes-run, good-run, opened-good}
 use Rattle.model.proofs.Conditions.{lives-number}
 use Rattle.model.proofs.Refused.{publish-0}
 use Rattle.model.proofs.Outcomes.{refused-store, done-does}
-use Rattle.model.proofs.Made.{made-writes}
-use Rattle.model.proofs.Written.{posted-new}
 
 -- a pair is removed, or inserted, where the key is the one named and the row is
 same-number : (j k : ℕ) → eqb k j ≡ eqb j k

@@ -5,7 +5,7 @@ use mathlib.Core.Logic.{⊎-elim}
 use mathlib.Core.List.{List}
 use Prim.Native.Nat.{ℕ, suc, _≤_}
 use native.Mathlib.Omega.{arith}
-use lib.Dec.{eqb, ltb, leb}
+use lib.Dec.{ltb, leb}
 use borrow.Author.Tests.{eq-eqb, ne-eqb, lt-ltb, le-leb, ltb-false, leb-true}
 use Rattle.limits.specs.Limits.{mostLive, lastNumber}
 use Rattle.model.specs.Lists.{all-of}
@@ -24,10 +24,10 @@ use Rattle.model.proofs.Room.{RoomAt, room-move, room-fresh}
 use Rattle.model.proofs.Ranges.{good-sized, RangesAt, ranges-move, ranges-fresh}
 use Rattle.model.proofs.Owned.{free}
 use Rattle.model.proofs.Holders.{claims-busy, HoldersAt, holders-move, holders-fresh}
+use Rattle.model.proofs.Made.{made-head, no-gets}
 use Rattle.model.proofs.Written.{WrittenAt, posted-free, written-move, written-fresh}
 use Rattle.model.proofs.Told.{ToldAt, told-move, told-fresh}
 use Rattle.model.proofs.Reading.{ReadingAt, reading-move, reading-fresh}
-use Rattle.model.proofs.Made.{made-head, no-gets}
 
 pub record Good (s : Store) : Type 0 where
   pub sizes : goodSizes (s .sizes) ≡ true

@@ -23,11 +23,11 @@ use Rattle.model.specs.Holding.{Gets}
 use Rattle.model.proofs.ListLaws.{and-l, and-r, is-false, among-left, among-right, among-cases, among-member, not-member, least-own, least-each, join-which, which-join, pick-which, pick-rising}
 use Rattle.model.proofs.Numbers.{active-which, which-active}
 use Rattle.model.proofs.SeeingLaws.{same-key, key-same, key-bucket, read-bucket, bucket-read}
+use Rattle.model.proofs.Made.{gets-writes}
 use Rattle.model.proofs.Making.{last-write, makes-all, makes-none}
 use Rattle.model.proofs.Conditions.{lives-number, each-below}
 use Rattle.model.proofs.Refused.{capture-0, put-0, erase-0, prepare-0, install-0, publish-0, validate-0, abort-0}
 use Rattle.model.proofs.Outcomes.{done-does}
-use Rattle.model.proofs.Made.{gets-writes}
 
 -- THE SNAPSHOT THAT BEGIN TAKES
 

@@ -1,16 +1,17 @@
 -- Room is kept: the clock with a publish for each live transaction fits, and so do the versions with those reserved. Assumes nothing.
-use mathlib.Core.Path.{_≡_, refl, ap, _∙_, sym}
+use mathlib.Core.Path.{_≡_, refl, sym, ap, _∙_}
 use mathlib.Core.Bool.{Bool, true, false, cond, _&&_}
 use mathlib.Core.List.{List, [], _∷_}
 use mathlib.Core.Logic.{_≢_}
 use Prim.Native.Nat.{ℕ, zero, suc, _+_, _≤_, _<_}
 use native.Mathlib.Omega.{arith}
 use native.Mathlib.Decide.{ℕ-discrete}
+use lib.Dec.{eqb}
 use lib.ListN.{length}
 use borrow.Author.Tests.{eq-eqb, ne-eqb}
 use Rattle.limits.specs.Limits.{mostLive, lastNumber}
 use Rattle.model.specs.Lists.{pick}
-use Rattle.model.specs.Table.{update, update-same, update-other, update-elim}
+use Rattle.model.specs.Table.{update, update-elim, update-same, update-other}
 use Rattle.model.specs.Store.{Sizes, Chains, Prepared, Installed, Txn, Store, noTxn, fresh, rank}
 use Rattle.model.specs.Seeing.{live, lastWrite, Live, keyAt}
 use Rattle.model.specs.Steps.{newTxn, push, pushAll, newKey, writtenPayload, withPhase, prepared, installed, versionRows, oldKey}
@@ -18,9 +19,8 @@ use Rattle.model.specs.Refusals.{liveCount, reservedBy, reserved}
 use Rattle.model.specs.Holding.{Writes}
 use Rattle.model.proofs.ListLaws.{pick-same}
 use Rattle.model.proofs.Move.{live-test, Move, stay, did-begin, did-mark, did-capture, did-collect, did-rows, did-write, did-prepare, did-install, did-end, did-publish, did-abort}
-use Rattle.model.proofs.Numbers.{Numbers, in-place}
-use lib.Dec.{eqb}
 use Rattle.model.proofs.Chained.{Chained}
+use Rattle.model.proofs.Numbers.{Numbers, in-place}
 use Rattle.model.proofs.Holders.{HoldersAt, one-claim}
 use Rattle.model.proofs.Made.{gets-writes, versionRows-same}
 use Rattle.model.proofs.Grown.{Grown}

@@ -10,7 +10,7 @@ use Rattle.model.specs.Table.{update, update-same, update-other}
 use Rattle.model.specs.Store.{Sizes, Chains, Txn, Store}
 use Rattle.model.specs.Seeing.{seen, versionOf, keyAt, Live}
 use Rattle.model.specs.Upstream.{creatorVisible, Event, snapshotRows}
-use Rattle.model.specs.Holding.{Unpublished, Made}
+use Rattle.model.specs.Holding.{Unpublished}
 use Rattle.model.proofs.Numbers.{Snapped}
 use Rattle.model.proofs.SeeingLaws.{keyAt-zero, keyAt-key}
 use Rattle.model.proofs.Walk.{Finds, nothing, here, down, zero-finds, version-finds}

@@ -1,7 +1,7 @@
 -- In every reached store the versions of each row are the events of the run. Assumes nothing.
 use mathlib.Core.Path.{_≡_, refl, sym, ap, _∙_}
 use mathlib.Core.Bool.{Bool, true, false, cond, true≢false}
-use mathlib.Core.Logic.{inl, inr, ⊎-elim, _≢_}
+use mathlib.Core.Logic.{_≢_, inl, inr, ⊎-elim}
 use mathlib.Core.List.{List, [], _∷_}
 use Prim.Native.Nat.{ℕ, suc, _≤_, _<_}
 use native.Mathlib.Omega.{arith}
@@ -24,6 +24,7 @@ use Rattle.model.proofs.ListLaws.{rising-above, pick-rising, member-amo
 use Rattle.model.proofs.Chained.{Chained}
 use Rattle.model.proofs.SeeingLaws.{keyAt-key}
 use Rattle.model.proofs.Holders.{one-claim}
+use Rattle.model.proofs.Made.{gets-writes, made-writes, made-head}
 use Rattle.model.proofs.Grown.{Grown}
 use Rattle.model.proofs.Written.{Mine, installs, made-new, made-old, made-still}
 use Rattle.model.proofs.Good.{Good, good-run, opened-good}
@@ -31,7 +32,6 @@ use Rattle.model.proofs.Conditions.{lives-number}
 use Rattle.model.proofs.Refused.{capture-0, collect-0, rows-0, put-0, erase-0, prepare-0, install-0, end-0, publish-0, abort-0}
 use Rattle.model.proofs.Outcomes.{refused-store, done-does, free-place}
 use Rattle.model.proofs.Snapshots.{Traced, start, own, other, RowTraced, whole, waiting, TracedAt}
-use Rattle.model.proofs.Made.{gets-writes, made-writes, made-head}
 
 -- events of other rows are passed over
 added-other : (s : Store) (x : Txn) (c : Chains) (rs : List ℕ) (older : List Event) (r p : ℕ) → (Among r rs → ⊥) → Traced c r older p → Traced c r (addEvents s x rs older) p

@@ -21,8 +21,8 @@ use Rattle.model.proofs.Chained.{Chained}
 use Rattle.model.proofs.Numbers.{Numbers, BelowAt}
 use Rattle.model.proofs.SeeingLaws.{keyAt-zero, keyAt-key, keyAt-same}
 use Rattle.model.proofs.Holders.{HoldersAt, one-claim, posted-kept, repost-elim}
-use Rattle.model.proofs.Grown.{Grown, grown}
 use Rattle.model.proofs.Made.{gets-writes, made-writes, made-head, which-made, gets-or-not, nothing-got}
+use Rattle.model.proofs.Grown.{Grown, grown}
 
 -- a row that x has installed a version of and not published
 pub record Mine (c : Chains) (posted : ℕ → Option ℕ) (x : Txn) (r : ℕ) : Type 0 where

@@ -1,6 +1,5 @@
 -- `holders::gets_version` meets its contract.
 -- Assumes nothing.
-use mathlib.Core.Path.{refl}
 use borrow.Author.Tests.{eq-eqb, ne-eqb}
 use borrow.Author.Needs.{needs}
 use Rattle.holders.specs.Keys.{getsVersionOf}

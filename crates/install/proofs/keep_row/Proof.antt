@@ -1,7 +1,6 @@
 -- `install::keep_row` meets its contract.
 -- Assumes nothing.
 use borrow.Author.Needs.{needs}
-use mathlib.Core.Path.{sym}
 use Rattle.holders.specs.Needs.{pushAll}
 use Rattle.install.specs.Install.{kept}
 use Rattle.install.proofs.keep_row.Statement.{statement}
