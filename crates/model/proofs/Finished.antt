@@ -16,12 +16,12 @@ use Rattle.model.specs.Seeing.{versionOf, pending, matches, recordOf, Li
 use Rattle.model.specs.Steps.{foundRows, recordsAfter, readTxn, readDone}
 use Rattle.model.specs.Refusals.{rows, placeOf, txnOf, checks}
 use Rattle.model.specs.Machine.{Rows, at, accepted, step}
-use Rattle.model.proofs.ListLaws.{and-r, or-left, or-right, same-test, among-member, pick-same, pick-rising}
-use Rattle.model.proofs.Move.{passes, finds, did-rows}
+use Rattle.model.proofs.ListLaws.{and-r, or-left, or-right, same-test, among-member, pick-rising, pick-same}
+use Rattle.model.proofs.Phases.{collected-is}
+use Rattle.model.proofs.Move.{did-rows, passes, finds}
 use Rattle.model.proofs.Chained.{Chained}
-use Rattle.model.proofs.SeeingLaws.{keyAt-pos, match-version, found-which, recordAll-has}
-use Rattle.model.proofs.Walk.{heads, version-finds, finds-chain, chains-apart}
-use Rattle.model.proofs.Holders.{collected-is}
+use Rattle.model.proofs.SeeingLaws.{keyAt-pos, match-version, recordAll-has, found-which}
+use Rattle.model.proofs.Walk.{version-finds, heads, finds-chain, chains-apart}
 use Rattle.model.proofs.Reading.{Reading}
 use Rattle.model.proofs.Good.{Good, good-move}
 use Rattle.model.proofs.Unrefused.{refuses, is-accepted}

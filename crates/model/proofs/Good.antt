@@ -41,7 +41,7 @@ pub record Good (s : Store) : Type 0 where
   pub told : ToldAt s
   pub reading : ReadingAt s
 
-sizes-move : (s s′ : Store) {a : ℕ} → Move s a s′ → s′ .sizes ≡ s .sizes
+pub sizes-move : (s s′ : Store) {a : ℕ} → Move s a s′ → s′ .sizes ≡ s .sizes
 sizes-move s s′ (stay i) = refl
 sizes-move s s′ (did-begin i a b c d) = refl
 sizes-move s s′ (did-mark i a b) = refl

@@ -8,11 +8,12 @@ use Prim.Native.Nat.{ℕ, _≤_, _<_}
 use native.Mathlib.Omega.{arith}
 use Rattle.model.specs.Lists.{member, Among}
 use Rattle.model.specs.Table.{update, update-elim, cond-elim}
-use Rattle.model.specs.Store.{Sizes, Held, Phase, Open, Holding, Collected, Prepared, Installed, Ended, Txn, Store, noTxn, fresh, rank, bucketIn, keyIn, bucketOf}
-use Rattle.model.specs.Steps.{withPhase, capturedTxn, captured, collectedTxn, collected, prepared, published, pendingRows, oldKey, newKey, keyBuckets, readBuckets, neededBuckets, repost, freed}
-use Rattle.model.specs.Holding.{Writes, needs, Wants, Claims}
+use Rattle.model.specs.Store.{Sizes, Held, Phase, Prepared, Installed, Ended, Txn, Store, noTxn, fresh, rank, bucketIn, keyIn, bucketOf}
 use Rattle.model.specs.Seeing.{Live}
-use Rattle.model.proofs.ListLaws.{among-left, among-right, join-same, which-join, none-each, member-among, among-member}
+use Rattle.model.specs.Steps.{withPhase, capturedTxn, captured, collectedTxn, collected, pendingRows, oldKey, newKey, keyBuckets, readBuckets, neededBuckets, prepared, repost, freed, published}
+use Rattle.model.specs.Holding.{Writes, needs, Wants, Claims}
+use Rattle.model.proofs.ListLaws.{among-left, among-right, none-each, which-join, join-same, member-among, among-member}
+use Rattle.model.proofs.Phases.{holding-is}
 use Rattle.model.proofs.Move.{CanCapture, CanPrepare, Move, stay, did-begin, did-mark, did-capture, did-collect, did-rows, did-write, did-prepare, did-install, did-end, did-publish, did-abort}
 use Rattle.model.proofs.Numbers.{Numbers}
 use Rattle.model.proofs.SeeingLaws.{key-bucket}
@@ -24,23 +25,6 @@ pub record Holders (z : Sizes) (h : Held) (posted : ℕ → Option ℕ) (t : ℕ
 
 abbrev pub HoldersAt : Store → Type 0
 HoldersAt s = Holders (s .sizes) (s .held) (s .index .posted) (s .txns)
-
--- phases that carry something
-pub holding-is : (ph : Phase) → rank ph ≡ 2 → ph ≡ Holding (bucketIn ph) (keyIn ph)
-holding-is Open e = absurd (omega arith)
-holding-is (Holding b k) e = refl
-holding-is (Collected k) e = absurd (omega arith)
-holding-is Prepared e = absurd (omega arith)
-holding-is Installed e = absurd (omega arith)
-holding-is Ended e = absurd (omega arith)
-
-pub collected-is : (ph : Phase) → rank ph ≡ 3 → ph ≡ Collected (keyIn ph)
-collected-is Open e = absurd (omega arith)
-collected-is (Holding b k) e = absurd (omega arith)
-collected-is (Collected k) e = refl
-collected-is Prepared e = absurd (omega arith)
-collected-is Installed e = absurd (omega arith)
-collected-is Ended e = absurd (omega arith)
 
 pub wants-busy : (z : Sizes) (posted : ℕ → Option ℕ) (y : Txn) (b : ℕ) → Wants z posted y b → 2 ≤ rank (y .phase)
 wants-busy z posted y b (inl w) = omega (arith, ap rank (w .1))

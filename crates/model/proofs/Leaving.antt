@@ -10,23 +10,24 @@ use lib.Dec.{ltb, leb}
 use borrow.Author.Tests.{eq-eqb, ne-eqb, leb-true}
 use Rattle.model.specs.Lists.{least, every, Among, Rising}
 use Rattle.model.specs.Table.{update, updateAll, update-same, update-other, cond-elim}
-use Rattle.model.specs.Store.{Sizes, Phase, Open, Holding, Collected, Prepared, Installed, Ended, Txn, Store, rank, sameKey, bucketOf, Write, bucketIn}
-use Rattle.model.specs.Seeing.{activeNumbers, pending, writtenKey}
-use Rattle.model.specs.Steps.{hasRead, addRead, capturedTxn, newTxn, pendingRows, versionRows, madeRows, keyBuckets, keyBefore, newKey, neededBuckets, repost, changedBuckets, release, preparedHeld, freed, publishedIndex, withPhase, writtenTxn}
+use Rattle.model.specs.Store.{Sizes, Open, Write, Txn, Store, rank, bucketIn, sameKey, bucketOf}
+use Rattle.model.specs.Seeing.{pending, writtenKey, activeNumbers}
+use Rattle.model.specs.Steps.{withPhase, newTxn, hasRead, addRead, capturedTxn, writtenTxn, pendingRows, keyBefore, newKey, versionRows, madeRows, keyBuckets, neededBuckets, preparedHeld, repost, changedBuckets, publishedIndex, release, freed}
 use Rattle.model.specs.Refusals.{Step, begin, capture, collect, rows, put, erase, prepare, install, end, publish, validate, abort, txnOf}
 use Rattle.model.specs.Shape.{goodChains, rightShape}
-use Rattle.model.specs.Machine.{at, actor, accepted, step}
+use Rattle.model.specs.Machine.{at, accepted, actor, step}
+use Rattle.model.specs.Holding.{Gets}
 use Rattle.model.specs.Given.{number, Shaped, Lives, bucketFor, stampFor}
 use Rattle.model.specs.Effects.{Stamps, posts, Takes, Frees, Claimed, Unclaimed}
-use Rattle.model.specs.Leaves.{TakenAt, Captures, askerAfter, IndexAfter, HeldAfter, Leaves}
-use Rattle.model.specs.Holding.{Gets}
-use Rattle.model.proofs.ListLaws.{and-l, and-r, is-false, among-left, among-right, among-cases, among-member, not-member, least-own, least-each, join-which, which-join, pick-which, pick-rising}
+use Rattle.model.specs.Leaves.{Captures, TakenAt, askerAfter, IndexAfter, HeldAfter, Leaves}
+use Rattle.model.proofs.ListLaws.{and-l, and-r, is-false, among-left, among-right, among-cases, join-which, which-join, among-member, not-member, least-own, least-each, pick-rising, pick-which}
+use Rattle.model.proofs.Phases.{open-is}
 use Rattle.model.proofs.Numbers.{active-which, which-active}
 use Rattle.model.proofs.SeeingLaws.{same-key, key-same, key-bucket, read-bucket, bucket-read}
 use Rattle.model.proofs.Made.{gets-writes}
 use Rattle.model.proofs.Making.{last-write, makes-all, makes-none}
 use Rattle.model.proofs.Conditions.{lives-number, each-below}
-use Rattle.model.proofs.Refused.{capture-0, put-0, erase-0, prepare-0, install-0, publish-0, validate-0, abort-0}
+use Rattle.model.proofs.Refused.{capture-0, put-0, erase-0, prepare-0, validate-0, install-0, publish-0, abort-0}
 use Rattle.model.proofs.Outcomes.{done-does}
 
 -- THE SNAPSHOT THAT BEGIN TAKES
@@ -138,14 +139,6 @@ pending-in z ws r m = let w = pick-which (pending ws) 0 (z .rows) r m in (omega 
 
 getting-in : (s : Store) (t r : ℕ) → Gets (s .sizes) (s .chains) (txnOf s t) r → (r < s .sizes .rows) × (pending (txnOf s t .writes) r ≡ true)
 getting-in s t r m = pending-in (s .sizes) (txnOf s t .writes) r (gets-writes (s .sizes) (s .chains) (txnOf s t) r m)
-
-open-is : (ph : Phase) → rank ph ≡ 1 → ph ≡ Open
-open-is Open e = refl
-open-is (Holding b k) e = absurd (omega arith)
-open-is (Collected k) e = absurd (omega arith)
-open-is Prepared e = absurd (omega arith)
-open-is Installed e = absurd (omega arith)
-open-is Ended e = absurd (omega arith)
 
 -- EVERY STEP
 

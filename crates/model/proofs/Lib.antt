@@ -3,6 +3,7 @@ pub mod Worked
 pub mod Printed
 pub mod Caught
 pub mod ListLaws
+pub mod Phases
 pub mod Move
 pub mod Chained
 pub mod Distinct
@@ -14,6 +15,7 @@ pub mod Holders
 pub mod Made
 pub mod Grown
 pub mod Written
+pub mod Sums
 pub mod Room
 pub mod Making
 pub mod Ranges
@@ -27,12 +29,14 @@ pub mod Unrefused
 pub mod Finished
 pub mod Remains
 pub mod Cleared
+pub mod Relied
 pub mod Stands
 pub mod Validated
 pub mod FirstTest
 pub mod Conditions
 pub mod Refused
 pub mod Outcomes
+pub mod LiveRows
 pub mod Exact
 pub mod Leaving
 pub mod Marking

@@ -24,6 +24,10 @@ and-r false b e = absurd (false≢true e)
 pub and-both : (a b : Bool) → a ≡ true → b ≡ true → a && b ≡ true
 and-both a b p q = rw p q
 
+pub and-false : (b : Bool) → b && false ≡ false
+and-false true = refl
+and-false false = refl
+
 pub or-left : (a b : Bool) → a ≡ true → a || b ≡ true
 or-left a b e = rw e
 
@@ -110,6 +114,10 @@ module _ {A B : Type 0} where
   among-map f (y ∷ xs) x (inl e) = inl (ap f e)
   among-map f (y ∷ xs) x (inr m) = inr (among-map f xs x m)
 
+  pub map-same : (f g : A → B) → ((x : A) → f x ≡ g x) → (xs : List A) → map f xs ≡ map g xs
+  map-same f g e [] = refl
+  map-same f g e (x ∷ xs) = rw (e x, map-same f g e xs)
+
   pub map-among : (f : A → B) (xs : List A) (y : B) → Among y (map f xs) → (x : A) × Among x xs × (y ≡ f x)
   map-among f (x ∷ xs) y (inl e) = (x, inl refl, e)
   map-among f (x ∷ xs) y (inr m) = let w = map-among f xs y m in (w .0, inr (w .1), w .2)
@@ -186,6 +194,11 @@ pick-same test also k (suc n) h = rw (h k (omega arith) (omega arith), pick-same
 -- two picks of the same numbers are one
 pub pick-among : (test also : ℕ → Bool) (k n : ℕ) → ((r : ℕ) → Among r (pick test k n) → Among r (pick also k n)) → ((r : ℕ) → Among r (pick also k n) → Among r (pick test k n)) → pick test k n ≡ pick also k n
 pick-among test also k n f g = pick-same test also k n (λ r l u. same-test _ _ (λ e. pick-which also k n r (f r (which-pick test k n r l u e)) .2) (λ e. pick-which test k n r (g r (which-pick also k n r l u e)) .2))
+
+pub pick-none : (test : ℕ → Bool) (k n : ℕ) → ((r : ℕ) → test r ≡ false) → pick test k n ≡ []
+unfolding pick
+pick-none test k zero h = refl
+pick-none test k (suc n) h = rw (h k) (pick-none test (suc k) n h)
 
 pub pick-few : (test : ℕ → Bool) (k n : ℕ) → length (pick test k n) ≤ n
 unfolding pick

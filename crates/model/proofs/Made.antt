@@ -1,17 +1,19 @@
 -- Which pending rows get a version, and which got one: each test taken apart into facts. Assumes nothing.
 use mathlib.Core.Path.{_≡_, refl, sym, ap, _∙_}
-use mathlib.Core.Bool.{Bool, true, false, _&&_, true≢false}
+use mathlib.Core.Bool.{Bool, true, false, _&&_, _||_, true≢false}
 use mathlib.Core.Logic.{_⊎_, inl, inr, ⊎-elim}
 use mathlib.Core.Option.{Option, none, some}
+use mathlib.Core.List.{List}
 use Prim.Native.Nat.{ℕ, _+_, _≤_, _<_}
 use native.Mathlib.Omega.{arith}
 use lib.Dec.{leb}
 use borrow.Author.Tests.{eqb-true, eq-eqb, leb-true, le-leb}
-use Rattle.model.specs.Store.{Sizes, Chains, Txn, keyed}
-use Rattle.model.specs.Seeing.{pending}
+use Rattle.model.specs.Lists.{pick}
+use Rattle.model.specs.Store.{Sizes, Chains, Write, Txn, keyed}
+use Rattle.model.specs.Seeing.{lastWrite, pending, writtenKey}
 use Rattle.model.specs.Steps.{pendingRows, oldKey, newKey, getsVersion, versionRows, headedBy, madeRows}
 use Rattle.model.specs.Holding.{Writes, Gets, Made, ErasesNothing}
-use Rattle.model.proofs.ListLaws.{and-l, and-r, and-both, or-cases, or-l, or-r, or-left, or-right, pick-which, which-pick, pick-same}
+use Rattle.model.proofs.ListLaws.{and-l, and-r, and-both, or-left, or-right, or-cases, or-l, or-r, pick-which, which-pick, pick-same}
 use Rattle.model.proofs.SeeingLaws.{which-pendingRows}
 
 -- a key that is not there is none
@@ -94,11 +96,22 @@ module _ (z : Sizes) (c : Chains) (x : Txn) (r : ℕ) where
   unfolding versionRows
   nothing-got n m = let w = pick-which (toGet c x) 0 (z .rows) r m in true≢false (sym (and-r (pending (x .writes) r) _ (w .2)) ∙ no-gets n)
 
--- the rows that get a version look at the heads of the pending rows alone
-pub versionRows-same : (z : Sizes) (c c′ : Chains) (x : Txn) → ((r : ℕ) → Writes z x r → oldKey c′ r ≡ oldKey c r) → versionRows z c′ (x .writes) ≡ versionRows z c (x .writes)
-unfolding versionRows getsVersion
-versionRows-same z c c′ x h = pick-same (toGet c′ x) (toGet c x) 0 (z .rows) (λ r l u. go r u (pending (x .writes) r) refl)
+-- the pending rows that get a version, where the rows have these keys
+unfoldable pub versionsOver : Sizes → (ℕ → Option ℕ) → List Write → List ℕ
+versionsOver z keys ws = pick (λ r. pending ws r && (keyed (keys r) || keyed (writtenKey (lastWrite ws r)))) 0 (z .rows)
+
+pub versions-old : (z : Sizes) (c : Chains) (ws : List Write) → versionRows z c ws ≡ versionsOver z (oldKey c) ws
+unfolding versionRows getsVersion versionsOver
+versions-old z c ws = refl
+
+-- they look at the keys of the pending rows alone
+pub versions-same : (z : Sizes) (keys keys′ : ℕ → Option ℕ) (x : Txn) → ((r : ℕ) → Writes z x r → keys′ r ≡ keys r) → versionsOver z keys′ (x .writes) ≡ versionsOver z keys (x .writes)
+unfolding versionsOver
+versions-same z keys keys′ x h = pick-same _ _ 0 (z .rows) (λ r l u. go r u (pending (x .writes) r) refl)
   where
-    go : (r : ℕ) → r < 0 + z .rows → (b : Bool) → pending (x .writes) r ≡ b → b && getsVersion c′ (x .writes) r ≡ b && getsVersion c (x .writes) r
+    go : (r : ℕ) → r < 0 + z .rows → (b : Bool) → pending (x .writes) r ≡ b → b && (keyed (keys′ r) || keyed (writtenKey (lastWrite (x .writes) r))) ≡ b && (keyed (keys r) || keyed (writtenKey (lastWrite (x .writes) r)))
     go r u true e = rw (h r (which-pendingRows z (x .writes) r (omega arith) e))
     go r u false e = refl
+
+pub versionRows-same : (z : Sizes) (c c′ : Chains) (x : Txn) → ((r : ℕ) → Writes z x r → oldKey c′ r ≡ oldKey c r) → versionRows z c′ (x .writes) ≡ versionRows z c (x .writes)
+versionRows-same z c c′ x h = versions-old z c′ (x .writes) ∙ (versions-same z (oldKey c) (oldKey c′) x h ∙ sym (versions-old z c (x .writes)))

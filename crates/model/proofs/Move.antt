@@ -1,9 +1,9 @@
 -- What a step does, as a relation: each test of a step is taken apart here, once. Assumes nothing.
 use mathlib.Core.Path.{_≡_, refl, sym, _∙_}
 use mathlib.Core.Bool.{Bool, true, false, not, _&&_, false≢true, true≢false}
-use mathlib.Core.Logic.{_⊎_, inl, inr}
+use mathlib.Core.Logic.{_≢_, _⊎_, inl, inr}
 use mathlib.Core.Option.{Option, none, some}
-use mathlib.Core.List.{List, [], _∷_}
+use mathlib.Core.List.{List, [], _∷_, _++_}
 use Prim.Native.Nat.{ℕ, _+_, _≤_, _<_}
 use native.Mathlib.Omega.{arith}
 use lib.Dec.{eqb, leb}
@@ -11,14 +11,14 @@ use lib.ListN.{length}
 use borrow.Author.Tests.{eqb-true, eqb-false, ne-eqb, ltb-true, ltb-false, leb-false, not-true, not-false}
 use Rattle.limits.specs.Limits.{mostLive, mostIndexReads, mostRecords, mostWrites, lastNumber}
 use Rattle.model.specs.Lists.{some-of, all-of}
-use Rattle.model.specs.Table.{cond-elim}
-use Rattle.model.specs.Store.{Store, Txn, Write, Ended, rank, bucketOf}
+use Rattle.model.specs.Table.{update-other, cond-elim}
+use Rattle.model.specs.Store.{Ended, Write, Txn, Store, rank, bucketOf}
 use Rattle.model.specs.Seeing.{live, Live}
-use Rattle.model.specs.Verdict.{verdict, verdictNumber}
-use Rattle.model.specs.Steps.{begun, stale, captured, collected, readDone, written, prepared, installed, becomes, published, ended, hasRead, recordsAfter, pendingRows, neededBuckets, versionRows}
-use Rattle.model.specs.Refusals.{Refusal, Step, begin, capture, collect, rows, put, erase, prepare, install, end, publish, validate, abort, placeOf, txnOf, liveCount, byAnother, reserved, found, inPhase, writeChecks, checks, refusal}
+use Rattle.model.specs.Verdict.{verdictNumber, verdict}
+use Rattle.model.specs.Steps.{becomes, begun, stale, hasRead, captured, collected, recordsAfter, readDone, written, pendingRows, versionRows, neededBuckets, prepared, installed, ended, published}
+use Rattle.model.specs.Refusals.{Refusal, Step, begin, capture, collect, rows, put, erase, prepare, install, end, publish, validate, abort, placeOf, txnOf, liveCount, byAnother, reserved, writeChecks, found, inPhase, checks, refusal}
 use Rattle.model.specs.Shape.{rightShape}
-use Rattle.model.specs.Machine.{at, actor, accepted, isStale, afterRefusal, carried, step, stepIn, run}
+use Rattle.model.specs.Machine.{at, accepted, actor, isStale, afterRefusal, carried, stepIn, step, run}
 use Rattle.model.proofs.ListLaws.{and-l, and-r, or-l, or-r, first-holds, first-free}
 
 -- the test of a live transaction, and its fact
@@ -201,3 +201,23 @@ pub run-inv : (P : Store → Type 0) → ((s s′ : Store) (i : ℕ) → P s →
 unfolding run
 run-inv P keep s [] p = p
 run-inv P keep s (a ∷ more) p = run-inv P keep (step s a .store) more (keep s _ _ p (step-move s a))
+
+pub run-append : (s : Store) (xs ys : List Step) → run s (xs ++ ys) ≡ run (run s xs) ys
+unfolding run
+run-append s [] ys = refl
+run-append s (a ∷ xs) ys = run-append (step s a .store) xs ys
+
+-- only the acting place changes
+pub untouched : (s s′ : Store) {b : ℕ} → Move s b s′ → (i : ℕ) → i ≢ b → s′ .txns i ≡ s .txns i
+untouched s s′ (stay j) i d = refl
+untouched s s′ (did-begin j a b c e) i d = update-other (s .txns) j _ i d
+untouched s s′ (did-mark j a b) i d = update-other (s .txns) j _ i d
+untouched s s′ (did-capture j k a b c) i d = update-other (s .txns) j _ i d
+untouched s s′ (did-collect j a b) i d = update-other (s .txns) j _ i d
+untouched s s′ (did-rows j a b c) i d = update-other (s .txns) j _ i d
+untouched s s′ (did-write j w a b c e) i d = update-other (s .txns) j _ i d
+untouched s s′ (did-prepare j a b c) i d = update-other (s .txns) j _ i d
+untouched s s′ (did-install j a b) i d = update-other (s .txns) j _ i d
+untouched s s′ (did-end j a b) i d = update-other (s .txns) j _ i d
+untouched s s′ (did-publish j a b) i d = update-other (s .txns) j _ i d
+untouched s s′ (did-abort j a b) i d = update-other (s .txns) j _ i d

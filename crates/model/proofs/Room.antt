@@ -1,8 +1,8 @@
 -- Room is kept: the clock with a publish for each live transaction fits, and so do the versions with those reserved. Assumes nothing.
 use mathlib.Core.Path.{_≡_, refl, sym, ap, _∙_}
 use mathlib.Core.Bool.{Bool, true, false, cond, _&&_}
-use mathlib.Core.List.{List, [], _∷_}
 use mathlib.Core.Logic.{_≢_}
+use mathlib.Core.List.{List, [], _∷_}
 use Prim.Native.Nat.{ℕ, zero, suc, _+_, _≤_, _<_}
 use native.Mathlib.Omega.{arith}
 use native.Mathlib.Decide.{ℕ-discrete}
@@ -11,13 +11,12 @@ use lib.ListN.{length}
 use borrow.Author.Tests.{eq-eqb, ne-eqb}
 use Rattle.limits.specs.Limits.{mostLive, lastNumber}
 use Rattle.model.specs.Lists.{pick}
-use Rattle.model.specs.Table.{update, update-elim, update-same, update-other}
+use Rattle.model.specs.Table.{update, update-elim}
 use Rattle.model.specs.Store.{Sizes, Chains, Prepared, Installed, Txn, Store, noTxn, fresh, rank}
-use Rattle.model.specs.Seeing.{live, lastWrite, Live, keyAt}
-use Rattle.model.specs.Steps.{newTxn, push, pushAll, newKey, writtenPayload, withPhase, prepared, installed, versionRows, oldKey}
+use Rattle.model.specs.Seeing.{keyAt, lastWrite, live, Live}
+use Rattle.model.specs.Steps.{withPhase, newTxn, oldKey, newKey, versionRows, prepared, push, writtenPayload, pushAll, installed}
 use Rattle.model.specs.Refusals.{liveCount, reservedBy, reserved}
 use Rattle.model.specs.Holding.{Writes}
-use Rattle.model.proofs.ListLaws.{pick-same}
 use Rattle.model.proofs.Move.{live-test, Move, stay, did-begin, did-mark, did-capture, did-collect, did-rows, did-write, did-prepare, did-install, did-end, did-publish, did-abort}
 use Rattle.model.proofs.Chained.{Chained}
 use Rattle.model.proofs.Numbers.{Numbers, in-place}
@@ -25,6 +24,7 @@ use Rattle.model.proofs.Holders.{HoldersAt, one-claim}
 use Rattle.model.proofs.Made.{gets-writes, versionRows-same}
 use Rattle.model.proofs.Grown.{Grown}
 use Rattle.model.proofs.Written.{keyAt-grown, installs}
+use Rattle.model.proofs.Sums.{sum, sum-same, sum-set, sum-zero, one, picked}
 
 pub record Room (z : Sizes) (clock : ℕ) (c : Chains) (t : ℕ → Txn) : Type 0 where
   pub numbers-left : clock + liveCount t ≤ lastNumber
@@ -33,54 +33,28 @@ pub record Room (z : Sizes) (clock : ℕ) (c : Chains) (t : ℕ → Txn) : Type 
 abbrev pub RoomAt : Store → Type 0
 RoomAt s = Room (s .sizes) (s .clock) (s .chains) (s .txns)
 
--- a test as 0 or 1
-abbrev oneIf : Bool → ℕ
-oneIf true = 1
-oneIf false = 0
-
--- two tests that differ at one number only
-pick-at : (test also : ℕ → Bool) (i k n : ℕ) → k ≤ i → i < k + n → ((j : ℕ) → j ≢ i → test j ≡ also j) → length (pick test k n) + oneIf (also i) ≡ length (pick also k n) + oneIf (test i)
-unfolding pick
-pick-at test also i k zero l u h = absurd (omega arith)
-pick-at test also i k (suc n) l u h = elim (ℕ-discrete k i) [
-  | yes e ↦ rw (pick-same test also (suc k) n (λ r a b. h r (λ f. omega arith))) (rw e (here (test i) (also i) i (pick also (suc i) n)))
-  | no d ↦ rw (h k d) (there (also k) k (pick test (suc k) n) (pick also (suc k) n) (oneIf (also i)) (oneIf (test i)) (pick-at test also i (suc k) n (omega arith) (omega arith) h))
-]
-  where
-    here : (a b : Bool) (m : ℕ) (rest : List ℕ) → length (cond a (m ∷ rest) rest) + oneIf b ≡ length (cond b (m ∷ rest) rest) + oneIf a
-    here true true m rest = refl
-    here true false m rest = omega arith
-    here false true m rest = omega arith
-    here false false m rest = refl
-
-    there : (a : Bool) (m : ℕ) (ps qs : List ℕ) (p q : ℕ) → length ps + p ≡ length qs + q → length (cond a (m ∷ ps) ps) + p ≡ length (cond a (m ∷ qs) qs) + q
-    there true m ps qs p q e = omega arith
-    there false m ps qs p q e = e
-
-live-set : (t : ℕ → Txn) (i : ℕ) (x : Txn) → i < mostLive → liveCount (update t i x) + oneIf (live (t i)) ≡ liveCount t + oneIf (live x)
+-- one place changes: how many are live, and what they reserve
+live-set : (t : ℕ → Txn) (i : ℕ) (x : Txn) → i < mostLive → liveCount (update t i x) + one (live (t i)) ≡ liveCount t + one (live x)
 unfolding liveCount
-live-set t i x l = pick-at (λ j. live (update t i x j)) (λ j. live (t j)) i 0 mostLive (omega arith) (omega arith) (λ j d. rw (update-other t i x j d)) ∙ rw (update-same t i x)
+live-set t i x l = rw (picked live (update t i x) mostLive, picked live t mostLive) (sum-set (λ y. one (live y)) t i x mostLive l)
 
-reserved-below : (z : Sizes) (c : Chains) (t : ℕ → Txn) (i : ℕ) (x : Txn) (n : ℕ) → n ≤ i → reserved z c (update t i x) n ≡ reserved z c t n
-unfolding reserved
-reserved-below z c t i x zero l = refl
-reserved-below z c t i x (suc n) l = rw (reserved-below z c t i x n (omega arith), update-other t i x n (λ e. omega arith))
+reserved-sum : (z : Sizes) (c : Chains) (t : ℕ → Txn) (n : ℕ) → reserved z c t n ≡ sum (reservedBy z c) t n
+unfolding reserved sum
+reserved-sum z c t zero = refl
+reserved-sum z c t (suc n) = rw (reserved-sum z c t n)
 
 reserved-set : (z : Sizes) (c : Chains) (t : ℕ → Txn) (i : ℕ) (x : Txn) (n : ℕ) → i < n → reserved z c (update t i x) n + reservedBy z c (t i) ≡ reserved z c t n + reservedBy z c x
-unfolding reserved
-reserved-set z c t i x zero l = absurd (omega arith)
-reserved-set z c t i x (suc n) l = elim (ℕ-discrete n i) [
-  | yes e ↦ rw (e, reserved-below z c t i x i (omega arith), update-same t i x) (omega arith)
-  | no d ↦ rw (update-other t i x n d) (omega (arith, reserved-set z c t i x n (omega arith)))
-]
+reserved-set z c t i x n l = rw (reserved-sum z c (update t i x) n, reserved-sum z c t n) (sum-set (reservedBy z c) t i x n l)
 
 -- what each reserves is the same over two chains
 reserved-same : (z : Sizes) (c c′ : Chains) (t : ℕ → Txn) (n : ℕ) → ((j : ℕ) → reservedBy z c′ (t j) ≡ reservedBy z c (t j)) → reserved z c′ t n ≡ reserved z c t n
-unfolding reserved
-reserved-same z c c′ t zero h = refl
-reserved-same z c c′ t (suc n) h = rw (reserved-same z c c′ t n h, h n)
+reserved-same z c c′ t n h = rw (reserved-sum z c′ t n, reserved-sum z c t n) (sum-same (reservedBy z c) (reservedBy z c′) t t n (λ j l. h j))
 
-reserves-none : (z : Sizes) (c : Chains) (x : Txn) → rank (x .phase) ≢ 4 → reservedBy z c x ≡ 0
+-- who reserves nothing, all together, reserve nothing
+pub reserved-none : (z : Sizes) (c : Chains) (t : ℕ → Txn) (n : ℕ) → ((j : ℕ) → reservedBy z c (t j) ≡ 0) → reserved z c t n ≡ 0
+reserved-none z c t n h = reserved-sum z c t n ∙ sum-zero (reservedBy z c) t n h
+
+pub reserves-none : (z : Sizes) (c : Chains) (x : Txn) → rank (x .phase) ≢ 4 → reservedBy z c x ≡ 0
 unfolding reservedBy
 reserves-none z c x d = rw (ne-eqb (rank (x .phase)) 4 d) (go (live x))
   where
@@ -98,7 +72,7 @@ used-pushAll x [] c = omega arith
 used-pushAll x (r ∷ rs) c = omega (arith, used-pushAll x rs (push (x .number) r (newKey x r) (writtenPayload (lastWrite (x .writes) r)) c))
 
 -- one place changes, and takes no more than it had
-room-set : (z : Sizes) (clock clock′ : ℕ) (c : Chains) (t : ℕ → Txn) (i : ℕ) (x : Txn) → i < mostLive → clock′ + oneIf (live x) ≤ clock + oneIf (live (t i)) → reservedBy z c x ≤ reservedBy z c (t i)
+room-set : (z : Sizes) (clock clock′ : ℕ) (c : Chains) (t : ℕ → Txn) (i : ℕ) (x : Txn) → i < mostLive → clock′ + one (live x) ≤ clock + one (live (t i)) → reservedBy z c x ≤ reservedBy z c (t i)
     → Room z clock c t → Room z clock′ c (update t i x)
 room-set z clock clock′ c t i x l a b g = record {
   numbers-left = omega (arith, g .numbers-left, live-set t i x l);
@@ -115,7 +89,7 @@ module _ (s : Store) (i : ℕ) (n : Numbers (s .clock) (s .txns)) (g : RoomAt s)
 
   -- the record ends
   room-free : (clock′ : ℕ) → clock′ ≤ suc (s .clock) → Room (s .sizes) clock′ (s .chains) (update (s .txns) i noTxn)
-  room-free clock′ h = room-set _ _ _ (s .chains) (s .txns) i noTxn here (omega (arith, ap oneIf (live-test (s .txns i) a))) (omega (arith, reserves-none (s .sizes) (s .chains) noTxn (λ e. omega arith))) g
+  room-free clock′ h = room-set _ _ _ (s .chains) (s .txns) i noTxn here (omega (arith, ap one (live-test (s .txns i) a))) (omega (arith, reserves-none (s .sizes) (s .chains) noTxn (λ e. omega arith))) g
 
   room-prepare : rank (s .txns i .phase) ≡ 1 → s .chains .used + reserved (s .sizes) (s .chains) (s .txns) mostLive + length (versionRows (s .sizes) (s .chains) (s .txns i .writes)) ≤ s .sizes .versions → RoomAt (prepared s i)
   room-prepare r h = let x = withPhase (s .txns i) Prepared in record {
@@ -161,7 +135,7 @@ module _ (s : Store) (i : ℕ) (n : Numbers (s .clock) (s .txns)) (g : RoomAt s)
 pub room-move : (s s′ : Store) {a : ℕ} → Chained (s .chains) → Numbers (s .clock) (s .txns) → HoldersAt s → RoomAt s → Move s a s′ → RoomAt s′
 room-move s s′ ch n h g (stay i) = g
 room-move s s′ ch n h g (did-begin i a b c d) = record {
-  numbers-left = omega (arith, live-set (s .txns) i (newTxn s) a, ap oneIf (live-test (newTxn s) (n .clock-pos)));
+  numbers-left = omega (arith, live-set (s .txns) i (newTxn s) a, ap one (live-test (newTxn s) (n .clock-pos)));
   versions-left = omega (arith, g .versions-left, reserved-set (s .sizes) (s .chains) (s .txns) i (newTxn s) mostLive a, reserves-none (s .sizes) (s .chains) (newTxn s) (λ e. omega arith));
 }
 room-move s s′ ch n h g (did-mark i a b) = room-quiet s i n g a _ refl (λ e. omega arith) (λ e. omega arith)

@@ -9,13 +9,14 @@ use native.Mathlib.Decide.{ℕ-discrete}
 use Rattle.model.specs.Lists.{member}
 use Rattle.model.specs.Store.{Chains, Snapshot, Txn, rank}
 use Rattle.model.specs.Seeing.{seen, versionOf, keyAt, Live}
+use Rattle.model.specs.Contents.{contentOf}
 use Rattle.model.proofs.ListLaws.{member-among, among-member}
 use Rattle.model.proofs.Chained.{Chained}
 use Rattle.model.proofs.Numbers.{Numbers}
 use Rattle.model.proofs.SeeingLaws.{version-in}
 use Rattle.model.proofs.Walk.{Finds, nothing, here, down, version-finds, finds-one}
 use Rattle.model.proofs.Grown.{Grown}
-use Rattle.model.proofs.Written.{keyAt-grown, old-or-new}
+use Rattle.model.proofs.Written.{old-or-new, keyAt-grown}
 use Rattle.model.proofs.Told.{unseen-late, unseen-active}
 
 -- the number of another that has not ended is not seen
@@ -57,3 +58,7 @@ module _ (x : Txn) (rs : List ℕ) (c c′ : Chains) (g : Chained c) (g′ : Cha
 
   pub xmin-grown : (r : ℕ) → c′ .xmin (versionOf c′ v r) ≡ c .xmin (versionOf c v r)
   xmin-grown r = ap (c′ .xmin) (version-grown r) ∙ gr .xmin-old _ (version-old r)
+
+  pub content-grown : (r : ℕ) → contentOf c′ v r ≡ contentOf c v r
+  unfolding contentOf
+  content-grown r = rw (key-grown r, ap (c′ .payload) (version-grown r) ∙ gr .payload-old _ (version-old r))

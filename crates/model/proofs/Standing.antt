@@ -4,20 +4,20 @@ use mathlib.Core.Option.{some}
 use mathlib.Core.List.{List, [], map}
 use Prim.Native.Nat.{ℕ}
 use Rattle.model.specs.Lists.{Among}
-use Rattle.model.specs.Store.{Sizes, ReadRecord, Collected, Store, fresh, keyIn}
+use Rattle.model.specs.Store.{Sizes, Collected, ReadRecord, Store, fresh, keyIn}
 use Rattle.model.specs.Seeing.{shows, snapshotNow}
 use Rattle.model.specs.Verdict.{Clear}
 use Rattle.model.specs.Steps.{foundRows}
-use Rattle.model.specs.Refusals.{Step, rows, validate, prepare, txnOf}
-use Rattle.model.specs.Machine.{Rows, Judged, Done, step, run}
+use Rattle.model.specs.Refusals.{Step, rows, prepare, validate, txnOf}
+use Rattle.model.specs.Machine.{Done, Rows, Judged, step, run}
 use Rattle.model.specs.Demands.{KeptVersion, FinishedRead, StandingRead}
+use Rattle.model.proofs.Phases.{collected-is}
 use Rattle.model.proofs.SeeingLaws.{recordAll-cases, recordAll-keeps}
 use Rattle.model.proofs.Good.{Good, sizes-run}
 use Rattle.model.proofs.Lasting.{Lasts, lasts-all, lasts-on, lasts-step, shown-in}
-use Rattle.model.proofs.Holders.{collected-is}
 use Rattle.model.proofs.Unrefused.{refuses, reached}
 use Rattle.model.proofs.Finished.{found-whole, rows-done, rows-recorded, found-rising}
-use Rattle.model.proofs.Validated.{validate-passed, validated-shows, prepare-passed, prepared-shows, standing}
+use Rattle.model.proofs.Validated.{validate-passed, prepare-passed, validated-shows, prepared-shows, standing}
 
 pub finished : (z : Sizes) (clock : ℕ) (before : List Step) (t room : ℕ) (rs : List ℕ) → let s = run (fresh z clock) before in
     step s (rows t room) .answer ≡ Rows rs → FinishedRead s (step s (rows t room) .store) t rs

@@ -79,6 +79,22 @@ finds-one c v p q w (down l u t n) (nothing a b) = absurd (omega arith)
 finds-one c v p q w (down l u t n) (here l′ u′ t′ f) = absurd (true≢false (sym t′ ∙ t))
 finds-one c v p q w (down l u t n) (down l′ u′ t′ n′) = finds-one c v (c .next p) q w n n′
 
+-- whoever sees the head of a row finds it
+pub finds-head : (c : Chains) (v : Snapshot) → Chained c → (r : ℕ) → (1 ≤ c .head r → seen v (c .xmin (c .head r)) ≡ true) → versionOf c v r ≡ c .head r
+finds-head c v g r sees = finds-one c v (c .head r) _ _ (version-finds c v g r) (go (ℕ-discrete (c .head r) 0))
+  where
+    go : Dec (c .head r ≡ 0) → Finds c v (c .head r) (c .head r)
+    go (yes e) = nothing e e
+    go (no d) = here {p = c .head r} (omega arith) (g .heads-in r) (sees (omega arith)) refl
+
+-- the walk of one who sees less goes on from where another's ends
+pub finds-through : (c : Chains) (now v : Snapshot) → ((p : ℕ) → 1 ≤ p → p ≤ c .used → seen now (c .xmin p) ≡ false → seen v (c .xmin p) ≡ false) → (p q w : ℕ) → Finds c now p q → q ≢ 0 → Finds c v p w → Finds c v q w
+finds-through c now v less p q w (nothing a b) z f = absurd (z b)
+finds-through c now v less p q w (here l u t e) z f = rw e f
+finds-through c now v less p q w (down l u t m) z (nothing a b) = absurd (omega arith)
+finds-through c now v less p q w (down l u t m) z (here l′ u′ t′ e) = absurd (true≢false (sym t′ ∙ less p l u t))
+finds-through c now v less p q w (down l u t m) z (down l′ u′ t′ n) = finds-through c now v less (c .next p) q w m z n
+
 -- what is found is in use, and seen
 pub record Shown (c : Chains) (v : Snapshot) (q : ℕ) : Type 0 where
   pub from : 1 ≤ q
@@ -121,6 +137,12 @@ pub finds-chain : (c : Chains) (v : Snapshot) (r p q : ℕ) → Finds c v p q �
 finds-chain c v r p q (nothing a b) h z = absurd (z b)
 finds-chain c v r p q (here l u t f) h z = rw f h
 finds-chain c v r p q (down l u t n) h z = finds-chain c v r (c .next p) q n (below h l u refl) z
+
+-- who sees the same versions of a row finds the same
+pub finds-alike : (c : Chains) (v w : Snapshot) (r : ℕ) → ((p : ℕ) → 1 ≤ p → p ≤ c .used → InChain c r p → seen w (c .xmin p) ≡ seen v (c .xmin p)) → (p q : ℕ) → InChain c r p → Finds c v p q → Finds c w p q
+finds-alike c v w r same p q i (nothing a b) = nothing a b
+finds-alike c v w r same p q i (here l u t f) = here {p = p} {q = q} l u (same p l u i ∙ t) f
+finds-alike c v w r same p q i (down l u t n) = down {p = p} {q = q} l u (same p l u i ∙ t) (finds-alike c v w r same (c .next p) q (below i l u refl) n)
 
 -- versions of two rows are disjoint
 pub chains-apart : (c : Chains) → Chained c → (q r p : ℕ) → InChain c q p → InChain c r p → p ≢ 0 → q ≡ r

@@ -12,8 +12,8 @@ use borrow.Author.Tests.{ltb-true, ltb-false}
 use Rattle.model.specs.Lists.{member}
 use Rattle.model.specs.Table.{update, update-elim, update-same, update-other}
 use Rattle.model.specs.Store.{Sizes, Chains, Installed, Ended, Txn, Store, noTxn, fresh, rank}
-use Rattle.model.specs.Seeing.{keyAt, Live}
-use Rattle.model.specs.Steps.{withPhase, pendingRows, oldKey, newKey, installed, published, versionRows}
+use Rattle.model.specs.Seeing.{keyAt, lastWrite, Live}
+use Rattle.model.specs.Steps.{withPhase, pendingRows, oldKey, newKey, writtenPayload, installed, published, versionRows}
 use Rattle.model.specs.Holding.{Writes, Gets, Made, ErasesNothing}
 use Rattle.model.proofs.ListLaws.{member-among, among-member, pick-rising}
 use Rattle.model.proofs.Move.{Move, stay, did-begin, did-mark, did-capture, did-collect, did-rows, did-write, did-prepare, did-install, did-end, did-publish, did-abort}
@@ -29,6 +29,7 @@ pub record Mine (c : Chains) (posted : ℕ → Option ℕ) (x : Txn) (r : ℕ) :
   pub head-pos : 1 ≤ c .head r
   pub xmin-is : c .xmin (c .head r) ≡ x .number
   pub key-is : keyAt c (c .head r) ≡ newKey x r
+  pub payload-is : c .payload (c .head r) ≡ writtenPayload (lastWrite (x .writes) r)
   pub before : keyAt c (c .next (c .head r)) ≡ posted r
 
 pub record Written (z : Sizes) (c : Chains) (posted : ℕ → Option ℕ) (t : ℕ → Txn) : Type 0 where
@@ -81,7 +82,7 @@ module _ (s : Store) (i : ℕ) (n : Numbers (s .clock) (s .txns)) (h : HoldersAt
   written-end a = let x = withPhase (s .txns i) Ended in record {
     made-or-nothing = λ j r. update-elim (λ y. Live y → 5 ≤ rank (y .phase) → Writes (s .sizes) y r → Made (s .sizes) (s .chains) y r ⊎ ErasesNothing (s .chains) y r) (s .txns) i x j (λ e v b w. g .made-or-nothing i r v (omega arith) w) (λ d v b w. g .made-or-nothing j r v b w);
     mine = λ j r. update-elim (λ y. Live y → 5 ≤ rank (y .phase) → Made (s .sizes) (s .chains) y r → Mine (s .chains) (s .index .posted) y r) (s .txns) i x j
-        (λ e v b w. let m = g .mine i r v (omega arith) w in record { head-pos = m .head-pos; xmin-is = m .xmin-is; key-is = m .key-is; before = m .before })
+        (λ e v b w. let m = g .mine i r v (omega arith) w in record { head-pos = m .head-pos; xmin-is = m .xmin-is; key-is = m .key-is; payload-is = m .payload-is; before = m .before })
         (λ d v b w. g .mine j r v b w);
     made = λ q j p u. update-elim (λ y. Live y → s .chains .xmin q ≡ y .number → (5 ≤ rank (y .phase)) × ((r : ℕ) × Made (s .sizes) (s .chains) y r × (s .chains .head r ≡ q))) (s .txns) i x j
         (λ e v f. (omega arith, g .made q i p u v f .1))
@@ -99,7 +100,7 @@ module _ (s : Store) (i : ℕ) (n : Numbers (s .clock) (s .txns)) (h : HoldersAt
     made-or-nothing = λ j r. update-elim (λ y. Live y → 5 ≤ rank (y .phase) → Writes (s .sizes) y r → Made (s .sizes) (s .chains) y r ⊎ ErasesNothing (s .chains) y r) (s .txns) i noTxn j (λ e v b w. absurd (omega arith)) (λ d v b w. g .made-or-nothing j r v b w);
     mine = λ j r. update-elim (λ y. Live y → 5 ≤ rank (y .phase) → Made (s .sizes) (s .chains) y r → Mine (s .chains) (published s i .index .posted) y r) (s .txns) i noTxn j
         (λ e v b w. absurd (omega arith))
-        (λ d v b w. let m = g .mine j r v b w in record { head-pos = m .head-pos; xmin-is = m .xmin-is; key-is = m .key-is; before = m .before ∙ sym (posted-kept s i n h (omega arith) j r d (omega arith) (made-writes (s .sizes) (s .chains) (s .txns j) r w)) });
+        (λ d v b w. let m = g .mine j r v b w in record { head-pos = m .head-pos; xmin-is = m .xmin-is; key-is = m .key-is; payload-is = m .payload-is; before = m .before ∙ sym (posted-kept s i n h (omega arith) j r d (omega arith) (made-writes (s .sizes) (s .chains) (s .txns j) r w)) });
     made = λ q j p u. update-elim (λ y. Live y → s .chains .xmin q ≡ y .number → (5 ≤ rank (y .phase)) × ((r : ℕ) × Made (s .sizes) (s .chains) y r × (s .chains .head r ≡ q))) (s .txns) i noTxn j
         (λ e v f. absurd (omega arith))
         (λ d v f. g .made q j p u v f);
@@ -178,6 +179,7 @@ module _ (s : Store) (i : ℕ) (ch : Chained (s .chains)) (n : Numbers (s .clock
     head-pos = omega (arith, new .above);
     xmin-is = new .xmin-is;
     key-is = keyAt-key (installed s i .chains) _ (λ e. omega (arith, new .above)) ∙ new .key-is;
+    payload-is = new .payload-is;
     before = ap (keyAt (installed s i .chains)) (new .next-is) ∙ (keyAt-grown _ _ _ _ gr (s .chains .head r) (ch .heads-in r) ∙ sym (posted-old s n h g i r a (made-writes (s .sizes) (installed s i .chains) (s .txns i) r w)));
   }
 
@@ -206,6 +208,7 @@ module _ (s : Store) (i : ℕ) (ch : Chained (s .chains)) (n : Numbers (s .clock
         head-pos = omega (arith, m .head-pos);
         xmin-is = ap (installed s i .chains .xmin) e ∙ (gr .xmin-old (s .chains .head r) u ∙ m .xmin-is);
         key-is = ap (keyAt (installed s i .chains)) e ∙ (keyAt-grown _ _ _ _ gr (s .chains .head r) u ∙ m .key-is);
+        payload-is = ap (installed s i .chains .payload) e ∙ (gr .payload-old (s .chains .head r) u ∙ m .payload-is);
         before = ap (λ p. keyAt (installed s i .chains) (installed s i .chains .next p)) e
             ∙ (ap (keyAt (installed s i .chains)) (gr .next-old (s .chains .head r) u) ∙ (keyAt-grown _ _ _ _ gr (s .chains .next (s .chains .head r)) (omega (arith, ch .next-falls (s .chains .head r) (m .head-pos) u)) ∙ m .before));
       }

@@ -4,6 +4,7 @@ pub mod Store
 pub mod Seeing
 pub mod Verdict
 pub mod Steps
+pub mod Contents
 pub mod Upstream
 pub mod History
 pub mod Refusals

@@ -20,7 +20,8 @@ use Rattle.model.specs.Given.{number, Lives, Free, ByAnother, bucketFor}
 use Rattle.model.proofs.ListLaws.{member-among, none-each}
 use Rattle.model.proofs.Move.{Move, stay, did-begin, did-mark, did-capture, did-collect, did-rows, did-write, did-prepare, did-install, did-end, did-publish, did-abort, place-number, step-move, run-inv}
 use Rattle.model.proofs.Numbers.{Numbering, began, kept, numbering, in-place}
-use Rattle.model.proofs.Holders.{holding-is, wants-busy}
+use Rattle.model.proofs.Phases.{holding-is}
+use Rattle.model.proofs.Holders.{wants-busy}
 use Rattle.model.proofs.Owned.{has-none, release-elim}
 use Rattle.model.proofs.Good.{Good, good-move, good-run}
 use Rattle.model.proofs.Conditions.{lives-number}

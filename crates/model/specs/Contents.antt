@@ -1,0 +1,27 @@
+-- What a row holds, key and payload: as a snapshot shows it, as a transaction is shown it, and as it is now.
+use Prim.Native.Nat.{ℕ}
+use mathlib.Core.Bool.{cond}
+use mathlib.Core.Option.{Option, none, some}
+use Rattle.model.specs.Store.{Chains, Snapshot, Txn, Store}
+use Rattle.model.specs.Seeing.{versionOf, keyAt, lastWrite, pending, snapshotNow}
+use Rattle.model.specs.Steps.{newKey, writtenPayload}
+
+-- key and payload, or nothing where a row has no version or an erased one
+abbrev pub Content : Type 0
+Content = Option (ℕ × ℕ)
+
+abbrev pub content : Option ℕ → ℕ → Content
+content none payload = none
+content (some k) payload = some (k, payload)
+
+-- what a snapshot shows of a row
+unfoldable pub contentOf : Chains → Snapshot → ℕ → Content
+contentOf c v r = content (keyAt c (versionOf c v r)) (c .payload (versionOf c v r))
+
+-- what a row shows to a transaction: its last pending write, or else what its snapshot shows
+unfoldable pub shownTo : Chains → Txn → ℕ → Content
+shownTo c x r = cond (pending (x .writes) r) (content (newKey x r) (writtenPayload (lastWrite (x .writes) r))) (contentOf c (x .snapshot) r)
+
+-- the live rows: what a snapshot taken now shows of each row
+abbrev pub liveRow : Store → ℕ → Content
+liveRow s r = contentOf (s .chains) (snapshotNow s) r
