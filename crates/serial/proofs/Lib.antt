@@ -15,4 +15,5 @@ pub mod StepsBeside
 pub mod MarksBeside
 pub mod EndsBeside
 pub mod InTurn
+pub mod Sample
 pub mod Promises
