@@ -1,4 +1,4 @@
--- The page of statements: demands 1 to 3 of the public functions. Assumes nothing.
+-- The page of statements: demands 1 to 3 and request (xiii), of the public functions. Assumes nothing.
 -- All that a statement says is defined in specs/; each proof is one line. Calls that meet the premises stand in Runs.
 use Prim.Native.Nat.{ℕ}
 use mathlib.Core.Path.{_≡_}
@@ -17,9 +17,11 @@ use Rattle.answers.specs.Answers.{numberOf}
 use Rattle.steps.specs.Words.{Words, sizesView, view}
 use Rattle.promises.specs.Calls.{Call, called, Typed, AnyCall}
 use Rattle.promises.specs.Demands.{ExactCall, Opening, openNumber, ExactOpen, after, storeAfter, Follows, reading, validating, preparing, MarkedCalls, JudgedCall, ReadCall}
+use Rattle.promises.specs.InTurn.{CallsInTurn}
 use Rattle.promises.proofs.Calls.{any-call}
 use Rattle.promises.proofs.Answered.{exactly, judges, opens-exactly}
 use Rattle.promises.proofs.Sequences.{follows, least-xmins, heads, costless, marked-open, stops, reads, stands}
+use Rattle.promises.proofs.InTurn.{turns}
 
 -- DEMAND 1, of a call on any words that the code's types allow: its number exactly when, in order; its values; what it leaves. And of open.
 pub exact-call : (w : Words) (c : Call) → Typed w → ExactCall w c
@@ -72,3 +74,7 @@ pub validated-call : (o : Opening) (e : openNumber o ≡ 0) (cs : List Call) (t 
     → StandingRead (sizesView (o .sizes)) (storeAfter o cs) (step (storeAfter o (cs ++ (reading t lent ∷ between))) (validate t) .store) t k (read-call o e cs t lent n q .found)
 unfolding read-call
 validated-call = stands
+
+-- REQUEST (xiii): the calls were as if made in turn.
+pub calls-in-turn : (o : Opening) → openNumber o ≡ 0 → (cs : List Call) → CallsInTurn o cs
+calls-in-turn = turns

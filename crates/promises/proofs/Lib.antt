@@ -5,5 +5,6 @@ pub mod Turned
 pub mod Calls
 pub mod Answered
 pub mod Sequences
+pub mod InTurn
 pub mod Demands
 pub mod Runs

@@ -1,17 +1,22 @@
--- An open and calls that meet the premises of the page of statements: a read that finds a row, another transaction that publishes meanwhile, a clear verdict; a prepare of erases of something and of nothing, and one of nothing alone; and a capture that finds a stale stamp. Assumes nothing.
+-- An open and calls that meet the premises of the page of statements: a read that finds a row, another transaction that publishes meanwhile, a clear verdict; a prepare of erases of something and of nothing, and one of nothing alone; a capture that finds a stale stamp; and a transaction that reads before another publishes, and comes to end after it. Assumes nothing.
 use Prim.Native.Nat.{ℕ}
 use mathlib.Core.Path.{_≡_, refl, ap, _∙_}
 use mathlib.Core.Bool.{true}
+use mathlib.Core.Option.{some}
 use mathlib.Core.List.{List, [], _∷_, _++_, map}
 use native.Mathlib.Omega.{arith}
-use lib.ListN.{replicate}
+use lib.ListN.{take, drop, replicate}
 use Rattle.model.specs.Store.{Collected}
-use Rattle.model.specs.Refusals.{txnOf}
+use Rattle.model.specs.Contents.{contentOf, shownTo}
+use Rattle.model.specs.Refusals.{Step as Asked, begin, capture, collect, rows, put, prepare, install, end, publish, txnOf}
 use Rattle.model.specs.Holding.{Writes, ErasesNothing}
 use Rattle.model.specs.Given.{Lives}
 use Rattle.model.specs.Shape.{goodSizes}
 use Rattle.model.specs.Machine.{run, canOpen}
+use Rattle.model.proofs.Computes.{computes}
 use Rattle.model.proofs.Reached as reached
+use Rattle.serial.specs.Done.{Entry, entries}
+use Rattle.serial.specs.InTurn.{endOrder, doneBy, inTurn, stepsIn}
 use Rattle.protocol.specs.declared.Step.{Step}
 use Rattle.protocol.specs.declared.Step.the-variants as ask
 use Rattle.protocol.specs.declared.Answer.the-variants as tell
@@ -21,8 +26,10 @@ use Rattle.answers.specs.Answers.{numberOf}
 use Rattle.tables.specs.Lists.{listsWords}
 use Rattle.turns.specs.Turns.{openOf}
 use Rattle.promises.specs.Calls.{Call, called}
-use Rattle.promises.specs.Demands.{Opening, openNumber, after, storeAfter, reading, validating, preparing}
+use Rattle.promises.specs.Demands.{Opening, opened, openNumber, after, storeAfter, reading, validating, preparing}
+use Rattle.promises.specs.InTurn.{bare, callsDone, callsOneByOne}
 use Rattle.promises.proofs.Sequences.{answer-after, number-after}
+use Rattle.promises.proofs.InTurn.{done-after, turn-after}
 
 -- 4 rows, 8 versions and 4 buckets, over tables full of sevens
 abbrev pub o : Opening
@@ -42,7 +49,7 @@ opens = refl
 
 -- the calls that ask for the steps of `Reached`
 abbrev pub without : List Step → List Call
-without ss = map (λ (s : Step). record { asks = s; lent = [] }) ss
+without ss = map bare ss
 
 abbrev pub before : List Call
 before = without (ask.Begin ∷ ask.Put 1 2 6 10 ∷ ask.Prepare 1 ∷ ask.Install 1 ∷ ask.End 1 ∷ ask.Publish 1 ∷ ask.Begin ∷ ask.Capture 3 6 ∷ ask.Collect 3 ∷ [])
@@ -90,3 +97,16 @@ stale = without (ask.Begin ∷ ask.Put 1 2 6 10 ∷ ask.Prepare 1 ∷ ask.Instal
 pub marked : Lives (storeAfter o stale) 3 × (txnOf (storeAfter o stale) 3 .marked ≡ true)
 unfolding run
 marked = (reached.met-marked .0, reached.met-marked .1)
+
+-- transaction 3 reads key 6, 4 begins and publishes, and then 3 writes row 1 and comes to end, with no publish
+abbrev pub ending : List Call
+ending = before ++ (reading 3 list ∷ (between ++ without (ask.Put 3 1 5 8 ∷ ask.Prepare 3 ∷ ask.Install 3 ∷ ask.End 3 ∷ [])))
+
+-- their turn: 1, then 4 as number 3, and then 3 as number 5
+abbrev pub turn : List Asked
+turn = begin ∷ put 1 2 6 10 ∷ prepare 1 ∷ install 1 ∷ end 1 ∷ publish 1 ∷ begin ∷ put 3 0 3 7 ∷ prepare 3 ∷ install 3 ∷ end 3 ∷ publish 3 ∷ begin ∷ capture 5 6 ∷ collect 5 ∷ rows 5 4 ∷ put 5 1 5 8 ∷ prepare 5 ∷ install 5 ∷ end 5 ∷ publish 5 ∷ []
+
+-- what calls-in-turn speaks of there: its read, the sixteenth, is to hand over row 2 with key 6 and payload 10
+pub taking-turns : (endOrder (callsDone (opened o) ending) ≡ 1 ∷ 4 ∷ 3 ∷ []) × (stepsIn (callsOneByOne o ending) ≡ turn) × (take 1 (drop 15 (callsOneByOne o ending)) ≡ record { who = 5; what = rows 5 4; read = (2, some (6, 10)) ∷ [] } ∷ [])
+unfolding computes entries endOrder doneBy inTurn shownTo contentOf
+taking-turns = (ap endOrder (done-after o opens ending), ap stepsIn (turn-after o opens ending), ap (λ (es : List Entry). take 1 (drop 15 es)) (turn-after o opens ending))

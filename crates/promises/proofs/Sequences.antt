@@ -7,12 +7,13 @@ use native.Mathlib.Omega.{arith}
 use lib.ListN.{length, drop}
 use Rattle.model.specs.Store.{Store, Collected, fresh}
 use Rattle.model.specs.Verdict as judged
-use Rattle.model.specs.Refusals.{Step as Asked, rows, validate, txnOf}
+use Rattle.model.specs.Refusals.{rows, validate, txnOf}
 use Rattle.model.specs.Machine as machine
 use Rattle.model.specs.Machine.{lentAfter, at, step, run, canOpen}
 use Rattle.model.specs.Given.{number, Lives}
 use Rattle.model.specs.Holding.{Writes, ErasesNothing}
 use Rattle.model.specs.Demands.{HeadKept, CostsNothing, MarkedOpen, MarkedGives, LeastXmins, StandingRead}
+use Rattle.model.proofs.Move.{run-append}
 use Rattle.model.proofs.Promises.{finished-read, validated-read, kept-heads, nothing-costs, kept-marked, marked-stops, kept-xmin}
 use Rattle.protocol.specs.declared.Answer.the-variants as tell
 use Rattle.protocol.specs.declared.Verdict.the-variants as verdict
@@ -39,11 +40,6 @@ told-rows (machine.Refused r) n e = let q : _≡_ {A = ℕ} 0 1 = cc in absurd (
 -- a read asks for as much room as its list has
 reading-asks : (t : ℕ) (lent : List ℕ) → asking (reading t lent) ≡ rows t (length lent)
 reading-asks t lent = let e : min (length lent) (length lent) ≡ length lent = omega arith in rw e
-
-run-append : (s : Store) (xs ys : List Asked) → run s (xs ++ ys) ≡ run (run s xs) ys
-unfolding run
-run-append s [] ys = refl
-run-append s (x ∷ xs) ys = run-append (step s x .store) xs ys
 
 module _ (o : Opening) (e : openNumber o ≡ 0) where
   after-stands : (cs : List Call) → Stands (after o cs)

@@ -1,1 +1,1 @@
-// Demands 1 to 3 of the public functions, for any sequence of calls (proofs/): no code.
+// Demands 1 to 3 and request (xiii) of the public functions, for any sequence of calls (proofs/): no code.
