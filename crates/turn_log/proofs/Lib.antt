@@ -1,0 +1,9 @@
+pub mod Lines
+pub mod Spoken
+pub mod Laid
+pub mod Ended
+pub mod Fitting
+pub mod Readings
+pub mod Turned
+pub mod Promises
+pub mod Sample
