@@ -3,9 +3,10 @@ KIT := rattle-kit-5b logic 064da1ca440f63e7
 LOGIC := $(lastword $(KIT))
 TARGET ?= $(shell uname -m)-unknown-linux-gnu
 STEPS ?= 10000000
+LOGS ?= 100000
 SEED ?=
 
-.PHONY: help kit demo archive command hosts soak bench matched test
+.PHONY: help kit demo archive command hosts soak in-turn bench matched test
 # the targets share target/ and dist/
 .NOTPARALLEL:
 
@@ -16,6 +17,7 @@ help:
 	@echo 'make command  the same, and dist/toruxeng, a program for people: replay, check, show, pack, orders'
 	@echo 'make hosts    the host tests alone: each archive against a plain Rust twin, the C and Rust programs'
 	@echo 'make soak     the archive of TARGET (this machine) against the twin for STEPS steps (10000000) from SEED (the time)'
+	@echo 'make in-turn  LOGS random logs (100000) from SEED (the time) through the archive of TARGET, and their transactions once more, one after another'
 	@echo 'make bench    the times of the archive and of the twin, and how they grow'
 	@echo 'make matched  the same mistake in model, words and code, for each of matched/: none may be proved'
 	@echo 'make kit      which kit this was proved with, and which is found here'
@@ -44,17 +46,19 @@ command: kit
 hosts: kit
 	@hosts/test
 
+soak: COUNT := STEPS
+in-turn: COUNT := LOGS
 # what is asked for wrongly, or is missing, is said before anything is proved
-soak: kit
-	@for number in '$(STEPS)' '$(or $(SEED),0)'; do \
-	    case $$number in '' | *[!0-9]*) echo "STEPS and SEED are whole numbers, not '$$number'" >&2; exit 2 ;; esac; \
+soak in-turn: kit
+	@for number in '$($(COUNT))' '$(or $(SEED),0)'; do \
+	    case $$number in '' | *[!0-9]*) echo "$(COUNT) and SEED are whole numbers, not '$$number'" >&2; exit 2 ;; esac; \
 	done
 	@hosts/targets '$(TARGET)'
 	@hosts/needs cargo gcc
 	@hosts/archive
 	@hosts/build '$(TARGET)'
 	@echo 'dist/$(TARGET) against the twin'
-	@cd hosts/rust && TORUXENG_DRIVER='$(CURDIR)/target/hosts/$(TARGET)/driver' cargo run --offline --quiet --release -p compare --bin soak $(STEPS) $(SEED)
+	@cd hosts/rust && TORUXENG_DRIVER='$(CURDIR)/target/hosts/$(TARGET)/driver' cargo run --offline --quiet --release -p compare --bin $(subst -,_,$@) $($(COUNT)) $(SEED)
 
 bench: kit
 	@hosts/needs cargo cc

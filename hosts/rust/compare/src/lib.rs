@@ -3,8 +3,20 @@
 use std::fmt;
 
 use engine::{Driver, Replayed};
+use twin::Step;
+
+pub mod in_turn;
+mod program;
+pub mod read_back;
+mod run;
+mod turn;
+
+pub use program::{asked, random_log, Progress};
+pub use run::{Look, Read, Run};
+pub use turn::{log_of, Turn};
 
 /// A log that the two answer differently, and their answers.
+#[derive(Debug)]
 pub struct Difference {
     log: Vec<u8>,
     room: usize,
@@ -15,15 +27,42 @@ pub struct Difference {
 impl fmt::Display for Difference {
     fn fmt(&self, to: &mut fmt::Formatter) -> fmt::Result {
         writeln!(to, "engine and twin differ on the log {:02x?}, room {}", self.log, self.room)?;
-        let mut rest = self.log.as_slice();
-        while let Some((step, next)) = twin::read_record(rest) {
-            writeln!(to, "    {step:?}")?;
-            rest = next;
-        }
+        show_steps(to, &self.log)?;
         let report = |bytes: &[u8]| String::from_utf8_lossy(bytes).into_owned();
         writeln!(to, "engine: status {}, report\n{}", self.engine.answer >> 32, report(&self.engine.report))?;
         write!(to, "twin: status {}, report\n{}", self.twin.0 >> 32, report(&self.twin.1))
     }
+}
+
+fn show_steps(to: &mut fmt::Formatter, log: &[u8]) -> fmt::Result {
+    steps(log).iter().try_for_each(|step| writeln!(to, "    {step:?}"))
+}
+
+/// The steps of a log; what is no record ends them.
+pub fn steps(log: &[u8]) -> Vec<Step> {
+    let mut steps = Vec::new();
+    let mut rest = log;
+    while let Some((step, next)) = twin::read_record(rest) {
+        steps.push(step);
+        rest = next;
+    }
+    steps
+}
+
+/// The lines of a report, without their ends.
+///
+/// # Panics
+/// Where it is no text.
+pub fn lines(report: &[u8]) -> std::str::Lines<'_> {
+    std::str::from_utf8(report).expect("a report is text").lines()
+}
+
+/// The number behind a line's word.
+///
+/// # Panics
+/// Where there is none.
+pub fn number(line: &str) -> u32 {
+    line.split(' ').nth(1).and_then(|number| number.parse().ok()).expect("a line has its number")
 }
 
 /// What the twin answers and writes.
@@ -45,7 +84,10 @@ pub fn compare(driver: &mut Driver, log: &[u8], room: usize) -> Result<Replayed,
     if agree(&engine, &twin) {
         return Ok(engine);
     }
-    let log = shortened(driver, log, room);
+    let log = shortened(log, |fewer| {
+        let (engine, twin) = both(driver, fewer, room);
+        !agree(&engine, &twin)
+    });
     let (engine, twin) = both(driver, &log, room);
     Err(Box::new(Difference { log, room, engine, twin }))
 }
@@ -58,8 +100,8 @@ fn agree(engine: &Replayed, twin: &(u64, Vec<u8>)) -> bool {
     (engine.answer, &engine.report) == (twin.0, &twin.1)
 }
 
-/// Leaves records out, half of the log first and single ones last, as long as the two still differ.
-fn shortened(driver: &mut Driver, log: &[u8], room: usize) -> Vec<u8> {
+/// Leaves records out, half of the log first and single ones last, as long as it still differs.
+fn shortened(log: &[u8], mut differs: impl FnMut(&[u8]) -> bool) -> Vec<u8> {
     let mut records = records(log);
     let mut count = records.len() / 2;
     while count > 0 {
@@ -67,11 +109,10 @@ fn shortened(driver: &mut Driver, log: &[u8], room: usize) -> Vec<u8> {
         while place < records.len() {
             let mut fewer = records.clone();
             fewer.drain(place..records.len().min(place + count));
-            let (engine, twin) = both(driver, &fewer.concat(), room);
-            if agree(&engine, &twin) {
-                place += count;
-            } else {
+            if differs(&fewer.concat()) {
                 records = fewer;
+            } else {
+                place += count;
             }
         }
         count /= 2;

@@ -9,4 +9,4 @@ mod store;
 
 pub use records::{read_record, Step};
 pub use replay::{replay, whole_report};
-pub use store::{Answer, Phase, Refusal, Store, Values, Verdict};
+pub use store::{Answer, Content, Phase, Refusal, Store, Values, Verdict};

@@ -37,6 +37,30 @@ impl Step {
             Step::Abort { .. } => "abort",
         }
     }
+
+    /// The transaction that the step names; open and begin name none.
+    pub fn number(mut self) -> Option<u64> {
+        self.named().copied()
+    }
+
+    /// The same step of another transaction.
+    pub fn with_number(mut self, number: u64) -> Step {
+        if let Some(named) = self.named() {
+            *named = number;
+        }
+        self
+    }
+
+    fn named(&mut self) -> Option<&mut u64> {
+        match self {
+            Step::Open { .. } | Step::Begin => None,
+            Step::Capture { number, .. } | Step::Rows { number, .. } | Step::Put { number, .. } | Step::Erase { number, .. } => {
+                Some(number)
+            }
+            Step::Collect { number } | Step::Prepare { number } | Step::Install { number } | Step::End { number } => Some(number),
+            Step::Publish { number } | Step::Validate { number } | Step::Abort { number } => Some(number),
+        }
+    }
 }
 
 struct Fields<'a> {

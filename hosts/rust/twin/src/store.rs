@@ -4,6 +4,10 @@ use std::collections::{BTreeMap, BTreeSet};
 
 use crate::records::Step;
 
+mod contents;
+
+pub use contents::Content;
+
 const LIVE: usize = 8;
 const INDEX_READS: usize = 16;
 const READ_RECORDS: usize = 64;
@@ -50,8 +54,6 @@ struct Version {
     xmax: u64,
     next: usize,
     key: Option<u64>,
-    /// No step answers a payload.
-    #[allow(dead_code)]
     payload: u64,
 }
 
@@ -183,6 +185,11 @@ impl Store {
         self.transactions.values().map(|transaction| (transaction.number, transaction.phase))
     }
 
+    fn snapshot_now(&self) -> Snapshot {
+        let active = self.transactions.values().filter(|other| other.phase != Phase::Ended).map(|other| other.number).collect();
+        Snapshot { xmax: self.clock, active }
+    }
+
     fn version(&self, pointer: usize) -> Option<&Version> {
         self.versions.get(pointer.checked_sub(1)?)
     }
@@ -220,10 +227,9 @@ impl Store {
         }
         let number = self.clock;
         self.clock += 1;
-        let active = self.transactions.values().filter(|other| other.phase != Phase::Ended).map(|other| other.number).collect();
         let transaction = Transaction {
             number,
-            snapshot: Snapshot { xmax: self.clock, active },
+            snapshot: self.snapshot_now(),
             phase: Phase::Open,
             marked: false,
             index_reads: Vec::new(),

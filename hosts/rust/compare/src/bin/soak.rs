@@ -2,15 +2,13 @@
 
 use std::collections::BTreeMap;
 use std::process::ExitCode;
-use std::time::{Duration, Instant, SystemTime, UNIX_EPOCH};
+use std::time::Instant;
 
-use compare::{compare, report_length, Difference};
+use compare::{asked, compare, lines, number, random_log, report_length, Difference, Progress};
 use engine::{Driver, Replayed};
-use generator::{log, longest_chain, room, Family, Random};
+use generator::{longest_chain, room, Random};
 
 const USAGE: &str = "soak STEPS [SEED]: two whole numbers; without a seed it is the time";
-const LONGEST: u64 = 2000;
-const BETWEEN_LINES: Duration = Duration::from_secs(10);
 
 /// What was replayed so far.
 #[derive(Default)]
@@ -23,10 +21,8 @@ struct Tally {
 
 impl Tally {
     fn add(&mut self, replayed: &Replayed) {
-        for line in replayed.report.split(|&byte| byte == b'\n').filter(|line| !line.is_empty()) {
-            let text = std::str::from_utf8(line).expect("a line is text");
-            let number = text.split(' ').nth(1).and_then(|number| number.parse().ok()).expect("a line has its number");
-            *self.by_number.entry(number).or_default() += 1;
+        for line in lines(&replayed.report) {
+            *self.by_number.entry(number(line)).or_default() += 1;
             self.steps += 1;
         }
         *self.by_status.entry(replayed.answer >> 32).or_default() += 1;
@@ -34,30 +30,14 @@ impl Tally {
     }
 }
 
-/// The steps and the seed, where the arguments are such.
-fn asked() -> Option<(u64, u64)> {
-    let mut numbers = std::env::args().skip(1).map(|argument| argument.parse::<u64>().ok());
-    let steps = numbers.next()??;
-    let by_time = || SystemTime::now().duration_since(UNIX_EPOCH).map_or(0, |time| time.as_secs());
-    let seed = numbers.next().unwrap_or_else(|| Some(by_time()))?;
-    numbers.next().is_none().then_some((steps, seed))
-}
-
-/// Says every few seconds how far it is.
 fn replay_side_by_side(driver: &mut Driver, steps: u64, seed: u64, tally: &mut Tally) -> Result<(), Box<Difference>> {
     let mut random = Random::of_seed(seed);
-    let mut said = Instant::now();
+    let mut progress = Progress::start();
     while tally.steps < steps {
-        let family = random.one_of(&Family::ALL);
-        // as many short logs as long ones: a long one rarely ends in an edge
-        let length = random.one_of(&[20, 60, 200, LONGEST]);
-        let log = log(family, length, &mut random);
+        let log = random_log(&mut random);
         let room = room(report_length(&log), &mut random);
         tally.add(&compare(driver, &log, room)?);
-        if said.elapsed() >= BETWEEN_LINES {
-            println!("soak: {} of {steps} steps", tally.steps);
-            said = Instant::now();
-        }
+        progress.say(format_args!("soak: {} of {steps} steps", tally.steps));
     }
     Ok(())
 }
