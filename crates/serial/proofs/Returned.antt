@@ -1,10 +1,11 @@
 -- A read of the store is the read of a transaction by itself, over what its snapshot shows. Assumes nothing.
-use mathlib.Core.Path.{_≡_, refl, sym, ap, _∙_}
+use mathlib.Core.Path.{_≡_, refl, sym, ap, subst, _∙_}
 use mathlib.Core.Bool.{Bool, true, false, cond, _||_}
 use mathlib.Core.Logic.{_≢_, _⊎_, inl, inr, ⊎-elim}
-use mathlib.Core.Option.{Option, some}
+use mathlib.Core.Option.{Option, none, some}
 use mathlib.Core.List.{List, [], _∷_, _++_, map}
 use Prim.Native.Nat.{ℕ}
+use native.Mathlib.Omega.{arith}
 use lib.Dec.{eqb}
 use borrow.Author.Tests.{eqb-true, eq-eqb}
 use Rattle.model.specs.Lists.{member, Among}
@@ -13,11 +14,14 @@ use Rattle.model.specs.Store.{Chains, ReadRecord, Txn, Store, rank, keyIn, same
 use Rattle.model.specs.Seeing.{versionOf, keyAt, lastWrite, pending, writtenKey, shownKey, matches, recordOf, Live}
 use Rattle.model.specs.Steps.{foundRows, recorded, recording, recordAll, writtenPayload}
 use Rattle.model.specs.Contents.{Content, content, contentOf, shownTo}
+use Rattle.model.specs.Refusals.{rows, txnOf}
+use Rattle.model.specs.Machine.{Rows, step}
 use Rattle.model.proofs.ListLaws.{same-test, some-which, which-some, among-map, map-same, map-among, member-among, among-member, pick-same}
 use Rattle.model.proofs.Chained.{Chained}
-use Rattle.model.proofs.SeeingLaws.{recording-cases}
+use Rattle.model.proofs.SeeingLaws.{same-key, recording-cases, found-which}
 use Rattle.model.proofs.Good.{Good}
-use Rattle.model.proofs.Finished.{one-row, found-whole}
+use Rattle.model.proofs.Finished.{one-row, found-whole, rows-done}
+use Rattle.serial.specs.Done.{returned}
 use Rattle.serial.proofs.ByItself.{key-content, carries, shownIn, rowsIn, readIn, recordRows}
 
 -- the key's test
@@ -53,6 +57,26 @@ module _ (s : Store) (g : Good s) (i : ℕ) (l : Live (s .txns i)) (a : rank (s 
   pub read-is : map (λ r. (r, shownTo (s .chains) x r)) (foundRows s x) ≡ readIn (s .sizes) m (x .writes) k
   unfolding readIn
   read-is = map-same _ _ (λ r. ap (λ o. (r, o)) (shown-is (s .chains) x m m-is r)) (foundRows s x) ∙ ap (map (λ r. (r, shownIn m (x .writes) r))) found-is
+
+-- a content that carries a key holds it, with some payload
+holds-key : (m : Content) (k : ℕ) → carries m k ≡ true → (payload : ℕ) × (m ≡ some (k, payload))
+unfolding carries
+holds-key none k e = absurd (no-key (same-key none (some k) e))
+  where
+    no-key : _≡_ {A = Option ℕ} none (some k) → ⊥
+    no-key f = let z : _≡_ {A = ℕ} 0 1 = cc in omega arith
+holds-key (some q) k e = let f : some (q .0) ≡ some k = same-key (some (q .0)) (some k) e in let j : q .0 ≡ k = cc in (q .1, ap (λ i. some (i, q .1)) j)
+
+-- each row that a read returns holds the key that was asked for
+pub returned-keys : (s : Store) (t room : ℕ) (rs : List ℕ) → step s (rows t room) .answer ≡ Rows rs → (q : ℕ × Content) → Among q (returned s t (Rows rs)) → (payload : ℕ) × (q .1 ≡ some (keyIn (txnOf s t .phase), payload))
+returned-keys s t room rs e q o =
+    let x = txnOf s t in
+    let d = rows-done s t room rs e in
+    let w = map-among (λ r. (r, shownTo (s .chains) x r)) rs q o in
+    let f = found-which s x (w .0) (subst (Among (w .0)) (d .answer-is) (w .1)) in
+    let c : carries (shownTo (s .chains) x (w .0)) (keyIn (x .phase)) ≡ true = ap (λ m. carries m (keyIn (x .phase))) (shown-is (s .chains) x (contentOf (s .chains) (x .snapshot)) (λ r. refl) (w .0)) ∙ (sym (match-is (s .chains) x (contentOf (s .chains) (x .snapshot)) (λ r. refl) (keyIn (x .phase)) (w .0)) ∙ f .1) in
+    let h = holds-key _ (keyIn (x .phase)) c in
+    (h .0, ap (λ (p : ℕ × Content). p .1) (w .2) ∙ h .1)
 
 -- records and the rows recorded
 module _ (c : Chains) (ch : Chained c) (x : Txn) where
