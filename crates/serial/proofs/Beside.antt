@@ -57,19 +57,24 @@ gone-move s s′ m n h = (omega (arith, h .0, clock-move s s′ m), go (numberin
         top false e = omega (arith, ltb-false (rank (s′ .txns i .phase)) 6 e, rank-top (s′ .txns i .phase))
 
 module _ (z : Sizes) (c₀ : ℕ) where
+  -- the store after the turn
   abbrev pub serially : List Entry → Store
   serially es = run (fresh z c₀) (stepsIn (oneByOne c₀ es))
 
-  -- the run one after another, beside the run
+  -- the turn of those that have ended, beside the run
   pub record Beside (s : Store) (es : List Entry) : Type 0 where
+    -- every step is accepted, with the same read, and nobody is live
     pub same : entries (fresh z c₀) (stepsIn (oneByOne c₀ es)) ≡ oneByOne c₀ es
     pub quiet : Quiet (serially es)
     pub sizes-are : serially es .sizes ≡ s .sizes
+    -- two numbers for each, and the live rows of the run
     pub clock-is : serially es .clock ≡ c₀ + (length (endOrder es) + length (endOrder es))
     pub rows-are : (r : ℕ) → r < s .sizes .rows → liveRow (serially es) r ≡ liveRow s r
+    -- the run has used more by the versions of those that are Installed; a number is left in turn for each that still runs
     pub used-is : serially es .chains .used + sum (waiting (s .sizes) (s .index .posted)) (s .txns) mostLive ≡ s .chains .used
     pub numbers : serially es .clock + sum running (s .txns) mostLive ≤ s .clock + sum over (s .txns) mostLive
 
+  -- all that is kept from step to step: who has not ended is followed, entries are of older numbers, who has ended stays so, and the turn
   pub record SideBySide (s : Store) (es : List Entry) : Type 0 where
     pub good : Good s
     pub follow : (i : ℕ) → Live (s .txns i) → rank (s .txns i .phase) < 6 → (x : Local) × Followed s i (s .txns i .number) (doneBy (s .txns i .number) es) x
@@ -100,6 +105,7 @@ module _ (z : Sizes) (c₀ : ℕ) where
     g′ : Good s′
     g′ = good-move s s′ (h .good) m
 
+    -- it is no end, so the live rows and the order stay
     no-end : (i : ℕ) → Live (s .txns i) → rank (s .txns i .phase) ≡ 5 → s′ ≡ becomes s i Ended → ⊥
     no-end i l a c = elim (ℕ-discrete i b) [
       | yes d ↦ not-five (rw d at l) (rw d at a)

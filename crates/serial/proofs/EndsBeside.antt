@@ -38,15 +38,17 @@ use Rattle.serial.proofs.Entries.{mine-more, others-same, order-more, t
 use Rattle.serial.proofs.Whole.{entries-append, VersionsFit, Turned, turned}
 use Rattle.serial.proofs.Following.{Followed, follow-others}
 use Rattle.serial.proofs.OwnSteps.{own-end}
-use Rattle.serial.proofs.Counting.{waiting, running, wait-some, runs, live-count, ends}
+use Rattle.serial.proofs.Counting.{waiting, running, Counts, count-installed, live-count, ends}
 use Rattle.serial.proofs.Beside.{renamed, gone-move, serially, Beside, SideBySide}
 
+-- over the same sizes by another name
 resized : (a b : Sizes) (m : ℕ → Content) (n : ℕ) (es : List Entry) (x : Local) → a ≡ b → Played a m n es x → Played b m n es x
 resized a b m n es x e d = rw e at d
 
 module _ (z : Sizes) (c₀ : ℕ) where
   -- end: the one who ends takes its turn
   module _ (s : Store) (es : List Entry) (h : SideBySide z c₀ s es) (t : ℕ) (ok : number s (end t) ≡ 0) where
+    -- its place, its entry, and the entries with that
     abbrev b : ℕ
     b = at s t
 
@@ -68,6 +70,7 @@ module _ (z : Sizes) (c₀ : ℕ) where
     followed : (x : Local) × Followed s b t (doneBy t es) x
     followed = renamed s b es (s .txns b .number) t number-b (h .follow b live-b (omega (arith, fifth)))
 
+    -- all that it did, by itself over the rows as they are before its end
     own : (y : Local) × Played (s .sizes) (liveRow s) t (doneBy t es ++ (e ∷ [])) y × (y .phase ≡ Ended) × (y .writes ≡ s .txns b .writes) × (step s (end t) .store ≡ becomes s b Ended) × (rank (s .txns b .phase) ≡ 5)
     own = own-end s (h .good) b t (doneBy t es) (followed .0) (followed .1 .0) (followed .1 .1) ok
 
@@ -84,17 +87,23 @@ module _ (z : Sizes) (c₀ : ℕ) where
     not-yet : (n : ℕ) → Among n (endOrder es) → t ≢ n
     not-yet n o c = omega (arith, fifth, h .gone n o .1 b live-b (number-b ∙ c))
 
+    -- the turn so far, and the turn with it
     abbrev S : Store
     S = serially z c₀ es
 
     turn-is : oneByOne c₀ es′ ≡ oneByOne c₀ es ++ wholeOf (S .clock) t es′
     turn-is = ap (λ l. inTurn c₀ l es′) order-is ∙ (turn-more c₀ (endOrder es) t es′ ∙ (ap (λ l. l ++ wholeOf (c₀ + (length (endOrder es) + length (endOrder es))) t es′) (turn-same c₀ (endOrder es) es′ es (λ n o. others-same n es e (rw (ne-eqb t n (not-yet n o)) refl))) ∙ ap (λ k. oneByOne c₀ es ++ wholeOf k t es′) (sym (h .beside .clock-is))))
 
+    -- over the turn's rows it does the same, under its new number
     again : Played (S .sizes) (liveRow S) (S .clock) (map (asNumber (S .clock)) (doneBy t es′)) (own .0)
     again = resized (s .sizes) (S .sizes) (liveRow S) (S .clock) (map (asNumber (S .clock)) (doneBy t es′)) (own .0) (sym (h .beside .sizes-are)) (rw script-is (played-again (s .sizes) (liveRow S) t (S .clock) _ (own .0) (played-switch (s .sizes) (liveRow s) (liveRow S) t _ (own .0) (λ q o r u p. let c = h .beside .rows-are r u in ((λ d. c), (λ d. c))) (own .1))))
 
+    count-b : Counts (s .sizes) (s .index .posted) (s .txns b) (length (versionsOver (s .sizes) (s .index .posted) (s .txns b .writes))) 1 0
+    count-b = count-installed (s .sizes) (s .index .posted) (s .txns b) live-b fifth
+
+    -- there are numbers left for it, and versions
     numbers-left : S .clock + 2 ≤ lastNumber
-    numbers-left = omega (arith, h .beside .numbers, h .good .room .numbers-left, live-count (s .txns), sum-has running (s .txns) b mostLive (in-place (s .clock) (s .txns) (h .good .numbers) b live-b), runs (s .txns b) live-b (omega (arith, fifth)))
+    numbers-left = omega (arith, h .beside .numbers, h .good .room .numbers-left, live-count (s .txns), sum-has running (s .txns) b mostLive (in-place (s .clock) (s .txns) (h .good .numbers) b live-b), count-b .runs)
 
     -- its writes get in turn as many versions as they got
     old-key : (r : ℕ) → Writes (s .sizes) (s .txns b) r → oldKey (S .chains) r ≡ s .index .posted r
@@ -107,7 +116,7 @@ module _ (z : Sizes) (c₀ : ℕ) where
     versions-are = ap (λ w. versionRows w (S .chains) (own .0 .writes)) (h .beside .sizes-are) ∙ (ap (versionRows (s .sizes) (S .chains)) (own .3) ∙ (versions-old (s .sizes) (S .chains) (s .txns b .writes) ∙ versions-same (s .sizes) (s .index .posted) (oldKey (S .chains)) (s .txns b) old-key))
 
     versions-left : VersionsFit S (own .0 .writes)
-    versions-left = omega (arith, ap length versions-are, h .beside .used-is, ap (λ w. w .versions) (h .beside .sizes-are), h .good .room .versions-left, sum-has (waiting (s .sizes) (s .index .posted)) (s .txns) b mostLive (in-place (s .clock) (s .txns) (h .good .numbers) b live-b), wait-some (s .sizes) (s .index .posted) (s .txns b) live-b fifth)
+    versions-left = omega (arith, ap length versions-are, h .beside .used-is, ap (λ w. w .versions) (h .beside .sizes-are), h .good .room .versions-left, sum-has (waiting (s .sizes) (s .index .posted)) (s .txns) b mostLive (in-place (s .clock) (s .txns) (h .good .numbers) b live-b), count-b .waits)
 
     took : Turned S (h .beside .quiet) numbers-left (map (asNumber (S .clock)) (doneBy t es′)) (own .0)
     took = turned S (h .beside .quiet) numbers-left (map (asNumber (S .clock)) (doneBy t es′)) (own .0) again (own .2) versions-left

@@ -8,8 +8,8 @@ use native.Mathlib.Omega.{arith}
 use lib.Dec.{ltb}
 use borrow.Author.Tests.{ltb-true, ltb-false}
 use Rattle.model.specs.Lists.{Among}
-use Rattle.model.specs.Table.{update-other}
-use Rattle.model.specs.Store.{Ended, IndexRead, Write, ReadRecord, Store, rank, bucketOf}
+use Rattle.model.specs.Table.{update, update-other}
+use Rattle.model.specs.Store.{Ended, IndexRead, Write, ReadRecord, Txn, Store, rank, bucketOf}
 use Rattle.model.specs.Seeing.{seen, versionOf, keyAt, recordOf, Live}
 use Rattle.model.specs.Steps.{becomes, hasRead, versionRows, installed}
 use Rattle.model.specs.Contents.{Content, contentOf, liveRow}
@@ -24,6 +24,7 @@ use Rattle.serial.specs.Done.{Entry}
 use Rattle.serial.proofs.ByItself.{Local, Played, Agreeing, played-switch}
 use Rattle.serial.proofs.ReadsHold.{undisturbed}
 
+-- the transaction at place i, of number n, has come as far as x by itself, and script is what it has done
 pub record Follow (s : Store) (i n : ℕ) (script : List Entry) (x : Local) (m : ℕ → Content) : Type 0 where
   pub number-is : s .txns i .number ≡ n
   pub alive : 1 ≤ n
@@ -31,12 +32,16 @@ pub record Follow (s : Store) (i n : ℕ) (script : List Entry) (x : Local) (m :
   pub buckets-are : map (λ (q : IndexRead). q .bucket) (s .txns i .reads) ≡ x .buckets
   pub writes-are : s .txns i .writes ≡ x .writes
   pub records-are : map (λ (q : ReadRecord). q .row) (s .txns i .records) ≡ x .records
+  -- its script is what it does by itself over the contents m
   pub plays : Played (s .sizes) m n script x
+  -- until it prepares these are what its snapshot shows, and from then on the live rows
   pub early : rank (x .phase) < 4 → (r : ℕ) → m r ≡ contentOf (s .chains) (s .txns i .snapshot) r
   pub late : 4 ≤ rank (x .phase) → (r : ℕ) → m r ≡ liveRow s r
+  -- until it prepares all that it relies on is recorded; the buckets of its reads are its index reads to the end
   pub kept : rank (x .phase) < 4 → (q : ℕ × List Write) → Among q (x .done) → Relied (s .sizes) (s .chains) (s .txns i) (q .0) (q .1)
   pub reads-in : (q : ℕ × List Write) → Among q (x .done) → hasRead (s .txns i .reads) (bucketOf (s .sizes) (q .0)) ≡ true
 
+-- over some contents
 abbrev pub Followed : Store → ℕ → ℕ → List Entry → Local → Type 0
 Followed s i n script x = (m : ℕ → Content) × Follow s i n script x m
 
@@ -59,6 +64,7 @@ module _ (s : Store) (i n : ℕ) (script : List Entry) (x : Local) (m : ℕ → 
 
   -- another installs
   module _ (j : ℕ) (d : i ≢ j) (g : Good s) (g′ : Good (installed s j)) (l : Live (s .txns j)) (a : rank (s .txns j .phase) ≡ 4) where
+    -- its place is as it was, and its snapshot does not see the other's versions
     here : installed s j .txns i ≡ s .txns i
     here = update-other (s .txns) j _ i d
 
@@ -133,21 +139,26 @@ module _ (s : Store) (i n : ℕ) (script : List Entry) (x : Local) (m : ℕ → 
         agree : Agreeing (s .sizes) m (liveRow (becomes s j Ended)) x
         agree q o r u p = rw (f .late b r) (undisturbed s g j g′ l a i d (omega (arith, ap rank (f .phase-is))) (q .0) (f .reads-in q o) r)
 
+-- another goes on, neither from Installed nor to it
+one-place : (s s′ : Store) (i n : ℕ) (script : List Entry) (x : Local) (j : ℕ) (y : Txn) → i ≢ j → s′ .sizes ≡ s .sizes → s′ .chains ≡ s .chains → s′ .txns ≡ update (s .txns) j y → (Live (s .txns j) → rank (s .txns j .phase) ≢ 5) → rank (y .phase) ≢ 5
+    → Good s → Good s′ → Followed s i n script x → Followed s′ i n script x
+one-place s s′ i n script x j y d zs cs ts old new g g′ f = (f .0, follow-still s i n script x (f .0) (f .1) s′ zs cs (ap (λ t. t i) ts ∙ update-other (s .txns) j y i d) (live-set s s′ j y ts cs old new g g′))
+
 -- whatever another does
 pub follow-others : (s s′ : Store) {b : ℕ} (i n : ℕ) (script : List Entry) (x : Local) → Good s → Good s′ → Move s b s′ → i ≢ b → Followed s i n script x → Followed s′ i n script x
 follow-others s s′ i n script x g g′ (stay j) d f = f
-follow-others s s′ i n script x g g′ (did-begin j a b c e) d f = (f .0, follow-still s i n script x (f .0) (f .1) s′ refl refl (update-other (s .txns) j _ i d) (live-set s s′ j _ refl refl (λ l o. omega arith) (λ o. omega arith) g g′))
-follow-others s s′ i n script x g g′ (did-mark j a b) d f = (f .0, follow-still s i n script x (f .0) (f .1) s′ refl refl (update-other (s .txns) j _ i d) (live-set s s′ j _ refl refl (λ l e. omega arith) (λ e. omega arith) g g′))
-follow-others s s′ i n script x g g′ (did-capture j k a b c) d f = (f .0, follow-still s i n script x (f .0) (f .1) s′ refl refl (update-other (s .txns) j _ i d) (live-set s s′ j _ refl refl (λ l e. omega arith) (λ e. omega arith) g g′))
-follow-others s s′ i n script x g g′ (did-collect j a b) d f = (f .0, follow-still s i n script x (f .0) (f .1) s′ refl refl (update-other (s .txns) j _ i d) (live-set s s′ j _ refl refl (λ l e. omega arith) (λ e. omega arith) g g′))
-follow-others s s′ i n script x g g′ (did-rows j a b c) d f = (f .0, follow-still s i n script x (f .0) (f .1) s′ refl refl (update-other (s .txns) j _ i d) (live-set s s′ j _ refl refl (λ l e. omega arith) (λ e. omega arith) g g′))
-follow-others s s′ i n script x g g′ (did-write j w a b c e) d f = (f .0, follow-still s i n script x (f .0) (f .1) s′ refl refl (update-other (s .txns) j _ i d) (live-set s s′ j _ refl refl (λ l o. omega arith) (λ o. omega arith) g g′))
-follow-others s s′ i n script x g g′ (did-prepare j a b c) d f = (f .0, follow-still s i n script x (f .0) (f .1) s′ refl refl (update-other (s .txns) j _ i d) (live-set s s′ j _ refl refl (λ l e. omega arith) (λ e. omega arith) g g′))
+follow-others s s′ i n script x g g′ (did-begin j a b c e) d f = one-place s s′ i n script x j _ d refl refl refl (λ l o. omega arith) (λ o. omega arith) g g′ f
+follow-others s s′ i n script x g g′ (did-mark j a b) d f = one-place s s′ i n script x j _ d refl refl refl (λ l o. omega arith) (λ o. omega arith) g g′ f
+follow-others s s′ i n script x g g′ (did-capture j k a b c) d f = one-place s s′ i n script x j _ d refl refl refl (λ l o. omega arith) (λ o. omega arith) g g′ f
+follow-others s s′ i n script x g g′ (did-collect j a b) d f = one-place s s′ i n script x j _ d refl refl refl (λ l o. omega arith) (λ o. omega arith) g g′ f
+follow-others s s′ i n script x g g′ (did-rows j a b c) d f = one-place s s′ i n script x j _ d refl refl refl (λ l o. omega arith) (λ o. omega arith) g g′ f
+follow-others s s′ i n script x g g′ (did-write j w a b c e) d f = one-place s s′ i n script x j _ d refl refl refl (λ l o. omega arith) (λ o. omega arith) g g′ f
+follow-others s s′ i n script x g g′ (did-prepare j a b c) d f = one-place s s′ i n script x j _ d refl refl refl (λ l o. omega arith) (λ o. omega arith) g g′ f
 follow-others s s′ i n script x g g′ (did-install j a b) d f = (f .0, follow-install s i n script x (f .0) (f .1) j d g g′ a b)
 follow-others s s′ i n script x g g′ (did-end j a b) d f = go (ltb (rank (x .phase)) 4) refl
   where
     go : (t : Bool) → ltb (rank (x .phase)) 4 ≡ t → Followed (becomes s j Ended) i n script x
     go true e = (f .0, follow-end-early s i n script x (f .0) (f .1) j d g g′ a b (ltb-true _ _ e))
     go false e = (liveRow (becomes s j Ended), follow-end-late s i n script x (f .0) (f .1) j d g g′ a b (ltb-false _ _ e))
-follow-others s s′ i n script x g g′ (did-publish j a b) d f = (f .0, follow-still s i n script x (f .0) (f .1) s′ refl refl (update-other (s .txns) j _ i d) (live-set s s′ j _ refl refl (λ l e. omega arith) (λ e. omega arith) g g′))
-follow-others s s′ i n script x g g′ (did-abort j a b) d f = (f .0, follow-still s i n script x (f .0) (f .1) s′ refl refl (update-other (s .txns) j _ i d) (live-set s s′ j _ refl refl (λ l e. omega arith) (λ e. omega arith) g g′))
+follow-others s s′ i n script x g g′ (did-publish j a b) d f = one-place s s′ i n script x j _ d refl refl refl (λ l o. omega arith) (λ o. omega arith) g g′ f
+follow-others s s′ i n script x g g′ (did-abort j a b) d f = one-place s s′ i n script x j _ d refl refl refl (λ l o. omega arith) (λ o. omega arith) g g′ f

@@ -25,7 +25,7 @@ use Rattle.model.proofs.LiveRows.{rows-published}
 use Rattle.serial.specs.Done.{Entry, entryOf, entries}
 use Rattle.serial.specs.InTurn.{endOrder, inTurn, oneByOne, stepsIn, RunInTurn}
 use Rattle.serial.proofs.Whole.{entries-append, one-entry}
-use Rattle.serial.proofs.Counting.{waiting, running, over, wait-free, runs-free, over-free}
+use Rattle.serial.proofs.Counting.{waiting, running, over, Counts, count-free}
 use Rattle.serial.proofs.Beside.{SideBySide}
 use Rattle.serial.proofs.StepsBeside.{beside-capture, beside-collect, beside-rows, beside-put, beside-erase, beside-validate, beside-prepare, beside-install, beside-publish, beside-abort, beside-begin}
 use Rattle.serial.proofs.MarksBeside.{beside-stale}
@@ -89,10 +89,13 @@ module _ (z : Sizes) (c₀ : ℕ) where
       sizes-are = refl;
       clock-is = omega arith;
       rows-are = λ r u. refl;
-      used-is = omega (arith, sum-zero (waiting z (fresh z c₀ .index .posted)) (fresh z c₀ .txns) mostLive (λ j. wait-free z (fresh z c₀ .index .posted) (fresh z c₀ .txns j) refl));
-      numbers = omega (arith, sum-zero running (fresh z c₀ .txns) mostLive (λ j. runs-free (fresh z c₀ .txns j) refl), sum-zero over (fresh z c₀ .txns) mostLive (λ j. over-free (fresh z c₀ .txns j) refl));
+      used-is = omega (arith, sum-zero (waiting z (fresh z c₀ .index .posted)) (fresh z c₀ .txns) mostLive (λ j. free j .waits));
+      numbers = omega (arith, sum-zero running (fresh z c₀ .txns) mostLive (λ j. free j .runs), sum-zero over (fresh z c₀ .txns) mostLive (λ j. free j .is-over));
     };
   }
+    where
+      free : (j : ℕ) → Counts z (fresh z c₀ .index .posted) (fresh z c₀ .txns j) 0 0 0
+      free j = count-free z (fresh z c₀ .index .posted) (fresh z c₀ .txns j) refl
 
   -- a store that could not be opened takes no step
   shut : (s : Store) (steps : List Step) → rightShape s ≡ false → (entries s steps ≡ []) × (run s steps ≡ s)
