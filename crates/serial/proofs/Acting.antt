@@ -12,7 +12,7 @@ use borrow.Author.Tests.{eqb-true, eq-eqb}
 use Rattle.limits.specs.Limits.{mostRows, mostIndexReads, mostRecords, mostWrites}
 use Rattle.model.specs.Lists.{member, some-of, Among}
 use Rattle.model.specs.Table.{update, update-same, update-other, cond-elim}
-use Rattle.model.specs.Store.{Index, Open, Holding, Collected, IndexRead, ReadRecord, Txn, Store, rank, keyIn, bucketOf}
+use Rattle.model.specs.Store.{Index, Open, Holding, Collected, IndexRead, Write, ReadRecord, Txn, Store, rank, keyIn, bucketOf}
 use Rattle.model.specs.Seeing.{versionOf, Live}
 use Rattle.model.specs.Steps.{hasRead, addRead, captured, collected, foundRows, recordsAfter, readDone, written}
 use Rattle.model.specs.Contents.{Content, shownTo, liveRow}
@@ -179,39 +179,30 @@ module _ (s : Store) (q : Quiet s) (x : Local) (t : Store) (a : Alone s x t) whe
       after = alone-set (readDone t 0) _ _ (rw store-is at (good-move t _ (a .good) (step-move t (rows (s .clock) room)))) refl refl refl refl refl refl refl refl refl (omega arith)
           (a .buckets-are) (a .stamps-are) (a .writes-are) recorded
 
+  -- a write is appended, and nothing is read
+  write-acts : (a : Step) (w : Write) → x .phase ≡ Open → number t a ≡ 0 → step t a .store ≡ written t 0 w → returned t (actor a) (step t a .answer) ≡ [] → Acts s (writing x w) t a []
+  write-acts b w p ok store-is none-read = record { done = ok; reads-are = none-read; next = rw store-is after }
+    where
+      after : Alone s (writing x w) (written t 0 w)
+      after = alone-set (written t 0 w) _ _ (rw store-is at (good-move t _ (a .good) (step-move t b))) refl refl refl refl refl refl refl refl (a .phase-is) (a .early) (a .buckets-are) (a .stamps-are) (ap (λ ws. ws ++ (w ∷ [])) (a .writes-are)) (a .records-are)
+
+  -- it is ready, unmarked, and has room
+  can-write : (r : ℕ) → r < s .sizes .rows → length (x .writes) < mostWrites → (txnOf t (s .clock) .marked ≡ false) × ((r < t .sizes .rows) × (length (txnOf t (s .clock) .writes) < mostWrites))
+  can-write r u v = (ap (λ (w : Txn). w .marked) (txn-is s q x t a) ∙ a .unmarked, (rw (a .sizes-are) u, rw (txn-is s q x t a, a .writes-are) v))
+
   pub put-acts : (r k payload : ℕ) → x .phase ≡ Open → r < s .sizes .rows → length (x .writes) < mostWrites → Acts s (writing x (record { row = r; key = some k; payload = payload })) t (put (s .clock) r k payload) []
   unfolding accepted
-  put-acts r k payload p u v = record { done = ok; reads-are = ap (λ v. returned t (s .clock) (v .answer)) does; next = rw store-is after }
-    where
-      ok : number t (put (s .clock) r k payload) ≡ 0
-      ok = put-0 t (s .clock) r k payload .1 ((right-shape t (a .good), lives s q x t a, phase-of ∙ ap rank p), (ap (λ (w : Txn). w .marked) (txn-is s q x t a) ∙ a .unmarked, (rw (a .sizes-are) u, rw (txn-is s q x t a, a .writes-are) v)))
-
-      does : step t (put (s .clock) r k payload) ≡ accepted t (put (s .clock) r k payload)
-      does = done-does t (put (s .clock) r k payload) ok
-
-      store-is : step t (put (s .clock) r k payload) .store ≡ written t 0 (record { row = r; key = some k; payload = payload })
-      store-is = ap (λ v. v .store) does ∙ ap (λ i. written t i (record { row = r; key = some k; payload = payload })) (place s q x t a)
-
-      after : Alone s (writing x (record { row = r; key = some k; payload = payload })) (written t 0 (record { row = r; key = some k; payload = payload }))
-      after = alone-set (written t 0 (record { row = r; key = some k; payload = payload })) _ _ (rw store-is at (good-move t _ (a .good) (step-move t (put (s .clock) r k payload)))) refl refl refl refl refl refl refl refl (a .phase-is) (a .early)
-          (a .buckets-are) (a .stamps-are) (ap (λ ws. ws ++ (record { row = r; key = some k; payload = payload } ∷ [])) (a .writes-are)) (a .records-are)
+  put-acts r k payload p u v =
+      let ok = put-0 t (s .clock) r k payload .1 ((right-shape t (a .good), lives s q x t a, phase-of ∙ ap rank p), can-write r u v) in
+      let does = done-does t (put (s .clock) r k payload) ok in
+      write-acts (put (s .clock) r k payload) (record { row = r; key = some k; payload = payload }) p ok (ap (λ v. v .store) does ∙ ap (λ i. written t i (record { row = r; key = some k; payload = payload })) (place s q x t a)) (ap (λ v. returned t (s .clock) (v .answer)) does)
 
   pub erase-acts : (r : ℕ) → x .phase ≡ Open → r < s .sizes .rows → length (x .writes) < mostWrites → Acts s (writing x (record { row = r; key = none; payload = 0 })) t (erase (s .clock) r) []
   unfolding accepted
-  erase-acts r p u v = record { done = ok; reads-are = ap (λ v. returned t (s .clock) (v .answer)) does; next = rw store-is after }
-    where
-      ok : number t (erase (s .clock) r) ≡ 0
-      ok = erase-0 t (s .clock) r .1 ((right-shape t (a .good), lives s q x t a, phase-of ∙ ap rank p), (ap (λ (w : Txn). w .marked) (txn-is s q x t a) ∙ a .unmarked, (rw (a .sizes-are) u, rw (txn-is s q x t a, a .writes-are) v)))
-
-      does : step t (erase (s .clock) r) ≡ accepted t (erase (s .clock) r)
-      does = done-does t (erase (s .clock) r) ok
-
-      store-is : step t (erase (s .clock) r) .store ≡ written t 0 (record { row = r; key = none; payload = 0 })
-      store-is = ap (λ v. v .store) does ∙ ap (λ i. written t i (record { row = r; key = none; payload = 0 })) (place s q x t a)
-
-      after : Alone s (writing x (record { row = r; key = none; payload = 0 })) (written t 0 (record { row = r; key = none; payload = 0 }))
-      after = alone-set (written t 0 (record { row = r; key = none; payload = 0 })) _ _ (rw store-is at (good-move t _ (a .good) (step-move t (erase (s .clock) r)))) refl refl refl refl refl refl refl refl (a .phase-is) (a .early)
-          (a .buckets-are) (a .stamps-are) (ap (λ ws. ws ++ (record { row = r; key = none; payload = 0 } ∷ [])) (a .writes-are)) (a .records-are)
+  erase-acts r p u v =
+      let ok = erase-0 t (s .clock) r .1 ((right-shape t (a .good), lives s q x t a, phase-of ∙ ap rank p), can-write r u v) in
+      let does = done-does t (erase (s .clock) r) ok in
+      write-acts (erase (s .clock) r) (record { row = r; key = none; payload = 0 }) p ok (ap (λ v. v .store) does ∙ ap (λ i. written t i (record { row = r; key = none; payload = 0 })) (place s q x t a)) (ap (λ v. returned t (s .clock) (v .answer)) does)
 
   pub validate-acts : x .phase ≡ Open → Acts s x t (validate (s .clock)) []
   unfolding accepted
