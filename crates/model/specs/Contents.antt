@@ -10,6 +10,7 @@ use Rattle.model.specs.Steps.{newKey, writtenPayload}
 abbrev pub Content : Type 0
 Content = Option (ℕ × ℕ)
 
+-- of a key, or none, and a payload
 abbrev pub content : Option ℕ → ℕ → Content
 content none payload = none
 content (some k) payload = some (k, payload)

@@ -1,4 +1,4 @@
--- Alone in a quiet store, each step of a transaction by itself is accepted and reads the same. Assumes nothing.
+-- Alone in a quiet store, each step from capture to validate that a transaction takes by itself is accepted and reads the same. Assumes nothing.
 use mathlib.Core.Path.{_≡_, refl, sym, ap, _∙_}
 use mathlib.Core.Bool.{Bool, true, false, cond}
 use mathlib.Core.Logic.{_⊎_, ⊎-elim}

@@ -1,4 +1,4 @@
--- A transaction that runs alone in a quiet store does what it does by itself. Assumes nothing.
+-- A quiet store, in which nobody is live, and a transaction that runs in it alone: nobody else holds or claims anything, and it sees the store's rows. Assumes nothing.
 use mathlib.Core.Path.{_≡_, sym, ap, _∙_}
 use mathlib.Core.Bool.{true, false}
 use mathlib.Core.Logic.{_≢_, _⊎_, inl, inr}

@@ -45,6 +45,7 @@ unfoldable pub recordRows : List Write → List ℕ → List ℕ → List ℕ
 recordRows ws rs [] = rs
 recordRows ws rs (r ∷ more) = recordRows ws (cond (pending ws r || member r rs) rs (rs ++ (r ∷ []))) more
 
+-- the buckets captured, each once
 unfoldable pub addBucket : List ℕ → ℕ → List ℕ
 addBucket bs b = cond (member b bs) bs (bs ++ (b ∷ []))
 
@@ -56,6 +57,7 @@ pub record Local : Type 0 where
   pub records : List ℕ
   pub done : List (ℕ × List Write)
 
+-- at its begin; in another phase; with a write more
 abbrev pub started : Local
 started = record { phase = Open; buckets = []; writes = []; records = []; done = [] }
 

@@ -1,4 +1,4 @@
--- The run one after another keeps step with the run: what a step that ends nobody leaves of that. Assumes nothing.
+-- Versions that wait for an end, transactions that run and those that are over: what each step adds to these, so that the turn has room. Assumes nothing.
 use mathlib.Core.Path.{_≡_, refl, sym, ap, _∙_}
 use mathlib.Core.Bool.{Bool, true, false, cond, not, _&&_}
 use mathlib.Core.Logic.{_≢_}

@@ -1,4 +1,4 @@
--- Entries of a run: those of one transaction, the order of ends, the turns; sums over the places. Assumes nothing.
+-- Entries of a run, one more at a time: those of one transaction, the order of ends, the turns; and the same entries under another number. Assumes nothing.
 use mathlib.Core.Path.{_≡_, refl, sym, ap, _∙_}
 use mathlib.Core.Bool.{Bool, true, false, cond, not, _&&_}
 use mathlib.Core.Logic.{inl, inr}

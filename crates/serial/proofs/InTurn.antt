@@ -1,4 +1,4 @@
--- One after another: request (xiii), for any sequence of steps from a fresh store, refused ones included. Assumes nothing.
+-- Side by side through any sequence of steps from a fresh store, refused ones included: so the payments were as if made in turn. Assumes nothing.
 use mathlib.Core.Path.{_≡_, refl, sym, ap, _∙_}
 use mathlib.Core.Bool.{Bool, true, false}
 use mathlib.Core.Logic.{_≢_, _⊎_, ⊎-elim}

@@ -1,4 +1,4 @@
--- Alone in a quiet store, a transaction begins and prepares; then it installs, ends and publishes, and the store is quiet again with its writes. Assumes nothing.
+-- Alone in a quiet store, a transaction begins, and it prepares where its versions fit. Assumes nothing.
 use mathlib.Core.Path.{_≡_, refl, sym, ap, _∙_}
 use mathlib.Core.Bool.{false}
 use mathlib.Core.Logic.{inr}

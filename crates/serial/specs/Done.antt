@@ -40,6 +40,7 @@ whose s (publish t) = t
 whose s (validate t) = t
 whose s (abort t) = t
 
+-- the entry of a step that is accepted
 abbrev pub entryOf : Store → Step → Entry
 entryOf s a = record { who = whose s a; what = a; read = returned s (actor a) (step s a .answer) }
 

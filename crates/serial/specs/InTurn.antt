@@ -10,7 +10,7 @@ use Rattle.model.specs.Refusals.{Step, begin, capture, collect, rows, put, eras
 use Rattle.model.specs.Machine.{run}
 use Rattle.serial.specs.Done.{Entry, entries}
 
--- the transactions that reached end, in the order of their end steps
+-- the transaction that an end step ends
 abbrev pub endIn : Step → List ℕ
 endIn begin = []
 endIn (capture t k) = []
@@ -25,6 +25,7 @@ endIn (publish t) = []
 endIn (validate t) = []
 endIn (abort t) = []
 
+-- the transactions that reached end, in the order of their end steps
 unfoldable pub endOrder : List Entry → List ℕ
 endOrder [] = []
 endOrder (e ∷ es) = endIn (e .what) ++ endOrder es
@@ -77,14 +78,15 @@ unfoldable pub inTurn : ℕ → List ℕ → List Entry → List Entry
 inTurn clock [] es = []
 inTurn clock (n ∷ ns) es = wholeOf clock n es ++ inTurn (2 + clock) ns es
 
--- those that reached end
+-- those that reached end, one after another
 abbrev pub oneByOne : ℕ → List Entry → List Entry
 oneByOne clock es = inTurn clock (endOrder es) es
 
--- their steps
+-- the steps of entries
 abbrev pub stepsIn : List Entry → List Step
 stepsIn es = map (λ (e : Entry). e .what) es
 
+-- the turn of a run: the steps of those that reached end
 abbrev pub turnOf : Store → List Step → List Step
 turnOf s steps = stepsIn (oneByOne (s .clock) (entries s steps))
 
