@@ -3,11 +3,11 @@ use mathlib.Core.Path.{_≡_, refl, sym, ap, _∙_}
 use mathlib.Core.Bool.{Bool, true, false, cond}
 use mathlib.Core.Logic.{_⊎_, ⊎-elim}
 use mathlib.Core.Option.{none, some}
-use mathlib.Core.List.{List, [], _∷_, _++_, map}
+use mathlib.Core.List.{List, [], _∷_, _++_, map, map-append}
 use Prim.Native.Nat.{ℕ, _+_, _≤_, _<_, min}
 use native.Mathlib.Omega.{arith}
 use lib.Dec.{eqb}
-use lib.ListN.{length}
+use lib.ListN.{length, length-map}
 use borrow.Author.Tests.{eqb-true, eq-eqb}
 use Rattle.limits.specs.Limits.{mostRows, mostIndexReads, mostRecords, mostWrites}
 use Rattle.model.specs.Lists.{member, some-of, Among}
@@ -38,25 +38,13 @@ unfolding hasRead some-of member
 has-member [] b = refl
 has-member (r ∷ rs) b = rw (has-member rs b, same-test (eqb (r .bucket) b) (eqb b (r .bucket)) (λ e. eq-eqb b (r .bucket) (sym (eqb-true (r .bucket) b e))) (λ e. eq-eqb (r .bucket) b (sym (eqb-true b (r .bucket) e)))) refl
 
-pub map-long : (rs : List IndexRead) → length (bucketsOf rs) ≡ length rs
-map-long [] = refl
-map-long (r ∷ rs) = rw (map-long rs) refl
-
-pub rows-long : (rs : List ReadRecord) → length (map (λ (r : ReadRecord). r .row) rs) ≡ length rs
-rows-long [] = refl
-rows-long (r ∷ rs) = rw (rows-long rs) refl
-
-buckets-append : (rs : List IndexRead) (r : IndexRead) → bucketsOf (rs ++ (r ∷ [])) ≡ bucketsOf rs ++ (r .bucket ∷ [])
-buckets-append [] r = refl
-buckets-append (p ∷ rs) r = ap (λ l. p .bucket ∷ l) (buckets-append rs r)
-
 pub buckets-add : (rs : List IndexRead) (b stamp : ℕ) → bucketsOf (addRead rs b stamp) ≡ addBucket (bucketsOf rs) b
 unfolding addRead addBucket
 buckets-add rs b stamp = rw (has-member rs b) (go (member b (bucketsOf rs)))
   where
     go : (t : Bool) → bucketsOf (cond t rs (rs ++ (record { bucket = b; stamp = stamp } ∷ []))) ≡ cond t (bucketsOf rs) (bucketsOf rs ++ (b ∷ []))
     go true = refl
-    go false = buckets-append rs (record { bucket = b; stamp = stamp })
+    go false = map-append (λ (r : IndexRead). r .bucket) rs (record { bucket = b; stamp = stamp } ∷ [])
 
 add-stamps : (rs : List IndexRead) (b stamp : ℕ) (f : ℕ → ℕ) → ((r : IndexRead) → Among r rs → r .stamp ≡ f (r .bucket)) → stamp ≡ f b → (r : IndexRead) → Among r (addRead rs b stamp) → r .stamp ≡ f (r .bucket)
 unfolding addRead
@@ -107,7 +95,7 @@ module _ (s : Store) (q : Quiet s) (x : Local) (t : Store) (a : Alone s x t) whe
       below = rw (a .index-is) (q .good .below .stamp-below (bucketOf (t .sizes) k))
 
       room : (hasRead (txnOf t (s .clock) .reads) (bucketOf (t .sizes) k) ≡ true) ⊎ (length (txnOf t (s .clock) .reads) < mostIndexReads)
-      room = rw (txn-is s q x t a, a .sizes-are, has-member (t .txns 0 .reads) (bucketOf (s .sizes) k), sym (map-long (t .txns 0 .reads)), a .buckets-are) o
+      room = rw (txn-is s q x t a, a .sizes-are, has-member (t .txns 0 .reads) (bucketOf (s .sizes) k), sym (length-map (t .txns 0 .reads) (λ (r : IndexRead). r .bucket)), a .buckets-are) o
 
       ok : number t (capture (s .clock) k) ≡ 0
       ok = capture-0 t (s .clock) k .1 ((right-shape t (a .good), lives s q x t a, phase-of ∙ ap rank p), (ap (λ (v : Txn). v .marked) (txn-is s q x t a) ∙ a .unmarked, (unheld s q x t a (bucketOf (t .sizes) k), (below, room))))
@@ -164,7 +152,7 @@ module _ (s : Store) (q : Quiet s) (x : Local) (t : Store) (a : Alone s x t) whe
           ∙ (rw (found, a .writes-are, a .records-are) refl)
 
       ok : number t (rows (s .clock) room) ≡ 0
-      ok = rows-0 t (s .clock) room .1 ((right-shape t (a .good), lives s q x t a, phase-of ∙ ap rank p), (rw (txn-is s q x t a, found) few, rw (txn-is s q x t a, sym (rows-long (recordsAfter t (t .txns 0))), recorded) fit))
+      ok = rows-0 t (s .clock) room .1 ((right-shape t (a .good), lives s q x t a, phase-of ∙ ap rank p), (rw (txn-is s q x t a, found) few, rw (txn-is s q x t a, sym (length-map (recordsAfter t (t .txns 0)) (λ (r : ReadRecord). r .row)), recorded) fit))
 
       does : step t (rows (s .clock) room) ≡ accepted t (rows (s .clock) room)
       does = done-does t (rows (s .clock) room) ok

@@ -2,7 +2,7 @@
 use mathlib.Core.Path.{_≡_, refl, sym, ap, _∙_}
 use mathlib.Core.Bool.{Bool, true, false, cond, _&&_, true≢false}
 use mathlib.Core.Logic.{_≢_, _⊎_, ⊎-elim}
-use mathlib.Core.List.{List, [], _∷_, _++_, map}
+use mathlib.Core.List.{List, [], _∷_, _++_, map, map-append}
 use Prim.Native.Nat.{ℕ, _+_, _≤_, _<_}
 use native.Mathlib.Omega.{arith}
 use native.Mathlib.Decide.{ℕ-discrete}
@@ -34,7 +34,7 @@ use Rattle.serial.specs.Done.{Entry, entryOf, entries}
 use Rattle.serial.specs.InTurn.{endOrder, doneBy, asNumber, wholeOf, inTurn, oneByOne, stepsIn}
 use Rattle.serial.proofs.ByItself.{contentKey, key-content, shownIn, Local, Played, played-switch}
 use Rattle.serial.proofs.Alone.{quiet-head}
-use Rattle.serial.proofs.Entries.{mine-more, others-same, order-more, turn-same, turn-more, steps-both, played-again}
+use Rattle.serial.proofs.Entries.{mine-more, others-same, order-more, turn-same, turn-more, played-again}
 use Rattle.serial.proofs.Whole.{entries-append, VersionsFit, Turned, turned}
 use Rattle.serial.proofs.Following.{Followed, follow-others}
 use Rattle.serial.proofs.OwnSteps.{own-end}
@@ -122,7 +122,7 @@ module _ (z : Sizes) (c₀ : ℕ) where
     took = turned S (h .beside .quiet) numbers-left (map (asNumber (S .clock)) (doneBy t es′)) (own .0) again (own .2) versions-left
 
     serial-is : serially z c₀ es′ ≡ run S (stepsIn (wholeOf (S .clock) t es′))
-    serial-is = ap (λ l. run (fresh z c₀) (stepsIn l)) turn-is ∙ (ap (run (fresh z c₀)) (steps-both (oneByOne c₀ es) (wholeOf (S .clock) t es′)) ∙ run-append (fresh z c₀) (stepsIn (oneByOne c₀ es)) (stepsIn (wholeOf (S .clock) t es′)))
+    serial-is = ap (λ l. run (fresh z c₀) (stepsIn l)) turn-is ∙ (ap (run (fresh z c₀)) (map-append (λ (d : Entry). d .what) (oneByOne c₀ es) (wholeOf (S .clock) t es′)) ∙ run-append (fresh z c₀) (stepsIn (oneByOne c₀ es)) (stepsIn (wholeOf (S .clock) t es′)))
 
     rows-after : (r : ℕ) → r < s .sizes .rows → shownIn (liveRow S) (own .0 .writes) r ≡ liveRow (becomes s b Ended) r
     unfolding shownIn pendingRows
@@ -134,7 +134,7 @@ module _ (z : Sizes) (c₀ : ℕ) where
 
     turn-beside : Beside z c₀ (becomes s b Ended) es′
     turn-beside = let k = ends s b (h .good) live-b fifth in record {
-      same = rw turn-is (ap (entries (fresh z c₀)) (steps-both (oneByOne c₀ es) (wholeOf (S .clock) t es′)) ∙ (entries-append (fresh z c₀) (stepsIn (oneByOne c₀ es)) (stepsIn (wholeOf (S .clock) t es′)) ∙ (ap (λ l. l ++ entries S (stepsIn (wholeOf (S .clock) t es′))) (h .beside .same) ∙ ap (λ l. oneByOne c₀ es ++ l) (took .same))));
+      same = rw turn-is (ap (entries (fresh z c₀)) (map-append (λ (d : Entry). d .what) (oneByOne c₀ es) (wholeOf (S .clock) t es′)) ∙ (entries-append (fresh z c₀) (stepsIn (oneByOne c₀ es)) (stepsIn (wholeOf (S .clock) t es′)) ∙ (ap (λ l. l ++ entries S (stepsIn (wholeOf (S .clock) t es′))) (h .beside .same) ∙ ap (λ l. oneByOne c₀ es ++ l) (took .same))));
       quiet = rw serial-is (took .after .quiet);
       sizes-are = rw serial-is (took .after .sizes-are ∙ h .beside .sizes-are);
       clock-is = rw serial-is (took .after .clock-is ∙ omega (arith, h .beside .clock-is, ap length order-is, length-append (endOrder es) (t ∷ [])));

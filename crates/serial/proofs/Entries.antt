@@ -2,7 +2,7 @@
 use mathlib.Core.Path.{_≡_, refl, sym, ap, _∙_}
 use mathlib.Core.Bool.{Bool, true, false, cond, not, _&&_}
 use mathlib.Core.Logic.{inl, inr}
-use mathlib.Core.List.{List, [], _∷_, _++_, map, append-assoc, append-nil}
+use mathlib.Core.List.{List, [], _∷_, _++_, map, append-assoc, map-append, append-nil}
 use Prim.Native.Nat.{ℕ, suc, _+_, _<_}
 use native.Mathlib.Omega.{arith}
 use lib.Dec.{eqb}
@@ -13,7 +13,7 @@ use Rattle.model.specs.Store.{Sizes}
 use Rattle.model.specs.Contents.{Content}
 use Rattle.model.specs.Refusals.{Step}
 use Rattle.serial.specs.Done.{Entry}
-use Rattle.serial.specs.InTurn.{endIn, endOrder, isPublish, doneBy, renumbered, asNumber, wholeOf, inTurn, stepsIn}
+use Rattle.serial.specs.InTurn.{endIn, endOrder, isPublish, doneBy, renumbered, asNumber, wholeOf, inTurn}
 use Rattle.serial.proofs.ByItself.{Local, Plays, plays-capture, plays-collect, plays-rows, plays-put, plays-erase, plays-validate, plays-prepare, plays-install, plays-end, Played, begins, then}
 
 -- one entry more
@@ -53,10 +53,6 @@ turn-more c (k ∷ ns) n es =
     let e : 2 + c + (length ns + length ns) ≡ c + (suc (length ns) + suc (length ns)) = omega arith in
     ap (λ l. wholeOf c k es ++ l) (turn-more (2 + c) ns n es ∙ ap (λ w. inTurn (2 + c) ns es ++ wholeOf w n es) e) ∙ sym (append-assoc (wholeOf c k es) (inTurn (2 + c) ns es) _)
 
-pub steps-both : (es ds : List Entry) → stepsIn (es ++ ds) ≡ stepsIn es ++ stepsIn ds
-steps-both [] ds = refl
-steps-both (e ∷ es) ds = ap (λ l. e .what ∷ l) (steps-both es ds)
-
 -- the same by another number
 plays-again : (z : Sizes) (m : ℕ → Content) (n k : ℕ) (x y : Local) (a : Step) (read : List (ℕ × Content)) → Plays z m n x a read y → Plays z m k x (renumbered k a) read y
 plays-again z m n k x y a read (plays-capture j p o) = plays-capture j p o
@@ -69,10 +65,6 @@ plays-again z m n k x y a read (plays-prepare p) = plays-prepare p
 plays-again z m n k x y a read (plays-install p) = plays-install p
 plays-again z m n k x y a read (plays-end p) = plays-end p
 
-numbered-more : (k : ℕ) (es : List Entry) (e : Entry) → map (asNumber k) (es ++ (e ∷ [])) ≡ map (asNumber k) es ++ (asNumber k e ∷ [])
-numbered-more k [] e = refl
-numbered-more k (d ∷ es) e = ap (λ l. asNumber k d ∷ l) (numbered-more k es e)
-
 pub played-again : (z : Sizes) (m : ℕ → Content) (n k : ℕ) (es : List Entry) (x : Local) → Played z m n es x → Played z m k (map (asNumber k) es) x
 played-again z m n k es x begins = begins
-played-again z m n k es y (then {es = ds} {x = x} {a = a} {read = read} d p) = rw (numbered-more k ds (record { who = n; what = a; read = read })) (then (played-again z m n k ds x d) (plays-again z m n k x y a read p))
+played-again z m n k es y (then {es = ds} {x = x} {a = a} {read = read} d p) = rw (map-append (asNumber k) ds (record { who = n; what = a; read = read } ∷ [])) (then (played-again z m n k ds x d) (plays-again z m n k x y a read p))

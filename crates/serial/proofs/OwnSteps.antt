@@ -6,11 +6,11 @@ use mathlib.Core.Option.{none, some}
 use mathlib.Core.List.{List, [], _∷_, _++_, map}
 use Prim.Native.Nat.{ℕ, _+_, _≤_, _<_, min}
 use native.Mathlib.Omega.{arith}
-use lib.ListN.{length}
+use lib.ListN.{length, length-map}
 use Rattle.limits.specs.Limits.{mostRows, mostIndexReads, mostRecords}
 use Rattle.model.specs.Lists.{member, Among}
 use Rattle.model.specs.Table.{update, update-same}
-use Rattle.model.specs.Store.{Open, Holding, Collected, Prepared, Installed, Ended, Write, ReadRecord, Txn, Store, rank, bucketIn, keyIn, bucketOf}
+use Rattle.model.specs.Store.{Open, Holding, Collected, Prepared, Installed, Ended, IndexRead, Write, ReadRecord, Txn, Store, rank, bucketIn, keyIn, bucketOf}
 use Rattle.model.specs.Seeing.{versionOf, keyAt, pending, matches, Live}
 use Rattle.model.specs.Steps.{withPhase, becomes, hasRead, captured, collected, foundRows, recordsAfter, readTxn, readDone, written, readBuckets, neededBuckets, prepared, installed}
 use Rattle.model.specs.Contents.{Content, contentOf, shownTo, liveRow}
@@ -34,7 +34,7 @@ use Rattle.serial.specs.Done.{returned, Entry, entryOf}
 use Rattle.serial.proofs.ByItself.{rowsIn, readIn, recordRows, addBucket, Local, phased, writing, Plays, plays-capture, plays-collect, plays-rows, plays-put, plays-erase, plays-validate, plays-prepare, plays-install, plays-end, Played, then, Agreeing, played-switch}
 use Rattle.serial.proofs.Returned.{found-is, read-is, records-is}
 use Rattle.serial.proofs.ReadsHold.{agrees}
-use Rattle.serial.proofs.Acting.{bucketsOf, has-member, map-long, rows-long, buckets-add}
+use Rattle.serial.proofs.Acting.{bucketsOf, has-member, buckets-add}
 use Rattle.serial.proofs.Following.{Follow, Followed}
 
 -- the buckets of index reads are needed
@@ -97,7 +97,7 @@ module _ (s : Store) (g : Good s) (i n : ℕ) (script : List Entry) (x : Local) 
       first = rank-of 1 (capture-0 s n k .0 ok .0 .2)
 
       room : (member (bucketOf (s .sizes) k) (x .buckets) ≡ true) ⊎ (length (x .buckets) < mostIndexReads)
-      room = rw (txn-of, has-member (s .txns i .reads) (bucketOf (s .sizes) k), sym (map-long (s .txns i .reads)), f .buckets-are) at (capture-0 s n k .0 ok .1 .1 .1 .1)
+      room = rw (txn-of, has-member (s .txns i .reads) (bucketOf (s .sizes) k), sym (length-map (s .txns i .reads) (λ (r : IndexRead). r .bucket)), f .buckets-are) at (capture-0 s n k .0 ok .1 .1 .1 .1)
 
       does : step s (capture n k) ≡ accepted s (capture n k)
       does = done-does s (capture n k) ok
@@ -171,7 +171,7 @@ module _ (s : Store) (g : Good s) (i n : ℕ) (script : List Entry) (x : Local) 
       few = rw txn-of at (rows-0 s n room .0 ok .1 .0)
 
       fit : length (recordRows (x .writes) (x .records) (foundRows s (s .txns i))) ≤ mostRecords
-      fit = rw (sym recorded, rows-long (recordsAfter s (s .txns i))) (rw txn-of at (rows-0 s n room .0 ok .1 .1))
+      fit = rw (sym recorded, length-map (recordsAfter s (s .txns i)) (λ (r : ReadRecord). r .row)) (rw txn-of at (rows-0 s n room .0 ok .1 .1))
 
       does : step s (rows n room) ≡ accepted s (rows n room)
       does = done-does s (rows n room) ok

@@ -3,7 +3,7 @@ use mathlib.Core.Path.{_≡_, refl, sym, ap, subst, _∙_}
 use mathlib.Core.Bool.{Bool, true, false, cond, _||_}
 use mathlib.Core.Logic.{_≢_, _⊎_, inl, inr, ⊎-elim}
 use mathlib.Core.Option.{Option, none, some}
-use mathlib.Core.List.{List, [], _∷_, _++_, map}
+use mathlib.Core.List.{List, [], _∷_, _++_, map, map-append}
 use Prim.Native.Nat.{ℕ}
 use native.Mathlib.Omega.{arith}
 use lib.Dec.{eqb}
@@ -97,10 +97,6 @@ module _ (c : Chains) (ch : Chained c) (x : Txn) where
       let w = map-among (λ (q : ReadRecord). q .row) rs r (member-among r (rowsOf rs) e) in
       which-some (λ (q : ReadRecord). eqb (q .ptr) (versionOf c (x .snapshot) r)) rs (w .0) (w .1) (eq-eqb _ _ (ap (λ (q : ReadRecord). q .ptr) (h (w .0) (w .1)) ∙ ap (versionOf c (x .snapshot)) (sym (w .2)))))
 
-  rows-append : (rs : List ReadRecord) (q : ReadRecord) → rowsOf (rs ++ (q ∷ [])) ≡ rowsOf rs ++ (q .row ∷ [])
-  rows-append [] q = refl
-  rows-append (p ∷ rs) q = ap (λ l. p .row ∷ l) (rows-append rs q)
-
   -- one row
   abbrev noted : List ReadRecord → ℕ → List ReadRecord
   noted rs r = cond (pending (x .writes) r) rs (recording rs (recordOf c (x .snapshot) r))
@@ -116,7 +112,7 @@ module _ (c : Chains) (ch : Chained c) (x : Txn) where
     where
       one : (b : Bool) → member r (rowsOf rs) ≡ b → rowsOf (cond b rs (rs ++ (recordOf c (x .snapshot) r ∷ []))) ≡ cond b (rowsOf rs) (rowsOf rs ++ (r ∷ []))
       one true e = refl
-      one false e = rows-append rs (recordOf c (x .snapshot) r)
+      one false e = map-append (λ (q : ReadRecord). q .row) rs (recordOf c (x .snapshot) r ∷ [])
 
       go : (b : Bool) → pending (x .writes) r ≡ b → rowsOf (cond b rs (recording rs (recordOf c (x .snapshot) r))) ≡ cond (b || member r (rowsOf rs)) (rowsOf rs) (rowsOf rs ++ (r ∷ []))
       go true p = refl

@@ -1,7 +1,7 @@
 -- A whole transaction in a quiet store: what it does by itself is what the store's run accepts, read for read. Assumes nothing.
 use mathlib.Core.Path.{_≡_, refl, ap, _∙_}
 use mathlib.Core.Bool.{Bool, true, false, cond}
-use mathlib.Core.List.{List, [], _∷_, _++_}
+use mathlib.Core.List.{List, [], _∷_, _++_, map-append}
 use Prim.Native.Nat.{ℕ, _+_, _≤_}
 use native.Mathlib.Omega.{arith}
 use lib.Dec.{eqb}
@@ -34,9 +34,9 @@ entries-append s (a ∷ xs) ys = go (eqb (number s a) 0) (entries-append (step s
     go true h = ap (λ l. entryOf s a ∷ l) h
     go false h = h
 
-steps-append : (es : List Entry) (e : Entry) → stepsIn (es ++ (e ∷ [])) ≡ stepsIn es ++ (e .what ∷ [])
-steps-append [] e = refl
-steps-append (d ∷ es) e = ap (λ l. d .what ∷ l) (steps-append es e)
+-- one entry more is one step more
+steps-more : (es : List Entry) (e : Entry) → stepsIn (es ++ (e ∷ [])) ≡ stepsIn es ++ (e .what ∷ [])
+steps-more es e = map-append (λ (d : Entry). d .what) es (e ∷ [])
 
 pub one-entry : (t : Store) (a : Step) → number t a ≡ 0 → entries t (a ∷ []) ≡ entryOf t a ∷ []
 unfolding entries
@@ -145,8 +145,8 @@ module _ (s : Store) (q : Quiet s) (numbers : s .clock + 2 ≤ lastNumber) where
       let w = ran ds x d (λ l. let k = writes-stay (s .sizes) (liveRow s) (s .clock) x y a read p l in rw (k .1) at (h (k .0))) in
       let g = goes s q x y (run s (stepsIn ds)) a read (w .stage) p h in
       record {
-        same = ap (entries s) (steps-append ds _) ∙ (entries-append s (stepsIn ds) (a ∷ []) ∙ (ap (λ l. l ++ entries (run s (stepsIn ds)) (a ∷ [])) (w .same) ∙ ap (λ l. ds ++ l) (one-entry (run s (stepsIn ds)) a (g .done) ∙ ap (λ e. e ∷ []) (g .entry-is))));
-        stage = rw (steps-append ds (record { who = s .clock; what = a; read = read }), run-append s (stepsIn ds) (a ∷ []), one-run (run s (stepsIn ds)) a) (g .stage);
+        same = ap (entries s) (steps-more ds _) ∙ (entries-append s (stepsIn ds) (a ∷ []) ∙ (ap (λ l. l ++ entries (run s (stepsIn ds)) (a ∷ [])) (w .same) ∙ ap (λ l. ds ++ l) (one-entry (run s (stepsIn ds)) a (g .done) ∙ ap (λ e. e ∷ []) (g .entry-is))));
+        stage = rw (steps-more ds (record { who = s .clock; what = a; read = read }), run-append s (stepsIn ds) (a ∷ []), one-run (run s (stepsIn ds)) a) (g .stage);
       }
 
   -- the whole transaction, publish included
@@ -162,9 +162,9 @@ module _ (s : Store) (q : Quiet s) (numbers : s .clock + 2 ≤ lastNumber) where
       let at : run s (stepsIn es) ≡ becomes (installed v 0) 0 Ended = e ∙ f in
       let done : number (run s (stepsIn es)) (publish (s .clock)) ≡ 0 = ap (λ u. number u (publish (s .clock))) at ∙ publish-done s q w v l p in
       record {
-        same = ap (entries s) (steps-append es _) ∙ (entries-append s (stepsIn es) _ ∙ (ap (λ k. k ++ entries (run s (stepsIn es)) (publish (s .clock) ∷ [])) same ∙ ap (λ k. es ++ k) (one-entry (run s (stepsIn es)) (publish (s .clock)) done
+        same = ap (entries s) (steps-more es _) ∙ (entries-append s (stepsIn es) _ ∙ (ap (λ k. k ++ entries (run s (stepsIn es)) (publish (s .clock) ∷ [])) same ∙ ap (λ k. es ++ k) (one-entry (run s (stepsIn es)) (publish (s .clock)) done
             ∙ ap (λ (u : Stepped). record { who = s .clock; what = publish (s .clock); read = returned (run s (stepsIn es)) (s .clock) (u .answer) } ∷ []) (done-does (run s (stepsIn es)) (publish (s .clock)) done))));
-        after = rw (steps-append es (record { who = s .clock; what = publish (s .clock); read = [] }), run-append s (stepsIn es) (publish (s .clock) ∷ []), one-run (run s (stepsIn es)) (publish (s .clock)), at, publish-is s q w v l p) (finished s q w v l p);
+        after = rw (steps-more es (record { who = s .clock; what = publish (s .clock); read = [] }), run-append s (stepsIn es) (publish (s .clock) ∷ []), one-run (run s (stepsIn es)) (publish (s .clock)), at, publish-is s q w v l p) (finished s q w v l p);
       }
 
   pub turned : (es : List Entry) (x : Local) → Played (s .sizes) (liveRow s) (s .clock) es x → x .phase ≡ Ended → VersionsFit s (x .writes) → Turned es x
