@@ -12,7 +12,7 @@
 #define TORUXENG_VERSION "0.4.1"
 #define TORUXENG_VERSION_MAJOR 0
 #define TORUXENG_VERSION_MINOR 4
-#define TORUXENG_VERSION_PATCH 0
+#define TORUXENG_VERSION_PATCH 1
 
 #ifdef __cplusplus
 extern "C" {
