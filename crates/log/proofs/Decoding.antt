@@ -13,7 +13,7 @@ use Rattle.model.specs.Log.{number, widths, fits, fields, whole, commandOf, rea
 use Rattle.log.specs.declared.Command.the-variants.{Open, Ask}
 use Rattle.log.specs.Records.{lengthOf, fieldIn, askedOf, commandIn, malformedAt, decodedOf}
 use Rattle.log.proofs.Known.{fits-length}
-use Rattle.protocol.specs.declared.Step.the-variants as ask
+use Rattle.base_protocol.specs.declared.Step.the-variants as ask
 
 -- the fields of the records that have more than one, each from its place
 module _ (log : List ℕ) (at : ℕ) where

@@ -10,10 +10,10 @@ use native.Mathlib.Omega.{arith}
 use lib.Dec.{leb}
 use lib.ListN.{length, drop, length-drop}
 use lib.Seq.{drop-drop}
-use Rattle.model.proofs.ListLaws.{and-l, and-r}
+use Rattle.base_lists.proofs.ListLaws.{and-l, and-r}
 use Rattle.model.specs.Log.{Command, Opening, Asking, widths, fits, commandOf, lengthIn, kindIn, whole, readRecord}
-use Rattle.protocol.specs.declared.Step.{Step}
-use Rattle.protocol.specs.View.{asked}
+use Rattle.base_protocol.specs.declared.Step.{Step}
+use Rattle.base_protocol.specs.View.{asked}
 use Rattle.log.specs.declared.Decoded.{Decoded}
 use Rattle.log.specs.declared.Command.the-variants.{Open, Ask, Malformed}
 use Rattle.log.specs.Records.{stepTold, commandTold, malformedAt, decodedOf, fieldIn}

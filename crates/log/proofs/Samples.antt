@@ -5,7 +5,7 @@ use mathlib.Core.List.{List, [], _∷_}
 use Prim.Native.Nat.{ℕ}
 use Rattle.model.specs.Refusals.{begin, capture, collect, rows, put, erase, prepare, install, end, publish, validate, abort}
 use Rattle.model.specs.Log.{Command, Opening, Asking, number, widths, total, fields, commandOf, whole, readRecord}
-use Rattle.protocol.specs.declared.Step.the-variants.{Collect}
+use Rattle.base_protocol.specs.declared.Step.the-variants.{Collect}
 use Rattle.log.specs.declared.Command.the-variants.{Ask, Malformed}
 use Rattle.log.specs.Records.{decodedOf}
 

@@ -4,7 +4,7 @@ use mathlib.Core.Option.{Option, none, some}
 use mathlib.Core.List.{List}
 use lib.ListN.{drop, getD}
 use denote.Ref.{RefT}
-use Rattle.protocol.specs.declared.Step.{Step}
+use Rattle.base_protocol.specs.declared.Step.{Step}
 use Rattle.log.specs.declared.Command.{Command}
 use Rattle.log.specs.declared.Command.the-variants.{Open, Ask, Malformed}
 use Rattle.log.specs.declared.Decoded.{Decoded}
@@ -12,7 +12,7 @@ use Rattle.log.specs.declared.Reader.{Reader}
 use Rattle.log.specs.declared.Taken.{Taken}
 use Rattle.model.specs.Refusals as model
 use Rattle.model.specs.Log as bytes
-use Rattle.protocol.specs.declared.Step.the-variants as ask
+use Rattle.base_protocol.specs.declared.Step.the-variants as ask
 
 -- how a step is told
 abbrev pub stepTold : model.Step → Step

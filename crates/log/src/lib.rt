@@ -1,5 +1,5 @@
 // The log: records from bytes, little-endian, each read at a place of the caller's bytes.
-use protocol::Step;
+use base_protocol::Step;
 ghost use mathlib.Core.Path.{_≡_};
 ghost use Prim.Native.Nat.{_+_, _≤_, _<_};
 ghost use lib.ListN.{length, take, drop};

@@ -4,10 +4,10 @@ use mathlib.Core.Bool.{false}
 use mathlib.Core.Option.{none, some}
 use mathlib.Core.List.{List, [], _∷_, _++_}
 use Prim.Native.Nat.{ℕ}
+use Rattle.base_lists.specs.Table.{update}
 use Rattle.model.specs.Store.{Store, Txn, Open, noTxn, fresh}
 use Rattle.model.specs.Verdict.{Row}
 use Rattle.model.specs.Refusals.{Step, begin, capture, collect, rows, put, erase, prepare, install, end, publish, validate, Taken, Stale, NoVersions, txnOf}
-use Rattle.model.specs.Table.{update}
 use Rattle.model.specs.Machine.{Done, Stamp, Rows, Judged, Refused, step, run}
 use Rattle.model.proofs.Computes.{computes}
 

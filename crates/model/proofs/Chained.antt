@@ -6,7 +6,7 @@ use mathlib.Core.Option.{Option}
 use Prim.Native.Nat.{ℕ, suc, _≤_, _<_}
 use native.Mathlib.Omega.{arith}
 use native.Mathlib.Decide.{ℕ-discrete}
-use Rattle.model.specs.Table.{update-elim, update-same, update-other}
+use Rattle.base_lists.specs.Table.{update-elim, update-same, update-other}
 use Rattle.model.specs.Store.{Chains, Store, Sizes, Txn, fresh}
 use Rattle.model.specs.Seeing.{lastWrite}
 use Rattle.model.specs.Steps.{push, pushAll, versionRows, newKey, writtenPayload}

@@ -5,9 +5,10 @@ use mathlib.Core.Logic.{_≢_, inl, ⊎-elim}
 use mathlib.Core.List.{List, [], _∷_}
 use Prim.Native.Nat.{ℕ, _≤_, _<_}
 use native.Mathlib.Omega.{arith}
-use Rattle.limits.specs.Limits.{lastNumber}
-use Rattle.model.specs.Lists.{member, join, Among}
-use Rattle.model.specs.Table.{update, updateAll, update-elim}
+use Rattle.base_limits.specs.Limits.{lastNumber}
+use Rattle.base_lists.specs.Lists.{member, join, Among}
+use Rattle.base_lists.specs.Table.{update, updateAll, update-elim}
+use Rattle.base_lists.proofs.ListLaws.{pick-among}
 use Rattle.model.specs.Store.{Sizes, Chains, Prepared, Installed, Ended, Txn, Store, noTxn, fresh, rank}
 use Rattle.model.specs.Seeing.{keyAt}
 use Rattle.model.specs.Steps.{newTxn, withPhase, pendingRows, oldKey, versionRows, madeRows, prepared, pushAll, installed, changedBuckets}
@@ -16,7 +17,6 @@ use Rattle.model.specs.Machine.{at, accepted, step, run, canOpen}
 use Rattle.model.specs.Holding.{Writes, Gets, Made, ErasesNothing}
 use Rattle.model.specs.Given.{number, Lives}
 use Rattle.model.specs.Demands.{HeadKept, CostsNothing}
-use Rattle.model.proofs.ListLaws.{pick-among}
 use Rattle.model.proofs.Move.{Move, stay, did-begin, did-mark, did-capture, did-collect, did-rows, did-write, did-prepare, did-install, did-end, did-publish, did-abort, step-move, run-inv}
 use Rattle.model.proofs.Numbers.{clock-move}
 use Rattle.model.proofs.Holders.{one-claim, repost-elim}

@@ -4,10 +4,10 @@ use mathlib.Core.Bool.{true, false}
 use mathlib.Core.Logic.{_⊎_, inl, inr, ⊎-elim}
 use Prim.Native.Nat.{ℕ, _<_}
 use native.Mathlib.Omega.{arith}
+use Rattle.base_lists.specs.Lists.{Among}
 use Rattle.model.specs.Store.{Chains, Index, IndexRead, ReadRecord, Txn}
 use Rattle.model.specs.Seeing.{seen}
 use Rattle.model.specs.Verdict.{Verdict, Clear, Bucket, Row, Mark, verdictNumber, badRead, badRecord, verdict}
-use Rattle.model.specs.Lists.{Among}
 use Rattle.model.proofs.Told.{which-seen}
 use Rattle.model.proofs.Verdicts.{read-bad, record-bad, verdict-0}
 

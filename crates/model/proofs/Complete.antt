@@ -6,12 +6,12 @@ use mathlib.Core.Option.{Option, none, some}
 use mathlib.Core.List.{[], _++_}
 use Prim.Native.Nat.{ℕ, _≤_, _<_}
 use native.Mathlib.Omega.{arith}
+use Rattle.base_lists.specs.Lists.{Among}
+use Rattle.base_lists.proofs.ListLaws.{among-cases, join-which, which-pick}
 use Rattle.model.specs.Store.{Chains, Snapshot, Holding, Store, rank, sameKey, bucketOf}
 use Rattle.model.specs.Seeing.{seen, versionOf, keyAt, Live}
 use Rattle.model.specs.Steps.{postedRows, keyBefore, newKey, keyBuckets, changedBuckets, madeRows}
-use Rattle.model.specs.Lists.{Among}
 use Rattle.model.specs.Holding.{Wants, needs, Made}
-use Rattle.model.proofs.ListLaws.{among-cases, join-which, which-pick}
 use Rattle.model.proofs.Chained.{Chained}
 use Rattle.model.proofs.Numbers.{Numbers}
 use Rattle.model.proofs.SeeingLaws.{same-key, key-same, keyAt-pos}

@@ -1,6 +1,6 @@
 -- One name that opens every definition of the model, so that a run of numerals computes. Assumes nothing.
-use Rattle.model.specs.Lists.{member, least, pick, first, every, some-of, all-of, join}
-use Rattle.model.specs.Table.{update, updateAll}
+use Rattle.base_lists.specs.Lists.{member, least, pick, first, every, some-of, all-of, join}
+use Rattle.base_lists.specs.Table.{update, updateAll}
 use Rattle.model.specs.Store.{keyed, sameKey, bucketOf}
 use Rattle.model.specs.Seeing.{seen, visible, known, walk, firstVisible, keyAt, lastWriteFrom, pending, writtenKey, shownKey, matches, shows, activeNumbers, snapshotNow}
 use Rattle.model.specs.Verdict.{badRead, badRecord, judgeRecords, judgeReads, verdict}

@@ -10,16 +10,16 @@ use native.Mathlib.Decide.{ℕ-discrete}
 use lib.Dec.{eqb, ltb, leb}
 use lib.ListN.{length}
 use borrow.Author.Tests.{eq-eqb, ltb-true, ltb-false, lt-ltb, not-true, not-false}
-use Rattle.limits.specs.Limits.{mostRows, mostVersions, mostBuckets, mostLive, mostIndexReads}
-use Rattle.model.specs.Lists.{first, every, all-of}
-use Rattle.model.specs.Table.{cond-elim}
+use Rattle.base_limits.specs.Limits.{mostRows, mostVersions, mostBuckets, mostLive, mostIndexReads}
+use Rattle.base_lists.specs.Lists.{first, every, all-of}
+use Rattle.base_lists.specs.Table.{cond-elim}
+use Rattle.base_lists.proofs.ListLaws.{and-l, and-r, or-cases, is-false, or-r}
 use Rattle.model.specs.Store.{Sizes, Store, rank}
 use Rattle.model.specs.Steps.{hasRead, pendingRows}
 use Rattle.model.specs.Refusals.{Refusal, WrongSize, NoNumbers, Full, NoSuch, WrongPhase, NoRow, Taken, Stale, Marked, ManyReads, NoRoom, ManyRecords, ManyWrites, NoVersions, Conflict, Malformed, WrongShape, refusalNumber, Step, begin, capture, collect, rows, put, erase, prepare, install, end, publish, validate, abort, placeOf, txnOf, byAnother, found, bucketsTaken, rowsClaimed, checks, refusal}
 use Rattle.model.specs.Shape.{within, goodSizes, distinctNumbers, rightShape}
 use Rattle.model.specs.Machine.{Answer, Done, Number, Stamp, Count, Rows, Judged, Refused, answerNumber, actor, gives, accepted, carried, step, stepIn, canOpen}
 use Rattle.model.specs.Given.{_and_, number, RightPhase, Outside, ByAnother, Shaped, Lives, bucketFor, RowTaken, stampFor, BucketTaken, Free, Ready, Seventeenth, RowsFree, RoomForRead, BucketsFree}
-use Rattle.model.proofs.ListLaws.{and-l, and-r, or-cases, is-false, or-r}
 use Rattle.model.proofs.Move.{place-number, live-test}
 use Rattle.model.proofs.Unrefused.{refuses, accepted-answers}
 use Rattle.model.proofs.FirstTest.{Test, itself, opposite, either, both, less, at-most, equal, any, code, without, stop, skip}

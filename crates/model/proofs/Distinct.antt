@@ -5,14 +5,14 @@ use mathlib.Core.Bool.{false}
 use mathlib.Core.List.{List, [], _∷_, _++_}
 use lib.Dec.{eqb}
 use borrow.Author.Tests.{eqb-false, ne-eqb}
-use Rattle.model.specs.Lists.{some-of}
-use Rattle.model.specs.Table.{update, update-elim, cond-elim}
+use Rattle.base_lists.specs.Lists.{some-of}
+use Rattle.base_lists.specs.Table.{update, update-elim, cond-elim}
+use Rattle.base_lists.proofs.ListLaws.{or-l, or-r}
 use Rattle.model.specs.Store.{Sizes, IndexRead, Txn, Store, fresh}
 use Rattle.model.specs.Steps.{hasRead, addRead}
 use Rattle.model.specs.Refusals.{Step}
 use Rattle.model.specs.Machine.{run}
 use Rattle.model.specs.Demands.{Distinct, DistinctAt}
-use Rattle.model.proofs.ListLaws.{or-l, or-r}
 use Rattle.model.proofs.Move.{Move, stay, did-begin, did-mark, did-capture, did-collect, did-rows, did-write, did-prepare, did-install, did-end, did-publish, did-abort, run-inv}
 
 has-last : (rs : List IndexRead) (q : IndexRead) (b : ℕ) → hasRead rs b ≡ false → eqb (q .bucket) b ≡ false → hasRead (rs ++ (q ∷ [])) b ≡ false

@@ -9,9 +9,10 @@ use native.Mathlib.Omega.{arith}
 use native.Mathlib.Decide.{ℕ-discrete}
 use lib.Dec.{eqb, ltb}
 use borrow.Author.Tests.{eqb-true, eqb-false, eq-eqb, ne-eqb, ltb-true, lt-ltb}
-use Rattle.limits.specs.Limits.{lastNumber}
-use Rattle.model.specs.Lists.{member, join, Among, Rising}
-use Rattle.model.specs.Table.{update, updateAll, update-same, update-other}
+use Rattle.base_limits.specs.Limits.{lastNumber}
+use Rattle.base_lists.specs.Lists.{member, join, Among, Rising}
+use Rattle.base_lists.specs.Table.{update, updateAll, update-same, update-other}
+use Rattle.base_lists.proofs.ListLaws.{and-l, and-r, and-both, same-test, member-among, among-member, pick-which, which-pick, rising-above, pick-rising}
 use Rattle.model.specs.Store.{Sizes, Txn, Store, fresh, rank, sameKey}
 use Rattle.model.specs.Steps.{postedRows, pendingRows, keyBefore, newKey, keyBuckets, repost, changedBuckets, published, madeRows}
 use Rattle.model.specs.Refusals.{Step, begin, capture, collect, rows, put, erase, prepare, install, end, publish, validate, abort, txnOf}
@@ -20,7 +21,6 @@ use Rattle.model.specs.Upstream.{Event, Postings, postingsOf, remove, in
 use Rattle.model.specs.History.{eventOf, addEvents, stepEvents, historyOver, history, changing}
 use Rattle.model.specs.Seeing.{Live}
 use Rattle.model.specs.Given.{number}
-use Rattle.model.proofs.ListLaws.{and-l, and-r, and-both, same-test, member-among, among-member, pick-which, which-pick, rising-above, pick-rising}
 use Rattle.model.proofs.Made.{made-writes}
 use Rattle.model.proofs.Written.{posted-new}
 use Rattle.model.proofs.Good.{Good, sizes-run, good-run, opened-good}

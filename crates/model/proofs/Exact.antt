@@ -7,8 +7,8 @@ use mathlib.Core.List.{List, [], _∷_}
 use Prim.Native.Nat.{ℕ, _+_, min}
 use native.Mathlib.Omega.{arith}
 use lib.ListN.{length}
-use Rattle.limits.specs.Limits.{mostRows, mostLive, mostRecords, mostWrites, lastNumber}
-use Rattle.model.specs.Lists.{all-of}
+use Rattle.base_limits.specs.Limits.{mostRows, mostLive, mostRecords, mostWrites, lastNumber}
+use Rattle.base_lists.specs.Lists.{all-of}
 use Rattle.model.specs.Store.{Sizes, Store}
 use Rattle.model.specs.Steps.{foundRows, recordsAfter, readBuckets, neededBuckets}
 use Rattle.model.specs.Refusals.{Refusal, Stale, WrongShape, NoSuch, WrongPhase, NoRow, Marked, ManyWrites, refusalNumber, Step, begin, capture, collect, rows, put, erase, prepare, install, end, publish, validate, abort, txnOf, liveCount, found, writeChecks, checks, refusal}

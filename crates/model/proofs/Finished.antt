@@ -8,15 +8,15 @@ use native.Mathlib.Omega.{arith}
 use lib.Dec.{eqb}
 use lib.ListN.{length}
 use borrow.Author.Tests.{eqb-true, ltb-false}
-use Rattle.limits.specs.Limits.{mostLive, mostRecords}
-use Rattle.model.specs.Lists.{member, pick, first, Among, Rising}
-use Rattle.model.specs.Table.{update-same, update-field}
+use Rattle.base_limits.specs.Limits.{mostLive, mostRecords}
+use Rattle.base_lists.specs.Lists.{member, pick, first, Among, Rising}
+use Rattle.base_lists.specs.Table.{update-same, update-field}
+use Rattle.base_lists.proofs.ListLaws.{and-r, or-left, or-right, same-test, among-member, pick-rising, pick-same}
 use Rattle.model.specs.Store.{Chains, Snapshot, ReadRecord, Txn, Store, rank, keyIn}
 use Rattle.model.specs.Seeing.{versionOf, pending, matches, recordOf, Live}
 use Rattle.model.specs.Steps.{foundRows, recordsAfter, readTxn, readDone}
 use Rattle.model.specs.Refusals.{rows, placeOf, txnOf, checks}
 use Rattle.model.specs.Machine.{Rows, at, accepted, step}
-use Rattle.model.proofs.ListLaws.{and-r, or-left, or-right, same-test, among-member, pick-rising, pick-same}
 use Rattle.model.proofs.Phases.{collected-is}
 use Rattle.model.proofs.Move.{did-rows, passes, finds}
 use Rattle.model.proofs.Chained.{Chained}

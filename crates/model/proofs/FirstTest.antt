@@ -7,10 +7,10 @@ use Prim.Native.Nat.{ℕ, _≤_, _<_}
 use native.Mathlib.Omega.{arith}
 use lib.Dec.{eqb, ltb, leb}
 use borrow.Author.Tests.{eqb-true, eqb-false, eq-eqb, ne-eqb, ltb-true, ltb-false, lt-ltb, le-ltb, leb-true, leb-false, le-leb, lt-leb}
-use Rattle.model.specs.Lists.{some-of, all-of, Among}
+use Rattle.base_lists.specs.Lists.{some-of, all-of, Among}
+use Rattle.base_lists.proofs.ListLaws.{and-l, and-r, some-which, which-some, none-each, is-false}
 use Rattle.model.specs.Refusals.{Refusal, refusalNumber}
 use Rattle.model.specs.Given.{_and_}
-use Rattle.model.proofs.ListLaws.{and-l, and-r, some-which, which-some, none-each, is-false}
 
 -- a test holds exactly when Yes does, and fails exactly when No does
 pub record Test (b : Bool) (Yes No : Type 0) : Type 0 where

@@ -7,8 +7,9 @@ use Prim.Native.Nat.{ℕ, suc, _≤_}
 use native.Mathlib.Omega.{arith}
 use lib.Dec.{ltb, leb}
 use borrow.Author.Tests.{eq-eqb, ne-eqb, lt-ltb, le-leb, ltb-false, leb-true}
-use Rattle.limits.specs.Limits.{mostLive, lastNumber}
-use Rattle.model.specs.Lists.{all-of}
+use Rattle.base_limits.specs.Limits.{mostLive, lastNumber}
+use Rattle.base_lists.specs.Lists.{all-of}
+use Rattle.base_lists.proofs.ListLaws.{and-l, and-r, and-both, none-each, each-all, every-each, or-left, or-right}
 use Rattle.model.specs.Store.{Sizes, IndexRead, Write, ReadRecord, Txn, Store, fresh, rank}
 use Rattle.model.specs.Seeing.{live, Live}
 use Rattle.model.specs.Steps.{pendingRows, getsVersion, headedBy}
@@ -16,7 +17,6 @@ use Rattle.model.specs.Refusals.{Step}
 use Rattle.model.specs.Shape.{within, goodSizes, goodChains, goodCounts, goodRanges, goodHeads, goodTxn, distinctNumbers, rightShape}
 use Rattle.model.specs.Machine.{step, stepIn, run, canOpen}
 use Rattle.model.specs.Holding.{Writes, Claims, Made}
-use Rattle.model.proofs.ListLaws.{and-l, and-r, and-both, none-each, each-all, every-each, or-left, or-right}
 use Rattle.model.proofs.Move.{test-live, CanPrepare, Move, stay, did-begin, did-mark, did-capture, did-collect, did-rows, did-write, did-prepare, did-install, did-end, did-publish, did-abort, run-inv}
 use Rattle.model.proofs.Chained.{Chained, chained-move, chained-fresh}
 use Rattle.model.proofs.Numbers.{Numbers, numbers-move, numbers-fresh, BelowAt, below-move, below-fresh}

@@ -5,12 +5,12 @@ use mathlib.Core.List.{List, [], _∷_}
 use Prim.Native.Nat.{ℕ, suc, _≤_, _<_}
 use native.Mathlib.Omega.{arith}
 use native.Mathlib.Decide.{ℕ-discrete}
-use Rattle.model.specs.Table.{update, update-elim, update-same, update-other}
+use Rattle.base_lists.specs.Table.{update, update-elim, update-same, update-other}
+use Rattle.base_lists.specs.Lists.{Among, Rising}
+use Rattle.base_lists.proofs.ListLaws.{rising-above}
 use Rattle.model.specs.Store.{Chains, Txn}
 use Rattle.model.specs.Seeing.{lastWrite}
 use Rattle.model.specs.Steps.{push, pushAll, newKey, writtenPayload}
-use Rattle.model.specs.Lists.{Among, Rising}
-use Rattle.model.proofs.ListLaws.{rising-above}
 
 -- row r is headed by a new version, made of its last write by x, over the head that it had in c
 pub record NewHead (x : Txn) (c c′ : Chains) (r : ℕ) : Type 0 where

@@ -6,13 +6,13 @@ use mathlib.Core.Option.{Option, none, some}
 use mathlib.Core.List.{List, _++_}
 use Prim.Native.Nat.{ℕ, _≤_, _<_}
 use native.Mathlib.Omega.{arith}
-use Rattle.model.specs.Lists.{member, Among}
-use Rattle.model.specs.Table.{update, update-elim, cond-elim}
+use Rattle.base_lists.specs.Lists.{member, Among}
+use Rattle.base_lists.specs.Table.{update, update-elim, cond-elim}
+use Rattle.base_lists.proofs.ListLaws.{among-left, among-right, none-each, which-join, join-same, member-among, among-member}
 use Rattle.model.specs.Store.{Sizes, Held, Phase, Prepared, Installed, Ended, Txn, Store, noTxn, fresh, rank, bucketIn, keyIn, bucketOf}
 use Rattle.model.specs.Seeing.{Live}
 use Rattle.model.specs.Steps.{withPhase, capturedTxn, captured, collectedTxn, collected, pendingRows, oldKey, newKey, keyBuckets, readBuckets, neededBuckets, prepared, repost, freed, published}
 use Rattle.model.specs.Holding.{Writes, needs, Wants, Claims}
-use Rattle.model.proofs.ListLaws.{among-left, among-right, none-each, which-join, join-same, member-among, among-member}
 use Rattle.model.proofs.Phases.{holding-is}
 use Rattle.model.proofs.Move.{CanCapture, CanPrepare, Move, stay, did-begin, did-mark, did-capture, did-collect, did-rows, did-write, did-prepare, did-install, did-end, did-publish, did-abort}
 use Rattle.model.proofs.Numbers.{Numbers}

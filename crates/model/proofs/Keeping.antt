@@ -4,14 +4,14 @@ use mathlib.Core.Bool.{true}
 use mathlib.Core.Option.{none, some}
 use mathlib.Core.List.{List}
 use Prim.Native.Nat.{ℕ, _≤_}
-use Rattle.limits.specs.Limits.{lastNumber}
+use Rattle.base_limits.specs.Limits.{lastNumber}
+use Rattle.base_lists.proofs.ListLaws.{below-least}
 use Rattle.model.specs.Store.{Sizes, fresh, sameKey}
 use Rattle.model.specs.Seeing.{Live}
 use Rattle.model.specs.Refusals.{Step}
 use Rattle.model.specs.Machine.{run, canOpen}
 use Rattle.model.specs.History.{history}
 use Rattle.model.specs.Demands.{Shapely, NothingLost, KeptVersion, HistoryStands, LeastXmins, UpstreamSees}
-use Rattle.model.proofs.ListLaws.{below-least}
 use Rattle.model.proofs.SeeingLaws.{pending-which, which-pendingRows}
 use Rattle.model.proofs.Good.{opened-good, right-shape, step-in}
 use Rattle.model.proofs.Lasting.{lasts-run}

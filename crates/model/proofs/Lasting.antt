@@ -5,14 +5,14 @@ use mathlib.Core.Option.{some}
 use mathlib.Core.List.{List, [], _∷_}
 use Prim.Native.Nat.{ℕ, _≤_}
 use native.Mathlib.Omega.{arith}
-use Rattle.model.specs.Lists.{pick, Among}
+use Rattle.base_lists.specs.Lists.{pick, Among}
+use Rattle.base_lists.proofs.ListLaws.{map-among, pick-which}
 use Rattle.model.specs.Store.{Chains, Snapshot, ReadRecord, Store, sameKey}
 use Rattle.model.specs.Seeing.{versionOf, keyAt, recordOf, shows}
 use Rattle.model.specs.Steps.{installed}
 use Rattle.model.specs.Refusals.{Step}
 use Rattle.model.specs.Machine.{step, run}
 use Rattle.model.specs.Demands.{KeptVersion}
-use Rattle.model.proofs.ListLaws.{map-among, pick-which}
 use Rattle.model.proofs.Move.{Move, stay, did-begin, did-mark, did-capture, did-collect, did-rows, did-write, did-prepare, did-install, did-end, did-publish, did-abort, run-inv}
 use Rattle.model.proofs.Chained.{Chained}
 use Rattle.model.proofs.SeeingLaws.{same-key, keyAt-pos, keyAt-key, version-in}

@@ -8,8 +8,9 @@ use Prim.Native.Nat.{ℕ, _≤_, _<_}
 use native.Mathlib.Omega.{arith}
 use lib.Dec.{ltb, leb}
 use borrow.Author.Tests.{eq-eqb, ne-eqb, leb-true}
-use Rattle.model.specs.Lists.{least, every, Among, Rising}
-use Rattle.model.specs.Table.{update, updateAll, update-same, update-other, cond-elim}
+use Rattle.base_lists.specs.Lists.{least, every, Among, Rising}
+use Rattle.base_lists.specs.Table.{update, updateAll, update-same, update-other, cond-elim}
+use Rattle.base_lists.proofs.ListLaws.{and-l, and-r, is-false, among-left, among-right, among-cases, join-which, which-join, among-member, not-member, least-own, least-each, pick-rising, pick-which}
 use Rattle.model.specs.Store.{Sizes, Open, Write, Txn, Store, rank, bucketIn, sameKey, bucketOf}
 use Rattle.model.specs.Seeing.{pending, writtenKey, activeNumbers}
 use Rattle.model.specs.Steps.{withPhase, newTxn, hasRead, addRead, capturedTxn, writtenTxn, pendingRows, keyBefore, newKey, versionRows, madeRows, keyBuckets, neededBuckets, preparedHeld, repost, changedBuckets, publishedIndex, release, freed}
@@ -20,7 +21,6 @@ use Rattle.model.specs.Holding.{Gets}
 use Rattle.model.specs.Given.{number, Shaped, Lives, bucketFor, stampFor}
 use Rattle.model.specs.Effects.{Stamps, posts, Takes, Frees, Claimed, Unclaimed}
 use Rattle.model.specs.Leaves.{Captures, TakenAt, askerAfter, IndexAfter, HeldAfter, Leaves}
-use Rattle.model.proofs.ListLaws.{and-l, and-r, is-false, among-left, among-right, among-cases, join-which, which-join, among-member, not-member, least-own, least-each, pick-rising, pick-which}
 use Rattle.model.proofs.Phases.{open-is}
 use Rattle.model.proofs.Numbers.{active-which, which-active}
 use Rattle.model.proofs.SeeingLaws.{same-key, key-same, key-bucket, read-bucket, bucket-read}

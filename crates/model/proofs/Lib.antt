@@ -2,7 +2,6 @@ pub mod Computes
 pub mod Worked
 pub mod Printed
 pub mod Caught
-pub mod ListLaws
 pub mod Phases
 pub mod Move
 pub mod Chained

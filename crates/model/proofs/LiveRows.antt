@@ -7,9 +7,10 @@ use mathlib.Core.List.{List, [], _∷_, map}
 use Prim.Native.Nat.{ℕ, suc, _≤_}
 use native.Mathlib.Omega.{arith}
 use native.Mathlib.Decide.{ℕ-discrete}
-use Rattle.limits.specs.Limits.{mostLive}
-use Rattle.model.specs.Lists.{member}
-use Rattle.model.specs.Table.{update, update-same, update-other, update-elim, update-field}
+use Rattle.base_limits.specs.Limits.{mostLive}
+use Rattle.base_lists.specs.Lists.{member}
+use Rattle.base_lists.specs.Table.{update, update-same, update-other, update-elim, update-field}
+use Rattle.base_lists.proofs.ListLaws.{member-among, among-member, map-pick}
 use Rattle.model.specs.Store.{Installed, Ended, Txn, Store, rank}
 use Rattle.model.specs.Seeing.{seen, versionOf, keyAt, lastWrite, Live, active, activeNumbers, snapshotNow}
 use Rattle.model.specs.Steps.{withPhase, becomes, markedTxn, newKey, madeRows, writtenPayload, installed}
@@ -18,7 +19,6 @@ use Rattle.model.specs.Refusals.{publish}
 use Rattle.model.specs.Machine.{at, accepted, step, run}
 use Rattle.model.specs.Holding.{Writes, Made, ErasesNothing}
 use Rattle.model.specs.Given.{number}
-use Rattle.model.proofs.ListLaws.{member-among, among-member, map-pick}
 use Rattle.model.proofs.Move.{Move, stay, did-begin, did-mark, did-capture, did-collect, did-rows, did-write, did-prepare, did-install, did-end, did-publish, did-abort, step-move}
 use Rattle.model.proofs.Chained.{top}
 use Rattle.model.proofs.Numbers.{in-place, active-which, which-active}

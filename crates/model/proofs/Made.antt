@@ -8,12 +8,12 @@ use Prim.Native.Nat.{ℕ, _+_, _≤_, _<_}
 use native.Mathlib.Omega.{arith}
 use lib.Dec.{leb}
 use borrow.Author.Tests.{eqb-true, eq-eqb, leb-true, le-leb}
-use Rattle.model.specs.Lists.{pick}
+use Rattle.base_lists.specs.Lists.{pick}
+use Rattle.base_lists.proofs.ListLaws.{and-l, and-r, and-both, or-left, or-right, or-cases, or-l, or-r, pick-which, which-pick, pick-same}
 use Rattle.model.specs.Store.{Sizes, Chains, Write, Txn, keyed}
 use Rattle.model.specs.Seeing.{lastWrite, pending, writtenKey}
 use Rattle.model.specs.Steps.{pendingRows, oldKey, newKey, getsVersion, versionRows, headedBy, madeRows}
 use Rattle.model.specs.Holding.{Writes, Gets, Made, ErasesNothing}
-use Rattle.model.proofs.ListLaws.{and-l, and-r, and-both, or-left, or-right, or-cases, or-l, or-r, pick-which, which-pick, pick-same}
 use Rattle.model.proofs.SeeingLaws.{which-pendingRows}
 
 -- a key that is not there is none

@@ -8,14 +8,14 @@ use Prim.Native.Nat.{ℕ, _≤_}
 use native.Mathlib.Omega.{arith}
 use lib.Dec.{eqb}
 use borrow.Author.Tests.{eqb-true, eqb-false, eq-eqb}
-use Rattle.model.specs.Lists.{Among, Rising}
+use Rattle.base_lists.specs.Lists.{Among, Rising}
+use Rattle.base_lists.proofs.ListLaws.{or-left, or-right, or-l, or-r, or-cases, is-false, among-right}
 use Rattle.model.specs.Store.{Chains, Write, Txn, Store}
 use Rattle.model.specs.Seeing.{lastWriteFrom, lastWrite, pending, writtenKey}
 use Rattle.model.specs.Steps.{oldKey, writtenPayload, pushAll}
 use Rattle.model.specs.Refusals.{install, txnOf}
 use Rattle.model.specs.Holding.{Gets}
 use Rattle.model.specs.Effects.{makes, LastWrite, LiveHead, GetsVersion, NewVersion, VersionsAfter}
-use Rattle.model.proofs.ListLaws.{or-left, or-right, or-l, or-r, or-cases, is-false, among-right}
 use Rattle.model.proofs.SeeingLaws.{keyAt-pos, keyAt-key, pending-which}
 use Rattle.model.proofs.Made.{gets-which, which-gets}
 use Rattle.model.proofs.Room.{used-pushAll}

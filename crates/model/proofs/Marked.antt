@@ -7,9 +7,9 @@ use Prim.Native.Nat.{ℕ, _≤_, _<_}
 use native.Mathlib.Omega.{arith}
 use native.Mathlib.Decide.{ℕ-discrete}
 use lib.Dec.{eqb, ltb}
-use Rattle.limits.specs.Limits.{mostLive, lastNumber}
-use Rattle.model.specs.Lists.{Among}
-use Rattle.model.specs.Table.{update, update-elim}
+use Rattle.base_limits.specs.Limits.{mostLive, lastNumber}
+use Rattle.base_lists.specs.Lists.{Among}
+use Rattle.base_lists.specs.Table.{update, update-elim}
 use Rattle.model.specs.Store.{Sizes, Phase, Open, Holding, Collected, Prepared, Installed, Ended, Txn, Store, fresh, rank}
 use Rattle.model.specs.Verdict.{Mark, verdict, verdictNumber}
 use Rattle.model.specs.Refusals.{Step, begin, capture, collect, rows, put, erase, prepare, install, end, publish, validate, abort, placeOf, txnOf}

@@ -6,7 +6,7 @@ use mathlib.Core.Logic.{_↔_, _≢_, _⊎_, inl, inr, ⊎-elim}
 use Prim.Native.Nat.{ℕ}
 use native.Mathlib.Omega.{arith}
 use native.Mathlib.Decide.{ℕ-discrete}
-use Rattle.model.specs.Table.{update-same, update-other}
+use Rattle.base_lists.specs.Table.{update-same, update-other}
 use Rattle.model.specs.Store.{Txn, Store}
 use Rattle.model.specs.Seeing.{Live}
 use Rattle.model.specs.Refusals.{Refusal, Step, begin, capture, collect, rows, put, erase, prepare, install, end, publish, validate, abort, txnOf}

@@ -9,9 +9,10 @@ use native.Mathlib.Omega.{arith}
 use lib.Dec.{eqb, leb}
 use lib.ListN.{length}
 use borrow.Author.Tests.{eqb-true, eqb-false, ne-eqb, ltb-true, ltb-false, leb-false, not-true, not-false}
-use Rattle.limits.specs.Limits.{mostLive, mostIndexReads, mostRecords, mostWrites, lastNumber}
-use Rattle.model.specs.Lists.{some-of, all-of}
-use Rattle.model.specs.Table.{update-other, cond-elim}
+use Rattle.base_limits.specs.Limits.{mostLive, mostIndexReads, mostRecords, mostWrites, lastNumber}
+use Rattle.base_lists.specs.Lists.{some-of, all-of}
+use Rattle.base_lists.specs.Table.{update-other, cond-elim}
+use Rattle.base_lists.proofs.ListLaws.{and-l, and-r, or-l, or-r, first-holds, first-free}
 use Rattle.model.specs.Store.{Ended, Write, Txn, Store, rank, bucketOf}
 use Rattle.model.specs.Seeing.{live, Live}
 use Rattle.model.specs.Verdict.{verdictNumber, verdict}
@@ -19,7 +20,6 @@ use Rattle.model.specs.Steps.{becomes, begun, stale, hasRead, captured, 
 use Rattle.model.specs.Refusals.{Refusal, Step, begin, capture, collect, rows, put, erase, prepare, install, end, publish, validate, abort, placeOf, txnOf, liveCount, byAnother, reserved, writeChecks, found, inPhase, checks, refusal}
 use Rattle.model.specs.Shape.{rightShape}
 use Rattle.model.specs.Machine.{at, accepted, actor, isStale, afterRefusal, carried, stepIn, step, run}
-use Rattle.model.proofs.ListLaws.{and-l, and-r, or-l, or-r, first-holds, first-free}
 
 -- the test of a live transaction, and its fact
 pub test-live : (x : Txn) → live x ≡ true → Live x

@@ -7,14 +7,14 @@ use native.Mathlib.Omega.{arith}
 use lib.Dec.{ltb}
 use lib.ListN.{length, length-map}
 use borrow.Author.Tests.{ltb-true, ltb-false, lt-ltb}
-use Rattle.limits.specs.Limits.{mostLive, mostActive}
-use Rattle.model.specs.Lists.{least, pick, Among}
-use Rattle.model.specs.Table.{update, update-elim, updateAll-elim}
+use Rattle.base_limits.specs.Limits.{mostLive, mostActive}
+use Rattle.base_lists.specs.Lists.{least, pick, Among}
+use Rattle.base_lists.specs.Table.{update, update-elim, updateAll-elim}
+use Rattle.base_lists.proofs.ListLaws.{and-l, and-r, and-both, among-map, map-among, pick-which, which-pick, pick-fewer}
 use Rattle.model.specs.Store.{Chains, Snapshot, Txn, Store, Sizes, noTxn, fresh, rank}
 use Rattle.model.specs.Seeing.{live, active, activeNumbers, Live}
 use Rattle.model.specs.Steps.{newTxn, begun, push, changedBuckets, versionRows}
 use Rattle.model.specs.Refusals.{liveCount}
-use Rattle.model.proofs.ListLaws.{and-l, and-r, and-both, among-map, map-among, pick-which, which-pick, pick-fewer}
 use Rattle.model.proofs.Move.{live-test, test-live, Move, stay, did-begin, did-mark, did-capture, did-collect, did-rows, did-write, did-prepare, did-install, did-end, did-publish, did-abort}
 use Rattle.model.proofs.Chained.{pushAll-all}
 

@@ -9,15 +9,15 @@ use native.Mathlib.Omega.{arith}
 use lib.Dec.{eqb}
 use lib.ListN.{length, take, drop}
 use lib.Seq.{take-at, drop-at}
-use Rattle.limits.specs.Limits.{mostLive}
-use Rattle.model.specs.Table.{cond-elim}
+use Rattle.base_limits.specs.Limits.{mostLive}
+use Rattle.base_lists.specs.Table.{cond-elim}
+use Rattle.base_lists.proofs.ListLaws.{first-free}
 use Rattle.model.specs.Store.{Store}
 use Rattle.model.specs.Steps.{stale}
 use Rattle.model.specs.Refusals.{Refusal, WrongSize, NoNumbers, Full, NoSuch, WrongPhase, NoRow, Taken, Stale, Marked, ManyReads, NoRoom, ManyRecords, ManyWrites, NoVersions, Conflict, Malformed, WrongShape, Step, begin, capture, collect, rows, put, erase, prepare, install, end, publish, validate, abort, txnOf, checks, refusal, liveCount, placeOf}
 use Rattle.model.specs.Shape.{rightShape}
 use Rattle.model.specs.Machine.{Rows, Refused, answerNumber, lentAfter, at, actor, isStale, gives, accepted, afterRefusal, carried, step, stepIn}
 use Rattle.model.specs.Given.{_and_, number, Ready, Free, bucketFor, stampFor, documented}
-use Rattle.model.proofs.ListLaws.{first-free}
 use Rattle.model.proofs.Move.{place-number}
 use Rattle.model.proofs.Unrefused.{refuses, is-accepted, accepted-answers}
 use Rattle.model.proofs.Conditions.{lives-test, lives-number, in-phase, another, stale-test, zero-unless, unless-zero}

@@ -8,13 +8,13 @@ use native.Mathlib.Omega.{arith}
 use native.Mathlib.Decide.{ℕ-discrete}
 use lib.Dec.{eqb}
 use borrow.Author.Tests.{eqb-true, eqb-false}
-use Rattle.model.specs.Table.{update, updateAll, update-elim, update-same, update-other, updateAll-elim, cond-elim}
+use Rattle.base_lists.specs.Table.{update, updateAll, update-elim, update-same, update-other, updateAll-elim, cond-elim}
+use Rattle.base_lists.specs.Lists.{Among}
+use Rattle.base_lists.proofs.ListLaws.{member-among, among-member}
 use Rattle.model.specs.Store.{Txn, noTxn, rank}
 use Rattle.model.specs.Steps.{release}
 use Rattle.model.specs.Refusals.{byAnother}
-use Rattle.model.specs.Lists.{Among}
 use Rattle.model.specs.Seeing.{Live}
-use Rattle.model.proofs.ListLaws.{member-among, among-member}
 use Rattle.model.proofs.Numbers.{Numbers}
 
 -- W says which entries a transaction wants: it has them all, and every entry that is not 0 is wanted by whom it names

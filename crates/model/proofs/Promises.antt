@@ -5,8 +5,8 @@ use mathlib.Core.Bool.{true}
 use mathlib.Core.Logic.{_↔_}
 use mathlib.Core.List.{List, []}
 use Prim.Native.Nat.{ℕ, _≤_}
-use Rattle.limits.specs.Limits.{lastNumber}
-use Rattle.model.specs.Lists.{Among}
+use Rattle.base_limits.specs.Limits.{lastNumber}
+use Rattle.base_lists.specs.Lists.{Among}
 use Rattle.model.specs.Store.{Sizes, Collected, Store, fresh}
 use Rattle.model.specs.Seeing.{Live}
 use Rattle.model.specs.Verdict.{Verdict, Clear}

@@ -10,14 +10,14 @@ use native.Mathlib.Nat.{mod-lt}
 use lib.Dec.{leb}
 use lib.ListN.{length, length-append}
 use borrow.Author.Tests.{leb-true}
-use Rattle.limits.specs.Limits.{mostRows, mostVersions, mostBuckets, mostIndexReads, mostRecords, mostWrites}
-use Rattle.model.specs.Table.{update, update-elim, cond-elim}
+use Rattle.base_limits.specs.Limits.{mostRows, mostVersions, mostBuckets, mostIndexReads, mostRecords, mostWrites}
+use Rattle.base_lists.specs.Table.{update, update-elim, cond-elim}
+use Rattle.base_lists.specs.Lists.{Among, Rising}
+use Rattle.base_lists.proofs.ListLaws.{and-l, and-r, among-last, pick-rising, pick-which, pick-few}
 use Rattle.model.specs.Store.{Sizes, Installed, IndexRead, ReadRecord, Write, Txn, Store, fresh, bucketIn, keyIn, sameKey, bucketOf}
 use Rattle.model.specs.Seeing.{pending, recordOf}
 use Rattle.model.specs.Steps.{withPhase, hasRead, addRead, postedRows, recordsAfter, foundRows, versionRows}
 use Rattle.model.specs.Shape.{within, goodSizes}
-use Rattle.model.specs.Lists.{Among, Rising}
-use Rattle.model.proofs.ListLaws.{and-l, and-r, among-last, pick-rising, pick-which, pick-few}
 use Rattle.model.proofs.Move.{CanCapture, Move, stay, did-begin, did-mark, did-capture, did-collect, did-rows, did-write, did-prepare, did-install, did-end, did-publish, did-abort}
 use Rattle.model.proofs.SeeingLaws.{keyAt-pos, version-in, match-version, addRead-cases, recordAll-cases, found-which}
 use Rattle.model.proofs.Room.{used-pushAll}

@@ -8,8 +8,8 @@ use Prim.Native.Nat.{ℕ, _<_}
 use native.Mathlib.Omega.{arith}
 use lib.Dec.{ltb}
 use borrow.Author.Tests.{ltb-true}
-use Rattle.limits.specs.Limits.{mostLive}
-use Rattle.model.specs.Lists.{Among}
+use Rattle.base_limits.specs.Limits.{mostLive}
+use Rattle.base_lists.specs.Lists.{Among}
 use Rattle.model.specs.Store.{Sizes, Store, Collected, fresh, rank}
 use Rattle.model.specs.Verdict.{Clear, Mark}
 use Rattle.model.specs.Refusals.{Step, begin, capture, collect, rows, put, erase, prepare, install, end, publish, validate, abort, txnOf}

@@ -5,12 +5,12 @@ use mathlib.Core.Logic.{_≢_, inl, ⊎-elim}
 use mathlib.Core.Option.{some}
 use Prim.Native.Nat.{ℕ, _<_}
 use native.Mathlib.Omega.{arith}
-use Rattle.model.specs.Lists.{Among}
-use Rattle.model.specs.Table.{update, update-elim, updateAll-elim}
+use Rattle.base_lists.specs.Lists.{Among}
+use Rattle.base_lists.specs.Table.{update, update-elim, updateAll-elim}
+use Rattle.base_lists.proofs.ListLaws.{member-among}
 use Rattle.model.specs.Store.{Sizes, Chains, Holding, Collected, Prepared, Installed, Ended, ReadRecord, Txn, Store, noTxn, fresh, rank, bucketIn, keyIn, bucketOf}
 use Rattle.model.specs.Seeing.{seen, versionOf, keyAt, recordOf, Live}
 use Rattle.model.specs.Steps.{withPhase, newTxn, markedTxn, hasRead, capturedTxn, postedRows, collectedTxn, foundRows, readTxn, writtenTxn, versionRows, installed, changedBuckets, published}
-use Rattle.model.proofs.ListLaws.{member-among}
 use Rattle.model.proofs.Phases.{holding-is}
 use Rattle.model.proofs.Move.{CanCapture, Move, stay, did-begin, did-mark, did-capture, did-collect, did-rows, did-write, did-prepare, did-install, did-end, did-publish, did-abort}
 use Rattle.model.proofs.Chained.{Chained}

@@ -6,8 +6,8 @@ use mathlib.Core.List.{List, [], _∷_}
 use Prim.Native.Nat.{ℕ, _+_, _≤_, _<_, min}
 use native.Mathlib.Omega.{arith}
 use lib.ListN.{length}
-use Rattle.limits.specs.Limits.{mostRows, mostVersions, mostBuckets, mostLive, mostRecords, mostWrites, lastNumber}
-use Rattle.model.specs.Lists.{all-of, Among}
+use Rattle.base_limits.specs.Limits.{mostRows, mostVersions, mostBuckets, mostLive, mostRecords, mostWrites, lastNumber}
+use Rattle.base_lists.specs.Lists.{all-of, Among}
 use Rattle.model.specs.Store.{Sizes, Store}
 use Rattle.model.specs.Steps.{foundRows, recordsAfter, readBuckets, neededBuckets}
 use Rattle.model.specs.Refusals.{Step, begin, capture, collect, rows, put, erase, prepare, install, end, publish, validate, abort, txnOf, liveCount, checks}

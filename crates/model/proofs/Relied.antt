@@ -7,13 +7,13 @@ use mathlib.Core.List.{List}
 use Prim.Native.Nat.{ℕ, _≤_, _<_}
 use native.Mathlib.Omega.{arith}
 use native.Mathlib.Decide.{ℕ-discrete}
-use Rattle.model.specs.Lists.{Among}
+use Rattle.base_lists.specs.Lists.{Among}
+use Rattle.base_lists.proofs.ListLaws.{is-false, among-map}
 use Rattle.model.specs.Store.{Sizes, Chains, Snapshot, IndexRead, Write, Txn, Store, rank, bucketOf}
 use Rattle.model.specs.Seeing.{seen, versionOf, keyAt, pending, recordOf, Live, snapshotNow}
 use Rattle.model.specs.Verdict.{badRecord}
 use Rattle.model.specs.Steps.{hasRead, readBuckets}
 use Rattle.model.specs.Refusals.{byAnother}
-use Rattle.model.proofs.ListLaws.{is-false, among-map}
 use Rattle.model.proofs.Numbers.{active-which}
 use Rattle.model.proofs.SeeingLaws.{keyAt-pos, read-bucket}
 use Rattle.model.proofs.Walk.{Finds, here, version-finds, finds-one, finds-through, finds-shown, zero-finds, finds-open, finds-top}

@@ -9,9 +9,9 @@ use native.Mathlib.Decide.{ℕ-discrete}
 use lib.Dec.{eqb}
 use lib.ListN.{length}
 use borrow.Author.Tests.{eq-eqb, ne-eqb}
-use Rattle.limits.specs.Limits.{mostLive, lastNumber}
-use Rattle.model.specs.Lists.{pick}
-use Rattle.model.specs.Table.{update, update-elim}
+use Rattle.base_limits.specs.Limits.{mostLive, lastNumber}
+use Rattle.base_lists.specs.Lists.{pick}
+use Rattle.base_lists.specs.Table.{update, update-elim}
 use Rattle.model.specs.Store.{Sizes, Chains, Prepared, Installed, Txn, Store, noTxn, fresh, rank}
 use Rattle.model.specs.Seeing.{keyAt, lastWrite, live, Live}
 use Rattle.model.specs.Steps.{withPhase, newTxn, oldKey, newKey, versionRows, prepared, push, writtenPayload, pushAll, installed}

@@ -8,12 +8,12 @@ use Prim.Native.Nat.{ℕ, zero, suc, _≤_, _<_}
 use native.Mathlib.Omega.{arith}
 use lib.Dec.{eqb, ltb, leb}
 use borrow.Author.Tests.{eqb-true, eqb-false, eq-eqb, ne-eqb, ltb-true, leb-true}
-use Rattle.model.specs.Table.{cond-elim}
+use Rattle.base_lists.specs.Table.{cond-elim}
+use Rattle.base_lists.specs.Lists.{Among}
+use Rattle.base_lists.proofs.ListLaws.{and-l, and-r, or-cases, among-left, among-right, among-last, some-which, which-some, pick-which, which-pick}
 use Rattle.model.specs.Store.{Sizes, Chains, Snapshot, IndexRead, ReadRecord, Write, Txn, Store, sameKey, bucketOf, keyIn}
 use Rattle.model.specs.Seeing.{visible, known, walk, firstVisible, versionOf, keyAt, pending, shownKey, matches, recordOf}
 use Rattle.model.specs.Steps.{hasRead, addRead, recorded, recording, recordAll, foundRows, pendingRows, keyBuckets}
-use Rattle.model.specs.Lists.{Among}
-use Rattle.model.proofs.ListLaws.{and-l, and-r, or-cases, among-left, among-right, among-last, some-which, which-some, pick-which, which-pick}
 
 pub same-key : (a b : Option ℕ) → sameKey a b ≡ true → a ≡ b
 unfolding sameKey

@@ -6,7 +6,7 @@ use mathlib.Core.Option.{Option, none}
 use mathlib.Core.List.{List, [], _∷_}
 use Prim.Native.Nat.{ℕ, _≤_}
 use native.Mathlib.Omega.{arith}
-use Rattle.model.specs.Table.{update, update-same, update-other}
+use Rattle.base_lists.specs.Table.{update, update-same, update-other}
 use Rattle.model.specs.Store.{Sizes, Chains, Txn, Store}
 use Rattle.model.specs.Seeing.{seen, versionOf, keyAt, Live}
 use Rattle.model.specs.Upstream.{creatorVisible, Event, snapshotRows}

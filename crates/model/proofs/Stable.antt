@@ -6,11 +6,11 @@ use mathlib.Core.List.{List}
 use Prim.Native.Nat.{ℕ, _≤_, _<_}
 use native.Mathlib.Omega.{arith}
 use native.Mathlib.Decide.{ℕ-discrete}
-use Rattle.model.specs.Lists.{member}
+use Rattle.base_lists.specs.Lists.{member}
+use Rattle.base_lists.proofs.ListLaws.{member-among, among-member}
 use Rattle.model.specs.Store.{Chains, Snapshot, Txn, rank}
 use Rattle.model.specs.Seeing.{seen, versionOf, keyAt, Live}
 use Rattle.model.specs.Contents.{contentOf}
-use Rattle.model.proofs.ListLaws.{member-among, among-member}
 use Rattle.model.proofs.Chained.{Chained}
 use Rattle.model.proofs.Numbers.{Numbers}
 use Rattle.model.proofs.SeeingLaws.{version-in}

@@ -3,7 +3,7 @@ use mathlib.Core.Path.{_≡_, ap, _∙_}
 use mathlib.Core.Option.{some}
 use mathlib.Core.List.{List, [], map}
 use Prim.Native.Nat.{ℕ}
-use Rattle.model.specs.Lists.{Among}
+use Rattle.base_lists.specs.Lists.{Among}
 use Rattle.model.specs.Store.{Sizes, Collected, ReadRecord, Store, fresh, keyIn}
 use Rattle.model.specs.Seeing.{shows, snapshotNow}
 use Rattle.model.specs.Verdict.{Clear}

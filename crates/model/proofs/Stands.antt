@@ -5,12 +5,12 @@ use mathlib.Core.Option.{some}
 use mathlib.Core.List.{[]}
 use Prim.Native.Nat.{ℕ, _<_}
 use native.Mathlib.Omega.{arith}
-use Rattle.model.specs.Lists.{Among}
+use Rattle.base_lists.specs.Lists.{Among}
+use Rattle.base_lists.proofs.ListLaws.{same-test, map-pick}
 use Rattle.model.specs.Store.{Chains, Snapshot, Store, rank, sameKey}
 use Rattle.model.specs.Seeing.{versionOf, keyAt, pending, recordOf, shows, Live, snapshotNow}
 use Rattle.model.specs.Steps.{readBuckets}
 use Rattle.model.specs.Refusals.{byAnother}
-use Rattle.model.proofs.ListLaws.{same-test, map-pick}
 use Rattle.model.proofs.SeeingLaws.{same-key, key-same}
 use Rattle.model.proofs.Good.{Good}
 use Rattle.model.proofs.Remains.{Remains}

@@ -6,8 +6,8 @@ use Prim.Native.Nat.{ℕ, zero, suc, _+_, _≤_, _<_}
 use native.Mathlib.Omega.{arith}
 use native.Mathlib.Decide.{ℕ-discrete}
 use lib.ListN.{length}
-use Rattle.model.specs.Lists.{pick}
-use Rattle.model.specs.Table.{update, update-same, update-other}
+use Rattle.base_lists.specs.Lists.{pick}
+use Rattle.base_lists.specs.Table.{update, update-same, update-other}
 use Rattle.model.specs.Store.{Txn}
 
 -- f of what stands at the first n places, added up

@@ -9,13 +9,13 @@ use native.Mathlib.Omega.{arith}
 use native.Mathlib.Decide.{ℕ-discrete}
 use lib.Dec.{ltb}
 use borrow.Author.Tests.{ltb-true, lt-ltb, not-true}
-use Rattle.model.specs.Lists.{member, Among}
-use Rattle.model.specs.Table.{update, update-elim, update-same, update-other, updateAll-elim}
+use Rattle.base_lists.specs.Lists.{member, Among}
+use Rattle.base_lists.specs.Table.{update, update-elim, update-same, update-other, updateAll-elim}
+use Rattle.base_lists.proofs.ListLaws.{and-l, and-r, is-false, member-among, among-member, not-member, among-left, among-right, which-join}
 use Rattle.model.specs.Store.{Sizes, Chains, Snapshot, Installed, Txn, Store, noTxn, fresh, rank, sameKey, bucketOf}
 use Rattle.model.specs.Seeing.{seen, keyAt, Live}
 use Rattle.model.specs.Steps.{withPhase, newTxn, begun, keyBefore, newKey, keyBuckets, changedBuckets, installed, published, versionRows, madeRows}
 use Rattle.model.specs.Holding.{Made}
-use Rattle.model.proofs.ListLaws.{and-l, and-r, is-false, member-among, among-member, not-member, among-left, among-right, which-join}
 use Rattle.model.proofs.Move.{Move, stay, did-begin, did-mark, did-capture, did-collect, did-rows, did-write, did-prepare, did-install, did-end, did-publish, did-abort}
 use Rattle.model.proofs.Chained.{Chained}
 use Rattle.model.proofs.Numbers.{Numbers, BelowAt, Kept, kept-free, active-which}

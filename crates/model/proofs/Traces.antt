@@ -8,9 +8,10 @@ use native.Mathlib.Omega.{arith}
 use native.Mathlib.Decide.{ℕ-discrete}
 use lib.Dec.{eqb}
 use borrow.Author.Tests.{eqb-true, eqb-false}
-use Rattle.limits.specs.Limits.{lastNumber}
-use Rattle.model.specs.Lists.{member, Among, Rising}
-use Rattle.model.specs.Table.{update, update-same, update-other, update-elim}
+use Rattle.base_limits.specs.Limits.{lastNumber}
+use Rattle.base_lists.specs.Lists.{member, Among, Rising}
+use Rattle.base_lists.specs.Table.{update, update-same, update-other, update-elim}
+use Rattle.base_lists.proofs.ListLaws.{rising-above, pick-rising, member-among, among-member}
 use Rattle.model.specs.Store.{Sizes, Chains, Installed, Txn, Store, noTxn, fresh, rank}
 use Rattle.model.specs.Steps.{withPhase, newKey, installed, published, versionRows, madeRows}
 use Rattle.model.specs.Upstream.{Event}
@@ -20,7 +21,6 @@ use Rattle.model.specs.History.{eventOf, addEvents, stepEvents, historyO
 use Rattle.model.specs.Seeing.{Live}
 use Rattle.model.specs.Holding.{Writes, Unpublished, Gets, Made}
 use Rattle.model.specs.Given.{number, Ready}
-use Rattle.model.proofs.ListLaws.{rising-above, pick-rising, member-among, among-member}
 use Rattle.model.proofs.Chained.{Chained}
 use Rattle.model.proofs.SeeingLaws.{keyAt-key}
 use Rattle.model.proofs.Holders.{one-claim}

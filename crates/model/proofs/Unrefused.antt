@@ -7,13 +7,13 @@ use Prim.Native.Nat.{ℕ, _+_, _<_}
 use native.Mathlib.Omega.{arith}
 use lib.Dec.{leb, ltb}
 use borrow.Author.Tests.{leb-true, ltb-true}
-use Rattle.limits.specs.Limits.{lastNumber}
-use Rattle.model.specs.Lists.{all-of}
+use Rattle.base_limits.specs.Limits.{lastNumber}
+use Rattle.base_lists.specs.Lists.{all-of}
+use Rattle.base_lists.proofs.ListLaws.{and-l, and-r}
 use Rattle.model.specs.Store.{Sizes, Store, fresh}
 use Rattle.model.specs.Refusals.{Step, begin, capture, collect, rows, put, erase, prepare, install, end, publish, validate, abort, Refusal, WrongShape, refusalNumber, liveCount, checks, refusal}
 use Rattle.model.specs.Shape.{goodSizes, rightShape}
 use Rattle.model.specs.Machine.{Answer, Done, Number, Stamp, Count, Rows, Judged, Refused, gives, accepted, carried, step, stepIn, run}
-use Rattle.model.proofs.ListLaws.{and-l, and-r}
 use Rattle.model.proofs.Good.{Good, good-fresh, good-run, step-in}
 
 -- an answer that is a refusal

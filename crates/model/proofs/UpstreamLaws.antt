@@ -10,13 +10,13 @@ use native.Mathlib.Decide.{ℕ-discrete}
 use lib.Dec.{eqb, ltb, leb}
 use lib.ListN.{length, getD}
 use borrow.Author.Tests.{eqb-true, eq-eqb, ne-eqb, ltb-true, ltb-false, leb-true, leb-false}
-use Rattle.model.specs.Lists.{member}
+use Rattle.base_lists.specs.Lists.{member}
+use Rattle.base_lists.proofs.ListLaws.{and-l, and-r, or-right, or-cases, same-test, least-own, least-each}
 use Rattle.model.specs.Store.{Chains, Index, IndexRead, Snapshot, Write, ReadRecord, Txn, Store, sameKey}
 use Rattle.model.specs.Seeing.{seen, visible, known, walk, firstVisible, versionOf, keyAt, lastWriteFrom, lastWrite, pending, writtenKey, shownKey, matches, Live}
 use Rattle.model.specs.Verdict.{badRead, badRecord}
 use Rattle.model.specs.Steps.{recorded, recording}
 use Rattle.model.specs.Upstream.{creatorVisible, rowVisible, firstRow, lastOf, keyOf, selected, holdsKey, matchesRow, recordingOf, readConflict, readGood, pointer}
-use Rattle.model.proofs.ListLaws.{and-l, and-r, or-right, or-cases, same-test, least-own, least-each}
 use Rattle.model.proofs.Numbers.{Snapped}
 use Rattle.model.proofs.SeeingLaws.{keyAt-zero, keyAt-key}
 use Rattle.model.proofs.Told.{which-seen}

@@ -6,16 +6,16 @@ use mathlib.Core.List.{List, [], _∷_, map}
 use Prim.Native.Nat.{ℕ, _<_}
 use native.Mathlib.Omega.{arith}
 use borrow.Author.Tests.{eqb-true, not-false}
-use Rattle.limits.specs.Limits.{mostLive}
-use Rattle.model.specs.Lists.{Among}
-use Rattle.model.specs.Table.{update-elim, update-field}
+use Rattle.base_limits.specs.Limits.{mostLive}
+use Rattle.base_lists.specs.Lists.{Among}
+use Rattle.base_lists.specs.Table.{update-elim, update-field}
+use Rattle.base_lists.proofs.ListLaws.{or-l, among-left, none-each, which-pick, pick-same, map-pick}
 use Rattle.model.specs.Store.{Sizes, Chains, Snapshot, Collected, Prepared, ReadRecord, Txn, Store, rank, keyIn}
 use Rattle.model.specs.Seeing.{versionOf, keyAt, pending, matches, recordOf, shows, Live, active, activeNumbers, snapshotNow}
 use Rattle.model.specs.Verdict.{Clear, verdict}
 use Rattle.model.specs.Steps.{withPhase, readTxn, readDone, readBuckets, neededBuckets, prepared}
 use Rattle.model.specs.Refusals.{Step, rows, prepare, validate, txnOf, byAnother, checks}
 use Rattle.model.specs.Machine.{Done, Rows, Judged, at, accepted, step, run}
-use Rattle.model.proofs.ListLaws.{or-l, among-left, none-each, which-pick, pick-same, map-pick}
 use Rattle.model.proofs.Phases.{collected-is}
 use Rattle.model.proofs.Move.{passes, finds}
 use Rattle.model.proofs.SeeingLaws.{key-same, version-match}

@@ -5,13 +5,13 @@ use mathlib.Core.Logic.{_↔_, _⊎_, inl, inr, ⊎-elim}
 use mathlib.Core.List.{List, [], _∷_, _++_}
 use Prim.Native.Nat.{ℕ}
 use lib.Dec.{eqb}
-use Rattle.model.specs.Lists.{member, some-of, all-of, Among}
+use Rattle.base_lists.specs.Lists.{member, some-of, all-of, Among}
+use Rattle.base_lists.proofs.ListLaws.{among-right, member-among, among-member, not-member}
 use Rattle.model.specs.Store.{Chains, Index, IndexRead, ReadRecord, Snapshot, Txn}
 use Rattle.model.specs.Verdict.{Verdict, Clear, Bucket, Row, Mark, verdictNumber, badRead, badRecord, judgeRecords, judgeReads, verdict}
 use Rattle.model.specs.Causes.{ReadBad, ReadGood, RecordBad, RecordGood, First, AllReadsGood, AllRecordsGood, Cause, by-mark, by-read, by-record, by-none}
 use Rattle.model.specs.Upstream.{readConflict, readsConflict, readGood, readsGood, indexReadConflict}
 use Rattle.model.specs.Given.{_and_}
-use Rattle.model.proofs.ListLaws.{among-right, member-among, among-member, not-member}
 use Rattle.model.proofs.FirstTest.{Test, opposite, either, both, less, at-most, equal, any}
 use Rattle.model.proofs.UpstreamLaws.{conflict-same, good-same}
 

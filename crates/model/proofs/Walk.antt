@@ -7,9 +7,9 @@ use native.Mathlib.Omega.{arith}
 use native.Mathlib.Decide.{ℕ-discrete}
 use lib.Dec.{eqb}
 use borrow.Author.Tests.{eq-eqb, lt-ltb, le-leb}
+use Rattle.base_lists.proofs.ListLaws.{or-left, or-right}
 use Rattle.model.specs.Store.{Chains, Snapshot}
 use Rattle.model.specs.Seeing.{seen, visible, known, walk, firstVisible, versionOf}
-use Rattle.model.proofs.ListLaws.{or-left, or-right}
 use Rattle.model.proofs.Chained.{Chained, top}
 
 -- from pointer p a snapshot finds q: the first version whose xmin it sees, or 0

@@ -9,13 +9,13 @@ use native.Mathlib.Omega.{arith}
 use native.Mathlib.Decide.{ℕ-discrete}
 use lib.Dec.{ltb}
 use borrow.Author.Tests.{ltb-true, ltb-false}
-use Rattle.model.specs.Lists.{member}
-use Rattle.model.specs.Table.{update, update-elim, update-same, update-other}
+use Rattle.base_lists.specs.Lists.{member}
+use Rattle.base_lists.specs.Table.{update, update-elim, update-same, update-other}
+use Rattle.base_lists.proofs.ListLaws.{member-among, among-member, pick-rising}
 use Rattle.model.specs.Store.{Sizes, Chains, Installed, Ended, Txn, Store, noTxn, fresh, rank}
 use Rattle.model.specs.Seeing.{keyAt, lastWrite, Live}
 use Rattle.model.specs.Steps.{withPhase, pendingRows, oldKey, newKey, writtenPayload, installed, published, versionRows}
 use Rattle.model.specs.Holding.{Writes, Gets, Made, ErasesNothing}
-use Rattle.model.proofs.ListLaws.{member-among, among-member, pick-rising}
 use Rattle.model.proofs.Move.{Move, stay, did-begin, did-mark, did-capture, did-collect, did-rows, did-write, did-prepare, did-install, did-end, did-publish, did-abort}
 use Rattle.model.proofs.Chained.{Chained}
 use Rattle.model.proofs.Numbers.{Numbers, BelowAt}

@@ -4,7 +4,7 @@ use mathlib.Core.Path.{_≡_}
 use mathlib.Core.Bool.{true, false}
 use mathlib.Core.Logic.{_≢_, _⊎_}
 use mathlib.Core.List.{List, _∷_, _++_}
-use Rattle.model.specs.Lists.{Among}
+use Rattle.base_lists.specs.Lists.{Among}
 use Rattle.model.specs.Store.{Chains, Index, IndexRead, ReadRecord, Txn}
 use Rattle.model.specs.Verdict.{Verdict, Clear, Bucket, Row, Mark}
 

@@ -6,7 +6,7 @@ use mathlib.Core.Logic.{_↔_, _≢_, _⊎_}
 use mathlib.Core.Option.{none, some}
 use mathlib.Core.List.{List, [], _∷_, map}
 use lib.Dec.{ltb}
-use Rattle.model.specs.Lists.{member, least, pick, Among, Rising}
+use Rattle.base_lists.specs.Lists.{member, least, pick, Among, Rising}
 use Rattle.model.specs.Store.{Sizes, Chains, IndexRead, ReadRecord, Txn, Open, Collected, Store, rank, sameKey}
 use Rattle.model.specs.Verdict.{Mark}
 use Rattle.model.specs.Seeing.{Live, seen, visible, firstVisible, versionOf, keyAt, pending, matches, recordOf, shows, snapshotNow}

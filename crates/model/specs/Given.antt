@@ -5,8 +5,8 @@ use mathlib.Core.Bool.{true, false, cond}
 use mathlib.Core.Logic.{_≢_, _⊎_}
 use mathlib.Core.List.{List}
 use lib.ListN.{length}
-use Rattle.limits.specs.Limits.{mostRows, mostVersions, mostBuckets, mostLive, mostIndexReads, mostRecords, mostWrites, lastNumber}
-use Rattle.model.specs.Lists.{Among}
+use Rattle.base_limits.specs.Limits.{mostRows, mostVersions, mostBuckets, mostLive, mostIndexReads, mostRecords, mostWrites, lastNumber}
+use Rattle.base_lists.specs.Lists.{Among}
 use Rattle.model.specs.Store.{Sizes, Store, rank, keyIn, bucketOf}
 use Rattle.model.specs.Verdict.{verdict, verdictNumber}
 use Rattle.model.specs.Steps.{hasRead, postedRows, foundRows, recordsAfter, pendingRows, versionRows, readBuckets, neededBuckets}

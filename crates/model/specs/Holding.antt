@@ -4,7 +4,7 @@ use mathlib.Core.Path.{_≡_}
 use mathlib.Core.Logic.{_⊎_}
 use mathlib.Core.Option.{Option, none}
 use mathlib.Core.List.{List, _++_}
-use Rattle.model.specs.Lists.{join, Among}
+use Rattle.base_lists.specs.Lists.{join, Among}
 use Rattle.model.specs.Store.{Sizes, Chains, Holding, Txn, rank}
 use Rattle.model.specs.Seeing.{Live}
 use Rattle.model.specs.Steps.{pendingRows, versionRows, madeRows, oldKey, newKey, keyBuckets, readBuckets}

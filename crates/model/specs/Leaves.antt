@@ -5,8 +5,8 @@ use mathlib.Core.Bool.{true, false}
 use mathlib.Core.Logic.{_↔_, _≢_, _⊎_}
 use mathlib.Core.Option.{none, some}
 use mathlib.Core.List.{List, [], _∷_, _++_}
-use Rattle.limits.specs.Limits.{mostLive}
-use Rattle.model.specs.Lists.{Among}
+use Rattle.base_limits.specs.Limits.{mostLive}
+use Rattle.base_lists.specs.Lists.{Among}
 use Rattle.model.specs.Store.{Index, Held, Snapshot, Phase, Open, Holding, Collected, Prepared, Installed, Ended, IndexRead, Write, ReadRecord, Txn, Store, noTxn, rank, keyIn}
 use Rattle.model.specs.Seeing.{Live}
 use Rattle.model.specs.Steps.{newTxn, addRead, postedRows, recordsAfter}

@@ -1,5 +1,3 @@
-pub mod Lists
-pub mod Table
 pub mod Store
 pub mod Seeing
 pub mod Verdict

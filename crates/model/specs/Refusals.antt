@@ -5,8 +5,8 @@ use mathlib.Core.Option.{Option, none, some}
 use mathlib.Core.List.{List, [], _∷_}
 use lib.Dec.{eqb, ltb, leb}
 use lib.ListN.{length}
-use Rattle.limits.specs.Limits.{mostRows, mostLive, mostIndexReads, mostRecords, mostWrites, lastNumber}
-use Rattle.model.specs.Lists.{pick, first, some-of}
+use Rattle.base_limits.specs.Limits.{mostRows, mostLive, mostIndexReads, mostRecords, mostWrites, lastNumber}
+use Rattle.base_lists.specs.Lists.{pick, first, some-of}
 use Rattle.model.specs.Store.{Sizes, Chains, Txn, Store, rank, bucketOf}
 use Rattle.model.specs.Seeing.{live}
 use Rattle.model.specs.Verdict.{verdict, verdictNumber}

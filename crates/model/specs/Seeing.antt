@@ -4,9 +4,9 @@ use mathlib.Core.Bool.{Bool, false, cond, not, _&&_, _||_}
 use mathlib.Core.Option.{Option, none, some}
 use mathlib.Core.List.{List, [], _∷_, map}
 use lib.Dec.{eqb, ltb, leb}
-use Rattle.model.specs.Lists.{member, least, pick}
+use Rattle.base_limits.specs.Limits.{mostLive}
+use Rattle.base_lists.specs.Lists.{member, least, pick}
 use Rattle.model.specs.Store.{Chains, Snapshot, Write, ReadRecord, Txn, Store, sameKey, rank}
-use Rattle.limits.specs.Limits.{mostLive}
 
 -- a number is seen if it is below the snapshot's xmax and not among its active numbers
 unfoldable pub seen : Snapshot → ℕ → Bool

@@ -3,8 +3,8 @@ use Prim.Native.Nat.{ℕ, suc, _+_}
 use mathlib.Core.Bool.{Bool, not, _&&_, _||_}
 use lib.Dec.{eqb, ltb, leb}
 use lib.ListN.{length}
-use Rattle.limits.specs.Limits.{mostRows, mostVersions, mostBuckets, mostLive, mostActive, mostIndexReads, mostRecords, mostWrites, lastNumber}
-use Rattle.model.specs.Lists.{least, every, all-of}
+use Rattle.base_limits.specs.Limits.{mostRows, mostVersions, mostBuckets, mostLive, mostActive, mostIndexReads, mostRecords, mostWrites, lastNumber}
+use Rattle.base_lists.specs.Lists.{least, every, all-of}
 use Rattle.model.specs.Store.{Sizes, Chains, IndexRead, Write, ReadRecord, Txn, Store, rank, bucketIn}
 use Rattle.model.specs.Seeing.{live}
 use Rattle.model.specs.Steps.{pendingRows, getsVersion, headedBy}

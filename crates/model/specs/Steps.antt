@@ -4,8 +4,8 @@ use mathlib.Core.Bool.{Bool, true, false, cond, _&&_, _||_}
 use mathlib.Core.Option.{Option, none, some}
 use mathlib.Core.List.{List, [], _∷_, _++_, map}
 use lib.Dec.{eqb, leb}
-use Rattle.model.specs.Lists.{member, least, pick, some-of, join}
-use Rattle.model.specs.Table.{update, updateAll}
+use Rattle.base_lists.specs.Lists.{member, least, pick, some-of, join}
+use Rattle.base_lists.specs.Table.{update, updateAll}
 use Rattle.model.specs.Store.{Sizes, Chains, Index, Held, Phase, Open, Holding, Collected, Prepared, Installed, IndexRead, Write, ReadRecord, Txn, Store, noTxn, bucketIn, keyIn, keyed, sameKey, bucketOf}
 use Rattle.model.specs.Seeing.{keyAt, lastWrite, pending, writtenKey, matches, recordOf, activeNumbers}
 

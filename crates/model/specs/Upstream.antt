@@ -7,8 +7,8 @@ use mathlib.Core.Option.{Option, none, some}
 use mathlib.Core.List.{List, [], _∷_, _++_}
 use lib.Dec.{eqb, ltb, leb}
 use lib.ListN.{length, getD}
-use Rattle.model.specs.Lists.{member, some-of, all-of}
-use Rattle.model.specs.Table.{update}
+use Rattle.base_lists.specs.Lists.{member, some-of, all-of}
+use Rattle.base_lists.specs.Table.{update}
 use Rattle.model.specs.Store.{Sizes, Chains, Index, IndexRead, Write, ReadRecord, Txn, sameKey}
 use Rattle.model.specs.Seeing.{known}
 use Rattle.model.specs.Steps.{keyBuckets}

@@ -3,7 +3,7 @@ use Prim.Native.Nat.{ℕ}
 use mathlib.Core.Bool.{Bool, cond, not, _&&_, _||_}
 use mathlib.Core.List.{List, [], _∷_}
 use lib.Dec.{eqb, ltb, leb}
-use Rattle.model.specs.Lists.{member}
+use Rattle.base_lists.specs.Lists.{member}
 use Rattle.model.specs.Store.{Chains, Index, IndexRead, ReadRecord, Snapshot, Txn}
 
 -- no conflict; a bucket with its captured and its present stamp; a row with the pointer it was read at; the mark

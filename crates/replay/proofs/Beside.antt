@@ -5,14 +5,14 @@ use mathlib.Core.Path.{_≡_, refl, ap, _∙_}
 use mathlib.Core.List.{List, [], _∷_, map}
 use native.Mathlib.Omega.{arith}
 use lib.ListN.{length, getD, set}
-use Rattle.protocol.specs.declared.Step.{Step}
-use Rattle.record.specs.Methods.{idleOf}
-use Rattle.record.specs.declared.Transaction.{Transaction}
-use Rattle.places.specs.declared.Others.{Others}
-use Rattle.places.specs.Places.{wantedOf, placeIn, activeNumber, preparedCount}
-use Rattle.steps.specs.Steps.{Moved, stepOf}
-use Rattle.steps.specs.Words.{Words, othersIn, placeFor, movedBy}
-use Rattle.bridge.proofs.Places.{default-any}
+use Rattle.base_protocol.specs.declared.Step.{Step}
+use Rattle.txn.specs.Methods.{idleOf}
+use Rattle.txn.specs.declared.Transaction.{Transaction}
+use Rattle.txn_places.specs.declared.Others.{Others}
+use Rattle.txn_places.specs.Places.{wantedOf, placeIn, activeNumber, preparedCount}
+use Rattle.step.specs.Steps.{Moved, stepOf}
+use Rattle.step.specs.Words.{Words, othersIn, placeFor, movedBy}
+use Rattle.step_bridge.proofs.Places.{default-any}
 
 map-set : {A B : Type 0} (f : A → B) (l : List A) (i : ℕ) (a : A) → map f (set l i a) ≡ set (map f l) i (f a)
 map-set f [] i a = refl

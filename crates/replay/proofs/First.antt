@@ -11,20 +11,20 @@ use lib.Seq.{take-append-seam, drop-append-add, drop-drop}
 use Rattle.model.specs.Store.{fresh}
 use Rattle.model.specs.Machine.{canOpen}
 use Rattle.model.specs.Replay.{Replayed, malformed, opens, replay}
-use Rattle.places.specs.declared.Sizes.{Sizes}
-use Rattle.steps.specs.Words.{sizesView}
+use Rattle.txn_places.specs.declared.Sizes.{Sizes}
+use Rattle.step.specs.Words.{sizesView}
 use Rattle.log.specs.declared.Command.{Command}
 use Rattle.log.specs.declared.Command.the-variants.{Open, Ask, Malformed}
 use Rattle.log.specs.declared.Decoded.{Decoded}
 use Rattle.log.specs.Records.{decodedOf}
 use Rattle.log.proofs.Reading.{Reads, reads, read-malformed, read-open, read-ask}
-use Rattle.lines.specs.declared.Wrote.the-variants.{Next, Full}
-use Rattle.lines.specs.Lines.{Written, writtenAt}
-use Rattle.lines.proofs.Reported.{shown, shown-long}
+use Rattle.report_lines.specs.declared.Wrote.the-variants.{Next, Full}
+use Rattle.report_lines.specs.Lines.{Written, writtenAt}
+use Rattle.report_lines.proofs.Reported.{shown, shown-long}
 use Rattle.report.specs.Lines.{badLine, openLine}
-use Rattle.stops.specs.declared.Stopped.{Stopped}
-use Rattle.commands.specs.Commands.{isOpen, sizesOf, clockOf}
-use Rattle.stops.specs.Stops.{Left, malformedAt, unopenedAt}
+use Rattle.replay_stop.specs.declared.Stopped.{Stopped}
+use Rattle.log_commands.specs.Commands.{isOpen, sizesOf, clockOf}
+use Rattle.replay_stop.specs.Stops.{Left, malformedAt, unopenedAt}
 use Rattle.replay.specs.Replay.{leftBy, Leaves, openedFrom}
 use Rattle.replay.proofs.Turning.{onward, replay-ends, replay-reads, replay-grows, goes-on, goes-full}
 use Rattle.replay.proofs.Lining.{roomIn, On, line-on, line-off, last-line}

@@ -7,33 +7,33 @@ use mathlib.Core.Option.{some}
 use mathlib.Core.List.{List, _++_}
 use native.Mathlib.Omega.{arith}
 use lib.ListN.{length, drop, length-append}
-use Rattle.limits.specs.Limits.{mostRows}
+use Rattle.base_limits.specs.Limits.{mostRows}
 use Rattle.model.specs.Store.{Store}
 use Rattle.model.specs.Machine as machine
 use Rattle.model.specs.Machine.{step, stepIn}
 use Rattle.model.specs.Report.{answerLine}
 use Rattle.model.specs.Replay.{Replayed, malformed, writeThen, replayFrom}
 use Rattle.model.proofs.Good.{step-in}
-use Rattle.protocol.specs.View.{asked}
-use Rattle.protocol.specs.declared.Step.{Step}
-use Rattle.steps.specs.Steps.{Moved}
-use Rattle.steps.specs.Words.{Words, view, placeFor, movedBy, wordsAfter}
-use Rattle.bridge.proofs.Placed.{after}
-use Rattle.bridge.proofs.Same.{Same}
-use Rattle.bridge.proofs.Stepping.{step-same}
-use Rattle.bridge.proofs.Running.{Stands, step-stands, step-view}
+use Rattle.base_protocol.specs.View.{asked}
+use Rattle.base_protocol.specs.declared.Step.{Step}
+use Rattle.step.specs.Steps.{Moved}
+use Rattle.step.specs.Words.{Words, view, placeFor, movedBy, wordsAfter}
+use Rattle.step_bridge.proofs.Placed.{after}
+use Rattle.step_bridge.proofs.Same.{Same}
+use Rattle.step_bridge.proofs.Stepping.{step-same}
+use Rattle.step_bridge.proofs.Running.{Stands, step-stands, step-view}
 use Rattle.log.specs.declared.Command.{Command}
 use Rattle.log.specs.declared.Command.the-variants.{Open, Ask, Malformed}
 use Rattle.log.specs.declared.Decoded.{Decoded}
 use Rattle.log.specs.Records.{decodedOf}
 use Rattle.log.proofs.Reading.{Reads, reads, read-malformed, read-open, read-ask, read-on}
-use Rattle.lines.specs.declared.Wrote.the-variants.{Next, Full}
-use Rattle.lines.specs.Lines.{Written, writtenAt}
-use Rattle.lines.proofs.Reported.{shown}
+use Rattle.report_lines.specs.declared.Wrote.the-variants.{Next, Full}
+use Rattle.report_lines.specs.Lines.{Written, writtenAt}
+use Rattle.report_lines.proofs.Reported.{shown}
 use Rattle.report.specs.Lines.{badLine, lineFor}
 use Rattle.report.proofs.Answers.{line-told}
-use Rattle.commands.specs.Commands.{isAsk, stepOf}
-use Rattle.stops.specs.Stops.{Left, malformedAt}
+use Rattle.log_commands.specs.Commands.{isAsk, stepOf}
+use Rattle.replay_stop.specs.Stops.{Left, malformedAt}
 use Rattle.replay.specs.Replay.{Leaves}
 use Rattle.replay.proofs.Turning.{onward, replay-ends, replay-reads, goes-on, goes-full}
 use Rattle.replay.proofs.Lining.{roomIn, line-on, line-off, last-line}

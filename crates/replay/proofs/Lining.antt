@@ -9,10 +9,10 @@ use native.Mathlib.Omega.{arith}
 use lib.Dec.{leb}
 use lib.ListN.{length, length-append}
 use Rattle.model.specs.Replay.{stops, writeThen, mostRoom}
-use Rattle.lines.specs.declared.Wrote.the-variants.{Next, Full}
-use Rattle.lines.specs.Lines.{Written, writtenAt}
-use Rattle.lines.proofs.Reported.{shown, written-on, written-stop}
-use Rattle.stops.specs.Stops.{Left, stopWith}
+use Rattle.report_lines.specs.declared.Wrote.the-variants.{Next, Full}
+use Rattle.report_lines.specs.Lines.{Written, writtenAt}
+use Rattle.report_lines.proofs.Reported.{shown, written-on, written-stop}
+use Rattle.replay_stop.specs.Stops.{Left, stopWith}
 use Rattle.replay.specs.Replay.{Leaves}
 use Rattle.replay.proofs.Turning.{goes-on, goes-full}
 

@@ -7,7 +7,7 @@ use mathlib.Core.Option.{Option, none, some}
 use mathlib.Core.List.{List, [], _∷_, _++_}
 use lib.Dec.{leb}
 use lib.ListN.{length}
-use Rattle.model.specs.Table.{cond-elim}
+use Rattle.base_lists.specs.Table.{cond-elim}
 use Rattle.model.specs.Store.{Store, fresh}
 use Rattle.model.specs.Machine.{canOpen, step}
 use Rattle.model.specs.Log.{Command, Opening, Asking, readRecord}

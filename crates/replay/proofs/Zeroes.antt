@@ -9,15 +9,15 @@ use native.Mathlib.Omega.{arith}
 use lib.Dec.{leb}
 use lib.ListN.{length, getD, take, replicate, length-replicate, take-append-drop}
 use lib.Seq.{length-take-le}
-use Rattle.limits.specs.Limits.{mostRows, mostVersions, mostBuckets, lastNumber}
+use Rattle.base_limits.specs.Limits.{mostRows, mostVersions, mostBuckets, lastNumber}
+use Rattle.base_lists.proofs.ListLaws.{and-l, and-r}
 use Rattle.model.specs.Shape.{within, goodSizes}
 use Rattle.model.specs.Machine.{canOpen}
-use Rattle.model.proofs.ListLaws.{and-l, and-r}
-use Rattle.tables.specs.Fields.{rowWords, versionWords, bucketWords}
-use Rattle.record.specs.declared.Transaction.{Transaction}
-use Rattle.places.specs.declared.Sizes.{Sizes}
-use Rattle.steps.specs.Words.{Words, sizesView, freePlaces}
-use Rattle.bridge.proofs.Opening.{Opened, opened-view, opened-stands}
+use Rattle.table.specs.Fields.{rowWords, versionWords, bucketWords}
+use Rattle.txn.specs.declared.Transaction.{Transaction}
+use Rattle.txn_places.specs.declared.Sizes.{Sizes}
+use Rattle.step.specs.Words.{Words, sizesView, freePlaces}
+use Rattle.step_bridge.proofs.Opening.{Opened, opened-view, opened-stands}
 use Rattle.replay.specs.Replay.{Zeroed, openedFrom}
 use Rattle.replay.proofs.Lining.{roomIn}
 use Rattle.replay.proofs.Going.{Going}

@@ -4,15 +4,15 @@ use mathlib.Core.Path.{_≡_}
 use mathlib.Core.Option.{some}
 use mathlib.Core.List.{List}
 use lib.ListN.{length, take, drop, replicate}
-use Rattle.limits.specs.Limits.{mostRows, mostVersions, mostBuckets}
+use Rattle.base_limits.specs.Limits.{mostRows, mostVersions, mostBuckets}
 use Rattle.model.specs.Store.{fresh}
 use Rattle.model.specs.Replay.{Replayed, reported, replayFrom, mostRoom}
-use Rattle.tables.specs.Fields.{rowWords, versionWords, bucketWords}
-use Rattle.tables.specs.Lists.{listsWords}
-use Rattle.places.specs.declared.Sizes.{Sizes}
-use Rattle.steps.specs.Words.{sizesView}
-use Rattle.stops.specs.declared.Stopped.{Stopped}
-use Rattle.stops.specs.Stops.{Left}
+use Rattle.table.specs.Fields.{rowWords, versionWords, bucketWords}
+use Rattle.table.specs.Lists.{listsWords}
+use Rattle.txn_places.specs.declared.Sizes.{Sizes}
+use Rattle.step.specs.Words.{sizesView}
+use Rattle.replay_stop.specs.declared.Stopped.{Stopped}
+use Rattle.replay_stop.specs.Stops.{Left}
 
 -- what the model's replay leaves of a lent report
 abbrev pub leftBy : Replayed → List ℕ → Left

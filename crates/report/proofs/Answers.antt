@@ -10,12 +10,12 @@ use lib.Dec.{leb}
 use lib.ListN.{length, take, drop}
 use lib.Seq.{take-all, take-append-seam}
 use Rattle.model.specs.Report.{wordOf, line, answerLine}
-use Rattle.protocol.specs.View.{asked, told}
-use Rattle.protocol.specs.declared.Step.{Step}
-use Rattle.protocol.specs.declared.Answer.{Answer}
-use Rattle.answers.specs.declared.Numbers.{Numbers}
-use Rattle.answers.specs.Answers.{heldOf}
-use Rattle.answers.proofs.Held.{says}
+use Rattle.base_protocol.specs.View.{asked, told}
+use Rattle.base_protocol.specs.declared.Step.{Step}
+use Rattle.base_protocol.specs.declared.Answer.{Answer}
+use Rattle.report_answers.specs.declared.Numbers.{Numbers}
+use Rattle.report_answers.specs.Answers.{heldOf}
+use Rattle.report_answers.proofs.Held.{says}
 use Rattle.report.specs.Lines.{lineFor}
 use Rattle.model.specs.Verdict as judged
 use Rattle.model.specs.Machine as machine

@@ -2,9 +2,9 @@
 use mathlib.Core.Path.{_≡_, refl}
 use mathlib.Core.List.{List, [], _∷_}
 use Rattle.model.specs.Report.{digitsStep, digitsFor, decimal, spaced, line}
-use Rattle.protocol.specs.declared.Step.the-variants as ask
-use Rattle.protocol.specs.declared.Verdict.the-variants as verdict
-use Rattle.protocol.specs.declared.Answer.the-variants as tell
+use Rattle.base_protocol.specs.declared.Step.the-variants as ask
+use Rattle.base_protocol.specs.declared.Verdict.the-variants as verdict
+use Rattle.base_protocol.specs.declared.Answer.the-variants as tell
 use Rattle.report.specs.Lines.{lineFor}
 
 -- opens every definition that writes a line, so that numbers compute

@@ -3,10 +3,10 @@ use Prim.Native.Nat.{ℕ}
 use mathlib.Core.List.{List, [], _∷_}
 use Rattle.model.specs.Refusals.{Malformed, refusalNumber}
 use Rattle.model.specs.Report.{openWord, badWord, wordOf, line}
-use Rattle.protocol.specs.View.{asked}
-use Rattle.protocol.specs.declared.Step.{Step}
-use Rattle.protocol.specs.declared.Answer.{Answer}
-use Rattle.answers.specs.Answers.{numberOf, valuesOf}
+use Rattle.base_protocol.specs.View.{asked}
+use Rattle.base_protocol.specs.declared.Step.{Step}
+use Rattle.base_protocol.specs.declared.Answer.{Answer}
+use Rattle.report_answers.specs.Answers.{numberOf, valuesOf}
 
 -- the kind's name, then the number, then the values
 abbrev pub lineFor : Step → Answer → List ℕ → List ℕ

@@ -1,17 +1,17 @@
 // The report: the line of an open, of a malformed log, and of every step's answer.
-use answers::numbers_of;
-use lines::Wrote;
-use lines::least;
-use lines::write_line;
-use protocol::Answer;
-use protocol::MALFORMED;
-use protocol::Step;
+use report_answers::numbers_of;
+use report_lines::Wrote;
+use report_lines::least;
+use report_lines::write_line;
+use base_protocol::Answer;
+use base_protocol::MALFORMED;
+use base_protocol::Step;
 ghost use mathlib.Core.Path.{_≡_};
 ghost use Prim.Native.Nat.{_≤_};
 ghost use lib.ListN.{take};
 ghost use Rattle.model.specs.Report.{wordOf};
-ghost use Rattle.protocol.specs.View.{asked};
-ghost use Rattle.lines.specs.Lines.{writtenAt};
+ghost use Rattle.base_protocol.specs.View.{asked};
+ghost use Rattle.report_lines.specs.Lines.{writtenAt};
 ghost use Rattle.report.specs.Lines.{openLine, badLine, lineFor};
 
 // The kind's name, in the first `long` of eight bytes.

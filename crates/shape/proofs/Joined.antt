@@ -12,42 +12,42 @@ use lib.Dec.{eqb, ltb, leb}
 use lib.ListN.{length, take, drop, getD, replicate, length-map, length-take, List·getD-map}
 use lib.Seq.{take-at}
 use borrow.Author.Tests.{eqb-true, ltb-true, leb-true, le-leb}
-use Rattle.limits.specs.Limits.{mostLive, mostActive, mostIndexReads, mostWrites, mostRows, lastNumber}
-use Rattle.model.specs.Lists.{pick, every, all-of, Among}
+use Rattle.base_limits.specs.Limits.{mostLive, mostActive, mostIndexReads, mostWrites, mostRows, lastNumber}
+use Rattle.base_lists.specs.Lists.{pick, every, all-of, Among}
+use Rattle.base_lists.proofs.ListLaws.{and-l, and-r, same-test, each-all, every-each}
 use Rattle.model.specs.Store as model
 use Rattle.model.specs.Seeing.{live, keyAt}
 use Rattle.model.specs.Steps as steps
 use Rattle.model.specs.Steps.{pendingRows, oldKey, getsVersion, versionRows}
 use Rattle.model.specs.Refusals.{liveCount, reservedBy, reserved}
 use Rattle.model.specs.Shape.{within, goodSizes, goodChains, goodCounts, goodRanges, goodHeads, goodTxn, distinctNumbers, rightShape}
-use Rattle.model.proofs.ListLaws.{and-l, and-r, same-test, each-all, every-each}
 use Rattle.model.proofs.Ranges.{good-sized}
-use Rattle.tables.specs.Fields as fields
-use Rattle.tables.specs.Fields.{headOf, nextOf}
-use Rattle.tables.specs.Lists.{Kind, reads, writes, records, startOf, readOf, writeOf, recordOf, candidateOf, candidates, entryAt, listAt}
-use Rattle.tables.specs.Regions.{words, listOf}
-use Rattle.tables.specs.declared.lists.Write.{Write}
-use Rattle.tables.proofs.Parts.{part-field}
-use Rattle.tables.proofs.Spans.{list-length, list-map}
-use Rattle.buckets.proofs.Sorted.{buckets-no-longer}
-use Rattle.record.specs.View.{keyView, phaseView, readView, writeView, recordView, txnView, rowsPart, versionsPart, chainsView}
-use Rattle.record.specs.Methods.{idleOf}
-use Rattle.record.specs.declared.Transaction.{Transaction}
-use Rattle.holders.specs.Keys.{keyOf, versionKey, oldKeyOf, headedBy}
-use Rattle.holders.specs.Needs.{rowsWritten}
-use Rattle.prepare.specs.Prepare.{versionsIn, reservedIn}
-use Rattle.places.specs.declared.Sizes.{Sizes}
-use Rattle.places.specs.Places.{preparedCount, liveIn}
-use Rattle.steps.specs.Words.{Words, sizesView, txnAt, view, othersIn}
-use Rattle.bridge.proofs.Places.{number-at}
-use Rattle.bridge.proofs.Listing.{all-each, every-at}
-use Rattle.bridge.proofs.Starting.{nonzero, pick-nonzero, live-nonzero}
-use Rattle.bridge.proofs.Needing.{written-pending, pending-written}
-use Rattle.bridge.proofs.Distinct.{sorted-pending, listed-pending, gets-same, version-count, versions-fewer}
-use Rattle.bridge.proofs.Preparing.{none-reserved}
+use Rattle.table.specs.Fields as fields
+use Rattle.table.specs.Fields.{headOf, nextOf}
+use Rattle.table.specs.Lists.{Kind, reads, writes, records, startOf, readOf, writeOf, recordOf, candidateOf, candidates, entryAt, listAt}
+use Rattle.table.specs.Regions.{words, listOf}
+use Rattle.table.specs.declared.lists.Write.{Write}
+use Rattle.table.proofs.Parts.{part-field}
+use Rattle.table.proofs.Spans.{list-length, list-map}
+use Rattle.table_buckets.proofs.Sorted.{buckets-no-longer}
+use Rattle.txn.specs.View.{keyView, phaseView, readView, writeView, recordView, txnView, rowsPart, versionsPart, chainsView}
+use Rattle.txn.specs.Methods.{idleOf}
+use Rattle.txn.specs.declared.Transaction.{Transaction}
+use Rattle.txn_needs.specs.Keys.{keyOf, versionKey, oldKeyOf, headedBy}
+use Rattle.txn_needs.specs.Needs.{rowsWritten}
+use Rattle.write_prepare.specs.Prepare.{versionsIn, reservedIn}
+use Rattle.txn_places.specs.declared.Sizes.{Sizes}
+use Rattle.txn_places.specs.Places.{preparedCount, liveIn}
+use Rattle.step.specs.Words.{Words, sizesView, txnAt, view, othersIn}
+use Rattle.step_bridge.proofs.Places.{number-at}
+use Rattle.step_bridge.proofs.Listing.{all-each, every-at}
+use Rattle.step_bridge.proofs.Starting.{nonzero, pick-nonzero, live-nonzero}
+use Rattle.step_bridge.proofs.Needing.{written-pending, pending-written}
+use Rattle.step_bridge.proofs.Distinct.{sorted-pending, listed-pending, gets-same, version-count, versions-fewer}
+use Rattle.step_bridge.proofs.Preparing.{none-reserved}
 use Rattle.shape.specs.Shape.{tablesLent, inPlace, allInPlace, tablesFit, shapeOf}
-use Rattle.links.specs.Links.{chainsFit}
-use Rattle.fits.specs.Fits.{countsFit, writesIn, rangesFit, rowFits, headsFit, leastOf, txnFits, placeFits}
+use Rattle.shape_chains.specs.Links.{chainsFit}
+use Rattle.shape_txn.specs.Fits.{countsFit, writesIn, rangesFit, rowFits, headsFit, leastOf, txnFits, placeFits}
 use Rattle.shape.specs.Tests.{txnsFit, unlike, distinctAt, allDistinct}
 
 -- the second test matters only where the first holds

@@ -10,9 +10,9 @@ use lib.Dec.{leb}
 use borrow.Author.Tests.{leb-true, leb-false, le-leb, lt-leb}
 use lib.ListN.{length, take, getD, set, length-map, List·getD-map}
 use lib.Seq.{take-all, take-suc, take-suc-set}
-use Rattle.record.specs.Methods.{idleOf}
-use Rattle.record.specs.declared.Transaction.{Transaction}
-use Rattle.bridge.proofs.Places.{default-any}
+use Rattle.txn.specs.Methods.{idleOf}
+use Rattle.txn.specs.declared.Transaction.{Transaction}
+use Rattle.step_bridge.proofs.Places.{default-any}
 
 -- a sum within a limit, by what is left of the limit
 pub sum-leb : (a b limit : ℕ) → a ≤ limit → leb b (limit - a) ≡ leb (a + b) limit

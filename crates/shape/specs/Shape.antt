@@ -4,16 +4,16 @@ use mathlib.Core.Bool.{Bool, _&&_}
 use mathlib.Core.List.{List}
 use lib.Dec.{eqb, leb}
 use lib.ListN.{length, getD}
-use Rattle.limits.specs.Limits.{mostLive, mostActive}
-use Rattle.model.specs.Lists.{every}
+use Rattle.base_limits.specs.Limits.{mostLive, mostActive}
+use Rattle.base_lists.specs.Lists.{every}
 use Rattle.model.specs.Shape.{rightShape}
-use Rattle.tables.specs.Fields.{rowWords, versionWords, bucketWords}
-use Rattle.tables.specs.Lists.{listsWords}
-use Rattle.record.specs.Methods.{idleOf}
-use Rattle.record.specs.declared.Transaction.{Transaction}
-use Rattle.places.specs.declared.Sizes.{Sizes}
-use Rattle.fits.specs.Fits.{countsFit}
-use Rattle.steps.specs.Words.{Words, view}
+use Rattle.table.specs.Fields.{rowWords, versionWords, bucketWords}
+use Rattle.table.specs.Lists.{listsWords}
+use Rattle.txn.specs.Methods.{idleOf}
+use Rattle.txn.specs.declared.Transaction.{Transaction}
+use Rattle.txn_places.specs.declared.Sizes.{Sizes}
+use Rattle.shape_txn.specs.Fits.{countsFit}
+use Rattle.step.specs.Words.{Words, view}
 use Rattle.shape.specs.declared.Machine.{Machine}
 
 -- each lent table has the words that its size names

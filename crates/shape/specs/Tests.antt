@@ -4,12 +4,12 @@ use mathlib.Core.Bool.{Bool, not, _||_}
 use mathlib.Core.List.{List}
 use lib.Dec.{eqb}
 use lib.ListN.{getD}
-use Rattle.limits.specs.Limits.{mostLive}
-use Rattle.model.specs.Lists.{every}
-use Rattle.record.specs.Methods.{idleOf}
-use Rattle.record.specs.declared.Transaction.{Transaction}
-use Rattle.places.specs.declared.Sizes.{Sizes}
-use Rattle.fits.specs.Fits.{placeFits}
+use Rattle.base_limits.specs.Limits.{mostLive}
+use Rattle.base_lists.specs.Lists.{every}
+use Rattle.txn.specs.Methods.{idleOf}
+use Rattle.txn.specs.declared.Transaction.{Transaction}
+use Rattle.txn_places.specs.declared.Sizes.{Sizes}
+use Rattle.shape_txn.specs.Fits.{placeFits}
 
 -- each record has its shape, or its place is free
 abbrev pub txnsFit : List ℕ → List ℕ → List ℕ → Sizes → ℕ → ℕ → List Transaction → Bool

@@ -3,10 +3,10 @@
 use Prim.Native.Nat.{ℕ}
 use mathlib.Core.Path.{refl}
 use lib.ListN.{getD}
-use Rattle.protocol.specs.declared.Answer.{Answer}
-use Rattle.protocol.specs.declared.Answer.the-variants as tell
-use Rattle.answers.specs.declared.Numbers.{Numbers}
-use Rattle.answers.specs.Answers.{numberHeld, valueHeld, verdictHeld, heldOf}
+use Rattle.base_protocol.specs.declared.Answer.{Answer}
+use Rattle.base_protocol.specs.declared.Answer.the-variants as tell
+use Rattle.report_answers.specs.declared.Numbers.{Numbers}
+use Rattle.report_answers.specs.Answers.{numberHeld, valueHeld, verdictHeld, heldOf}
 use Rattle.tightness.specs.Wrong.{Excludes}
 use Rattle.tightness.proofs.Apart.{apart}
 

@@ -5,11 +5,11 @@ use mathlib.Core.Path.{_≡_, sym, ap, _∙_}
 use mathlib.Core.Bool.{Bool, false, cond, true≢false}
 use lib.Dec.{eqb}
 use borrow.Author.Tests.{eq-eqb}
-use Rattle.protocol.specs.declared.Answer.{Answer}
-use Rattle.protocol.specs.declared.Answer.the-variants as tell
-use Rattle.scans.specs.declared.Found.{Found}
-use Rattle.scans.specs.declared.Found.the-variants.{At, Nothing}
-use Rattle.holders.specs.Needs.{Listed}
+use Rattle.base_protocol.specs.declared.Answer.{Answer}
+use Rattle.base_protocol.specs.declared.Answer.the-variants as tell
+use Rattle.table_scans.specs.declared.Found.{Found}
+use Rattle.table_scans.specs.declared.Found.the-variants.{At, Nothing}
+use Rattle.txn_needs.specs.Needs.{Listed}
 use Rattle.tightness.specs.Wrong.{Excludes}
 
 -- a number that is read off both outcomes differs

@@ -5,12 +5,12 @@ use mathlib.Core.Path.{refl}
 use mathlib.Core.Bool.{cond}
 use mathlib.Core.List.{List}
 use lib.ListN.{set, replicate}
-use Rattle.limits.specs.Limits.{mostLive}
-use Rattle.record.specs.Methods.{idleOf}
-use Rattle.record.specs.declared.Phase.the-variants as phase
-use Rattle.record.specs.declared.Transaction.{Transaction}
-use Rattle.begin.specs.declared.Begun.{Begun}
-use Rattle.begin.specs.Begin.{snapshotOf, spent, begunOf, refusedBegin, beginOf}
+use Rattle.base_limits.specs.Limits.{mostLive}
+use Rattle.txn.specs.Methods.{idleOf}
+use Rattle.txn.specs.declared.Phase.the-variants as phase
+use Rattle.txn.specs.declared.Transaction.{Transaction}
+use Rattle.txn_begin.specs.declared.Begun.{Begun}
+use Rattle.txn_begin.specs.Begin.{snapshotOf, spent, begunOf, refusedBegin, beginOf}
 use Rattle.tightness.specs.Wrong.{Excludes}
 use Rattle.tightness.proofs.Apart.{apart, numberIn}
 use Rattle.tightness.proofs.Computes.{computes}

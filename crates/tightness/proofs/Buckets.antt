@@ -5,10 +5,10 @@ use mathlib.Core.Path.{refl}
 use mathlib.Core.List.{List, [], _∷_, reverse}
 use lib.Dec.{leb}
 use lib.ListN.{length, getD}
-use Rattle.limits.specs.Limits.{mostBuckets}
-use Rattle.buckets.specs.declared.Canonical.{Canonical}
-use Rattle.buckets.specs.declared.Canonical.the-variants.{Sorted, Bad, NoRoom}
-use Rattle.buckets.specs.Buckets.{precedes, counted, bucketsOf, checkOf, Made, answered, canonicalOf}
+use Rattle.base_limits.specs.Limits.{mostBuckets}
+use Rattle.table_buckets.specs.declared.Canonical.{Canonical}
+use Rattle.table_buckets.specs.declared.Canonical.the-variants.{Sorted, Bad, NoRoom}
+use Rattle.table_buckets.specs.Buckets.{precedes, counted, bucketsOf, checkOf, Made, answered, canonicalOf}
 use Rattle.tightness.specs.Wrong.{Excludes}
 use Rattle.tightness.proofs.Apart.{apart, bit}
 use Rattle.tightness.proofs.Computes.{computes}

@@ -6,12 +6,12 @@ use mathlib.Core.Bool.{Bool, cond, not, _&&_, _||_}
 use mathlib.Core.List.{List, [], _∷_}
 use lib.Dec.{eqb, leb, ltb}
 use lib.ListN.{take}
-use Rattle.model.specs.Lists.{member}
-use Rattle.chain.specs.Chain.{activeOf, seenBy, visibleTo, walkFrom, known, pointer, firstVisible}
-use Rattle.chain.specs.declared.Snapshot.{Snapshot}
-use Rattle.chain.specs.declared.Pointer.{Pointer}
-use Rattle.chain.specs.declared.Pointer.the-variants.{At, Nothing}
-use Rattle.record.specs.declared.Phase.the-variants as phase
+use Rattle.base_lists.specs.Lists.{member}
+use Rattle.table_chain.specs.Chain.{activeOf, seenBy, visibleTo, walkFrom, known, pointer, firstVisible}
+use Rattle.table_chain.specs.declared.Snapshot.{Snapshot}
+use Rattle.table_chain.specs.declared.Pointer.{Pointer}
+use Rattle.table_chain.specs.declared.Pointer.the-variants.{At, Nothing}
+use Rattle.txn.specs.declared.Phase.the-variants as phase
 use Rattle.tightness.specs.Wrong.{Excludes}
 use Rattle.tightness.proofs.Apart.{apart, bit}
 use Rattle.tightness.proofs.Computes.{computes}

@@ -2,13 +2,13 @@
 -- Assumes nothing.
 use mathlib.Core.Path.{refl}
 use mathlib.Core.Bool.{not}
-use Rattle.protocol.specs.declared.Step.{Step}
-use Rattle.protocol.specs.declared.Step.the-variants as ask
-use Rattle.places.specs.declared.Sizes.{Sizes}
-use Rattle.places.specs.Places.{wantedOf, isBegin}
+use Rattle.base_protocol.specs.declared.Step.{Step}
+use Rattle.base_protocol.specs.declared.Step.the-variants as ask
+use Rattle.txn_places.specs.declared.Sizes.{Sizes}
+use Rattle.txn_places.specs.Places.{wantedOf, isBegin}
 use Rattle.log.specs.declared.Command.{Command}
 use Rattle.log.specs.declared.Command.the-variants as command
-use Rattle.commands.specs.Commands.{isOpen, isAsk, sizesOf, clockOf, stepOf}
+use Rattle.log_commands.specs.Commands.{isOpen, isAsk, sizesOf, clockOf, stepOf}
 use Rattle.tightness.specs.Wrong.{Excludes}
 use Rattle.tightness.proofs.Apart.{apart, either-way, itself, bit}
 

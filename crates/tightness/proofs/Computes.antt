@@ -4,33 +4,33 @@ use Rattle.model.proofs.Computes as model
 use Rattle.model.specs.Log as log
 use Rattle.model.specs.Report.{digitsStep, digitsFor, decimal, spaced, line}
 use Rattle.model.specs.Replay.{writeThen, turn, replayFor, replayFrom, replay}
-use Rattle.tables.specs.Words.{field, setField}
-use Rattle.tables.specs.Regions.{words, listOf}
-use Rattle.buckets.specs.Buckets.{canonicalOf}
-use Rattle.scans.specs.Scans.{firstFrom, lastBelow}
-use Rattle.chain.specs.Chain.{stepFrom, walkFor, walkFrom, firstVisible}
-use Rattle.record.specs.Methods.{holdOf, captureAt, writeOf, collectOf}
-use Rattle.places.specs.Places.{missesOf, placeFrom, liveFrom}
-use Rattle.holders.specs.Keys.{versionKey, oldKeyOf, newKeyOf, getsVersionOf, headedBy}
-use Rattle.holders.specs.Needs.{pushOne, pushAll, bucketsFor, writeNeeds, writeChanges}
-use Rattle.holders.specs.Holders.{holdAll, stampAll, freeAll, claimAll, unclaimAll}
-use Rattle.verdict.specs.Judged.{firstWhere}
-use Rattle.install.specs.Install.{oneMore, rowsListed, pendingInto, kept, versionsInto, lastWriteOf, versionStored, pushedRow, pushedRows, toInstall, installOf}
-use Rattle.prepare.specs.Prepare.{readsTakenIn, validateOf, versionsIn, reservedIn, lacks, neededInto, prepareWith, prepareOf}
-use Rattle.publish.specs.Publish.{endOf, postedOne, postedAll, stampedIn, neededIn, freedIn, publishOf, abortOf}
-use Rattle.begin.specs.Begin.{keepActive, keepAll, snapshotOf, spent, beginOf}
-use Rattle.matching.specs.Matching.{matchOf}
-use Rattle.gathering.specs.Gathering.{only}
-use Rattle.recording.specs.Recording.{planned, recordsFor, putRecords, recordedOf}
-use Rattle.reads.specs.Rows.{matchedRows, newRecords, readingOf, rowsOf}
-use Rattle.sweeps.specs.Sweeps.{releaseEvery, unclaimEvery}
-use Rattle.steps.specs.Steps.{publishStep, stepOf}
-use Rattle.steps.specs.Words.{placeFor, movedBy}
-use Rattle.fits.specs.Fits.{rangesFit, headsFit, txnFits, placeFits}
+use Rattle.table.specs.Words.{field, setField}
+use Rattle.table.specs.Regions.{words, listOf}
+use Rattle.table_buckets.specs.Buckets.{canonicalOf}
+use Rattle.table_scans.specs.Scans.{firstFrom, lastBelow}
+use Rattle.table_chain.specs.Chain.{stepFrom, walkFor, walkFrom, firstVisible}
+use Rattle.txn.specs.Methods.{holdOf, captureAt, writeOf, collectOf}
+use Rattle.txn_places.specs.Places.{missesOf, placeFrom, liveFrom}
+use Rattle.txn_needs.specs.Keys.{versionKey, oldKeyOf, newKeyOf, getsVersionOf, headedBy}
+use Rattle.txn_needs.specs.Needs.{pushOne, pushAll, bucketsFor, writeNeeds, writeChanges}
+use Rattle.txn_needs.specs.Holders.{holdAll, stampAll, freeAll, claimAll, unclaimAll}
+use Rattle.write_verdict.specs.Judged.{firstWhere}
+use Rattle.finish_install.specs.Install.{oneMore, rowsListed, pendingInto, kept, versionsInto, lastWriteOf, versionStored, pushedRow, pushedRows, toInstall, installOf}
+use Rattle.write_prepare.specs.Prepare.{readsTakenIn, validateOf, versionsIn, reservedIn, lacks, neededInto, prepareWith, prepareOf}
+use Rattle.finish_publish.specs.Publish.{endOf, postedOne, postedAll, stampedIn, neededIn, freedIn, publishOf, abortOf}
+use Rattle.txn_begin.specs.Begin.{keepActive, keepAll, snapshotOf, spent, beginOf}
+use Rattle.read_match.specs.Matching.{matchOf}
+use Rattle.read_gather.specs.Gathering.{only}
+use Rattle.read_record.specs.Recording.{planned, recordsFor, putRecords, recordedOf}
+use Rattle.read.specs.Rows.{matchedRows, newRecords, readingOf, rowsOf}
+use Rattle.table_sweeps.specs.Sweeps.{releaseEvery, unclaimEvery}
+use Rattle.step.specs.Steps.{publishStep, stepOf}
+use Rattle.step.specs.Words.{placeFor, movedBy}
+use Rattle.shape_txn.specs.Fits.{rangesFit, headsFit, txnFits, placeFits}
 use Rattle.shape.specs.Shape.{tablesFit}
-use Rattle.turns.specs.Turns.{sweptFor, cleared, openOf}
+use Rattle.call.specs.Turns.{sweptFor, cleared, openOf}
 use Rattle.log.specs.Records.{decodedOf}
-use Rattle.lines.specs.Lines.{writtenAt}
+use Rattle.report_lines.specs.Lines.{writtenAt}
 
 -- all but `shapeOf` and `turnOf`: what tests the shape of a whole store is opened where it is spoken of
 unfoldable pub computes : Unit {0}

@@ -5,17 +5,17 @@ use mathlib.Core.Path.{refl}
 use mathlib.Core.Bool.{Bool, true, _&&_, _||_}
 use mathlib.Core.List.{List, []}
 use lib.Dec.{eqb, ltb, leb}
-use Rattle.limits.specs.Limits.{mostIndexReads, mostWrites, mostRecords, mostRows}
-use Rattle.model.specs.Lists.{every}
+use Rattle.base_limits.specs.Limits.{mostIndexReads, mostWrites, mostRecords, mostRows}
+use Rattle.base_lists.specs.Lists.{every}
 use Rattle.model.specs.Store.{rank}
-use Rattle.tables.specs.Lists.{writeAt}
-use Rattle.record.specs.View.{phaseView}
-use Rattle.record.specs.Methods.{withWrites}
-use Rattle.record.specs.declared.Phase.the-variants as phase
-use Rattle.record.specs.declared.Transaction.{Transaction}
-use Rattle.places.specs.declared.Sizes.{Sizes}
-use Rattle.holders.specs.Keys.{newKeyOf, headedBy}
-use Rattle.fits.specs.Fits.{countsFit, rangesFit, leastOf, txnFits, placeFits}
+use Rattle.table.specs.Lists.{writeAt}
+use Rattle.txn.specs.View.{phaseView}
+use Rattle.txn.specs.Methods.{withWrites}
+use Rattle.txn.specs.declared.Phase.the-variants as phase
+use Rattle.txn.specs.declared.Transaction.{Transaction}
+use Rattle.txn_places.specs.declared.Sizes.{Sizes}
+use Rattle.txn_needs.specs.Keys.{newKeyOf, headedBy}
+use Rattle.shape_txn.specs.Fits.{countsFit, rangesFit, leastOf, txnFits, placeFits}
 use Rattle.tightness.specs.Wrong.{Excludes}
 use Rattle.tightness.proofs.Apart.{apart, bit}
 use Rattle.tightness.proofs.Computes.{computes}

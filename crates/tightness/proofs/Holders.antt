@@ -6,19 +6,19 @@ use mathlib.Core.Bool.{Bool, true, false, cond, not, _||_}
 use mathlib.Core.List.{List, [], _∷_, map}
 use lib.Dec.{eqb, leb}
 use lib.ListN.{getD, set, take}
-use Rattle.limits.specs.Limits.{mostWrites}
-use Rattle.model.specs.Lists.{some-of, all-of, join}
+use Rattle.base_limits.specs.Limits.{mostWrites}
+use Rattle.base_lists.specs.Lists.{some-of, all-of, join}
 use Rattle.model.specs.Store as model
-use Rattle.tables.specs.Fields as fields
-use Rattle.tables.specs.Lists.{readsOf, writes as pending}
-use Rattle.tables.specs.declared.lists.IndexRead.{IndexRead}
-use Rattle.scans.specs.Scans.{firstPlace}
-use Rattle.record.specs.Methods.{takenBy}
-use Rattle.holders.specs.declared.Key.{Key}
-use Rattle.holders.specs.Keys as keys
-use Rattle.holders.specs.Keys.{keyOf, noKey, versionKey, oldKeyOf, writtenAt, newKeyOf, getsVersionOf}
-use Rattle.holders.specs.Needs.{Listed, pushOne, pushAll, bucketsFor, readsNeed, rowsWritten, writeNeeds, writesNeed, writesChange}
-use Rattle.holders.specs.Holders as spec
+use Rattle.table.specs.Fields as fields
+use Rattle.table.specs.Lists.{readsOf, writes as pending}
+use Rattle.table.specs.declared.lists.IndexRead.{IndexRead}
+use Rattle.table_scans.specs.Scans.{firstPlace}
+use Rattle.txn.specs.Methods.{takenBy}
+use Rattle.txn_needs.specs.declared.Key.{Key}
+use Rattle.txn_needs.specs.Keys as keys
+use Rattle.txn_needs.specs.Keys.{keyOf, noKey, versionKey, oldKeyOf, writtenAt, newKeyOf, getsVersionOf}
+use Rattle.txn_needs.specs.Needs.{Listed, pushOne, pushAll, bucketsFor, readsNeed, rowsWritten, writeNeeds, writesNeed, writesChange}
+use Rattle.txn_needs.specs.Holders as spec
 use Rattle.tightness.specs.Wrong.{Excludes}
 use Rattle.tightness.proofs.Apart.{apart, either-way, bit, count}
 use Rattle.tightness.proofs.Computes.{computes}

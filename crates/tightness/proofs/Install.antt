@@ -6,13 +6,13 @@ use mathlib.Core.Bool.{cond}
 use mathlib.Core.List.{List, [], _∷_}
 use lib.Dec.{ltb}
 use lib.ListN.{replicate}
-use Rattle.limits.specs.Limits.{mostWrites, lastNumber}
-use Rattle.model.specs.Lists.{join}
-use Rattle.record.specs.declared.Phase.the-variants as phase
-use Rattle.record.specs.declared.Transaction.{Transaction}
-use Rattle.record.specs.Methods.{withWrites}
-use Rattle.holders.specs.Needs.{Listed, pushAll, rowsWritten, front}
-use Rattle.install.specs.Install.{Left, oneMore, pendingInto, kept, versionsInto, pushedRows, toInstall, installed, installOf}
+use Rattle.base_limits.specs.Limits.{mostWrites, lastNumber}
+use Rattle.base_lists.specs.Lists.{join}
+use Rattle.txn.specs.declared.Phase.the-variants as phase
+use Rattle.txn.specs.declared.Transaction.{Transaction}
+use Rattle.txn.specs.Methods.{withWrites}
+use Rattle.txn_needs.specs.Needs.{Listed, pushAll, rowsWritten, front}
+use Rattle.finish_install.specs.Install.{Left, oneMore, pendingInto, kept, versionsInto, pushedRows, toInstall, installed, installOf}
 use Rattle.tightness.specs.Wrong.{Excludes}
 use Rattle.tightness.proofs.Apart.{apart, itself, numberIn, count}
 use Rattle.tightness.proofs.Computes.{computes}

@@ -7,7 +7,7 @@ use mathlib.Core.List.{List, [], _∷_, _++_}
 use lib.Dec.{ltb}
 use lib.ListN.{getD, replicate}
 use Rattle.model.specs.Report.{line}
-use Rattle.lines.specs.Lines.{Written, writtenAt}
+use Rattle.report_lines.specs.Lines.{Written, writtenAt}
 use Rattle.tightness.specs.Wrong.{Excludes}
 use Rattle.tightness.proofs.Apart.{apart, itself}
 use Rattle.tightness.proofs.Computes.{computes}

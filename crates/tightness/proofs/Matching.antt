@@ -5,15 +5,15 @@ use mathlib.Core.Path.{refl}
 use mathlib.Core.Bool.{cond}
 use mathlib.Core.List.{List, []}
 use lib.Dec.{eqb}
-use Rattle.tables.specs.Lists.{writeAt}
-use Rattle.scans.specs.Scans.{latestPending}
-use Rattle.scans.specs.declared.Found.{Found}
-use Rattle.scans.specs.declared.Found.the-variants as place
-use Rattle.record.specs.declared.Phase.the-variants as phase
-use Rattle.record.specs.declared.Transaction.{Transaction}
-use Rattle.matching.specs.declared.Match.{Match}
-use Rattle.matching.specs.declared.Match.the-variants.{No, Write}
-use Rattle.matching.specs.Matching.{Look, look, matchBy, matchOf, isMatch}
+use Rattle.table.specs.Lists.{writeAt}
+use Rattle.table_scans.specs.Scans.{latestPending}
+use Rattle.table_scans.specs.declared.Found.{Found}
+use Rattle.table_scans.specs.declared.Found.the-variants as place
+use Rattle.txn.specs.declared.Phase.the-variants as phase
+use Rattle.txn.specs.declared.Transaction.{Transaction}
+use Rattle.read_match.specs.declared.Match.{Match}
+use Rattle.read_match.specs.declared.Match.the-variants.{No, Write}
+use Rattle.read_match.specs.Matching.{Look, look, matchBy, matchOf, isMatch}
 use Rattle.tightness.specs.Wrong.{Excludes}
 use Rattle.tightness.proofs.Apart.{apart, bit}
 use Rattle.tightness.proofs.Computes.{computes}

@@ -6,13 +6,13 @@ use mathlib.Core.Bool.{_&&_}
 use mathlib.Core.List.{List, map}
 use lib.Dec.{leb}
 use lib.ListN.{getD, replicate}
-use Rattle.limits.specs.Limits.{mostRows, mostVersions, mostBuckets, mostLive}
+use Rattle.base_limits.specs.Limits.{mostRows, mostVersions, mostBuckets, mostLive}
 use Rattle.model.specs.Shape as model
 use Rattle.model.specs.Machine.{canOpen}
-use Rattle.record.specs.Methods.{idleOf}
-use Rattle.record.specs.declared.Transaction.{Transaction}
-use Rattle.places.specs.declared.Sizes.{Sizes}
-use Rattle.steps.specs.Words.{sizesView, freePlaces}
+use Rattle.txn.specs.Methods.{idleOf}
+use Rattle.txn.specs.declared.Transaction.{Transaction}
+use Rattle.txn_places.specs.declared.Sizes.{Sizes}
+use Rattle.step.specs.Words.{sizesView, freePlaces}
 use Rattle.tightness.specs.Wrong.{Excludes}
 use Rattle.tightness.proofs.Apart.{apart, bit}
 use Rattle.tightness.proofs.Computes.{computes}

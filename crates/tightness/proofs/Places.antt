@@ -6,15 +6,15 @@ use mathlib.Core.Bool.{Bool, cond, not, _&&_, _||_}
 use mathlib.Core.List.{List}
 use lib.Dec.{eqb}
 use lib.ListN.{length, getD, set, replicate}
-use Rattle.limits.specs.Limits.{mostLive}
-use Rattle.model.specs.Lists.{first}
+use Rattle.base_limits.specs.Limits.{mostLive}
+use Rattle.base_lists.specs.Lists.{first}
 use Rattle.model.specs.Store.{rank}
-use Rattle.protocol.specs.declared.Step.{Step}
-use Rattle.protocol.specs.declared.Step.the-variants as ask
-use Rattle.record.specs.View.{phaseView}
-use Rattle.record.specs.declared.Phase.{Phase}
-use Rattle.record.specs.declared.Phase.the-variants as phase
-use Rattle.places.specs.Places.{wantedOf, isBegin, missesOf, placeFrom, placeIn, activeNumber, preparedCount, liveIn}
+use Rattle.base_protocol.specs.declared.Step.{Step}
+use Rattle.base_protocol.specs.declared.Step.the-variants as ask
+use Rattle.txn.specs.View.{phaseView}
+use Rattle.txn.specs.declared.Phase.{Phase}
+use Rattle.txn.specs.declared.Phase.the-variants as phase
+use Rattle.txn_places.specs.Places.{wantedOf, isBegin, missesOf, placeFrom, placeIn, activeNumber, preparedCount, liveIn}
 use Rattle.tightness.specs.Wrong.{Excludes}
 use Rattle.tightness.proofs.Apart.{apart, itself, bit}
 use Rattle.tightness.proofs.Computes.{computes}

@@ -6,11 +6,11 @@ use mathlib.Core.Bool.{not}
 use mathlib.Core.List.{List, [], _∷_}
 use lib.Dec.{eqb}
 use lib.ListN.{length, getD}
-use Rattle.limits.specs.Limits.{mostRows}
-use Rattle.model.specs.Lists.{pick}
-use Rattle.tables.specs.Fields.{postedOf, postedKeyOf}
-use Rattle.tables.specs.Lists.{candidates}
-use Rattle.postings.specs.Postings.{postedUpTo, keptIn}
+use Rattle.base_limits.specs.Limits.{mostRows}
+use Rattle.base_lists.specs.Lists.{pick}
+use Rattle.table.specs.Fields.{postedOf, postedKeyOf}
+use Rattle.table.specs.Lists.{candidates}
+use Rattle.table_postings.specs.Postings.{postedUpTo, keptIn}
 use Rattle.tightness.specs.Wrong.{Excludes}
 use Rattle.tightness.proofs.Apart.{apart}
 use Rattle.tightness.proofs.Computes.{computes}

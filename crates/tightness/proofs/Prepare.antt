@@ -6,21 +6,21 @@ use mathlib.Core.Bool.{cond, not}
 use mathlib.Core.List.{List, [], _∷_}
 use lib.Dec.{eqb, ltb}
 use lib.ListN.{getD, set, replicate}
-use Rattle.limits.specs.Limits.{mostLive, mostWrites}
+use Rattle.base_limits.specs.Limits.{mostLive, mostWrites}
 use Rattle.model.specs.Log.{total}
 use Rattle.model.specs.Store.{rank}
-use Rattle.protocol.specs.declared.Answer.the-variants as tell
-use Rattle.tables.specs.Fields.{rowWords}
-use Rattle.record.specs.View.{phaseView}
-use Rattle.record.specs.Methods.{withReads, refusedOf}
-use Rattle.record.specs.declared.Phase.the-variants as phase
-use Rattle.record.specs.declared.Transaction.{Transaction}
-use Rattle.record.specs.declared.Answered.{Answered}
-use Rattle.holders.specs.Holders.{claimAll}
-use Rattle.holders.specs.Needs.{front}
-use Rattle.install.specs.Install.{pendingInto, versionsInto}
-use Rattle.verdict.specs.Judged.{verdictOf}
-use Rattle.prepare.specs.Prepare.{readsTakenIn, validateOf, versionsIn, reservedIn, neededInto, Left, left, mostNeeded, prepareWith, prepareOf}
+use Rattle.base_protocol.specs.declared.Answer.the-variants as tell
+use Rattle.table.specs.Fields.{rowWords}
+use Rattle.txn.specs.View.{phaseView}
+use Rattle.txn.specs.Methods.{withReads, refusedOf}
+use Rattle.txn.specs.declared.Phase.the-variants as phase
+use Rattle.txn.specs.declared.Transaction.{Transaction}
+use Rattle.txn.specs.declared.Answered.{Answered}
+use Rattle.txn_needs.specs.Holders.{claimAll}
+use Rattle.txn_needs.specs.Needs.{front}
+use Rattle.finish_install.specs.Install.{pendingInto, versionsInto}
+use Rattle.write_verdict.specs.Judged.{verdictOf}
+use Rattle.write_prepare.specs.Prepare.{readsTakenIn, validateOf, versionsIn, reservedIn, neededInto, Left, left, mostNeeded, prepareWith, prepareOf}
 use Rattle.tightness.specs.Wrong.{Excludes}
 use Rattle.tightness.proofs.Apart.{apart, itself, numberIn}
 use Rattle.tightness.proofs.Computes.{computes}

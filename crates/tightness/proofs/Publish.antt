@@ -7,14 +7,14 @@ use mathlib.Core.List.{List, [], _∷_}
 use lib.Dec.{eqb}
 use lib.ListN.{getD}
 use Rattle.model.specs.Store.{rank, bucketIn}
-use Rattle.protocol.specs.declared.Answer.the-variants as tell
-use Rattle.record.specs.View.{phaseView}
-use Rattle.record.specs.Methods.{withPhase, refusedOf}
-use Rattle.record.specs.declared.Phase.{Phase}
-use Rattle.record.specs.declared.Phase.the-variants as phase
-use Rattle.record.specs.declared.Transaction.{Transaction}
-use Rattle.record.specs.declared.Answered.{Answered}
-use Rattle.publish.specs.Publish.{Left, freedIn, endOf, publishOf, abortOf}
+use Rattle.base_protocol.specs.declared.Answer.the-variants as tell
+use Rattle.txn.specs.View.{phaseView}
+use Rattle.txn.specs.Methods.{withPhase, refusedOf}
+use Rattle.txn.specs.declared.Phase.{Phase}
+use Rattle.txn.specs.declared.Phase.the-variants as phase
+use Rattle.txn.specs.declared.Transaction.{Transaction}
+use Rattle.txn.specs.declared.Answered.{Answered}
+use Rattle.finish_publish.specs.Publish.{Left, freedIn, endOf, publishOf, abortOf}
 use Rattle.tightness.specs.Wrong.{Excludes}
 use Rattle.tightness.proofs.Apart.{apart, numberIn}
 use Rattle.tightness.proofs.Computes.{computes}

@@ -7,13 +7,13 @@ use mathlib.Core.List.{List, [], _∷_}
 use lib.Dec.{eqb, leb}
 use lib.ListN.{getD}
 use Rattle.model.specs.Store.{rank, bucketIn, keyIn}
-use Rattle.tables.specs.Lists.{writes}
-use Rattle.record.specs.declared.Phase.{Phase}
-use Rattle.record.specs.declared.Phase.the-variants as phase
-use Rattle.record.specs.declared.Transaction.{Transaction}
-use Rattle.record.specs.declared.Answered.{Answered}
-use Rattle.record.specs.View.{phaseView}
-use Rattle.record.specs.Methods.{idleOf, withPhase, withMark, takenBy, refusedOf, Left, LeftLists, left, captureAt, captureOf, writeOf, collectOf}
+use Rattle.table.specs.Lists.{writes}
+use Rattle.txn.specs.declared.Phase.{Phase}
+use Rattle.txn.specs.declared.Phase.the-variants as phase
+use Rattle.txn.specs.declared.Transaction.{Transaction}
+use Rattle.txn.specs.declared.Answered.{Answered}
+use Rattle.txn.specs.View.{phaseView}
+use Rattle.txn.specs.Methods.{idleOf, withPhase, withMark, takenBy, refusedOf, Left, LeftLists, left, captureAt, captureOf, writeOf, collectOf}
 use Rattle.tightness.specs.Wrong.{Excludes}
 use Rattle.tightness.proofs.Apart.{apart, either-way, itself, bit, numberIn}
 use Rattle.tightness.proofs.Computes.{computes}

@@ -4,10 +4,10 @@ use Prim.Native.Nat.{ℕ, suc, _+_}
 use mathlib.Core.Path.{refl}
 use mathlib.Core.List.{List, [], _∷_}
 use lib.ListN.{length}
-use Rattle.limits.specs.Limits.{mostRecords}
-use Rattle.recording.specs.Recording.{knownPointers, planned, recordsFor, putRecords, LeftRecords, keptRecords, recordedOf}
-use Rattle.recording.specs.declared.Recorded.{Recorded}
-use Rattle.recording.specs.declared.Recorded.the-variants.{TooMany, Kept}
+use Rattle.base_limits.specs.Limits.{mostRecords}
+use Rattle.read_record.specs.Recording.{knownPointers, planned, recordsFor, putRecords, LeftRecords, keptRecords, recordedOf}
+use Rattle.read_record.specs.declared.Recorded.{Recorded}
+use Rattle.read_record.specs.declared.Recorded.the-variants.{TooMany, Kept}
 use Rattle.tightness.specs.Wrong.{Excludes}
 use Rattle.tightness.proofs.Apart.{apart}
 use Rattle.tightness.proofs.Computes.{computes}

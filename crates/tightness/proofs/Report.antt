@@ -6,13 +6,13 @@ use mathlib.Core.List.{List, [], _∷_}
 use lib.ListN.{getD}
 use Rattle.model.specs.Refusals.{Malformed, WrongShape, refusalNumber}
 use Rattle.model.specs.Report.{openWord, badWord, wordOf, line}
-use Rattle.protocol.specs.View.{asked}
-use Rattle.protocol.specs.declared.Step.{Step}
-use Rattle.protocol.specs.declared.Step.the-variants as ask
-use Rattle.protocol.specs.declared.Answer.{Answer}
-use Rattle.protocol.specs.declared.Answer.the-variants as tell
-use Rattle.lines.specs.Lines.{Written, writtenAt}
-use Rattle.answers.specs.Answers.{valuesOf}
+use Rattle.base_protocol.specs.View.{asked}
+use Rattle.base_protocol.specs.declared.Step.{Step}
+use Rattle.base_protocol.specs.declared.Step.the-variants as ask
+use Rattle.base_protocol.specs.declared.Answer.{Answer}
+use Rattle.base_protocol.specs.declared.Answer.the-variants as tell
+use Rattle.report_lines.specs.Lines.{Written, writtenAt}
+use Rattle.report_answers.specs.Answers.{valuesOf}
 use Rattle.report.specs.Lines.{lineFor, openLine, badLine}
 use Rattle.tightness.specs.Wrong.{Excludes}
 use Rattle.tightness.proofs.Apart.{apart}

@@ -7,13 +7,13 @@ use mathlib.Core.List.{List, [], _∷_, _++_}
 use lib.Dec.{eqb}
 use lib.ListN.{getD, replicate}
 use Rattle.model.specs.Store.{rank, keyIn}
-use Rattle.tables.specs.Fields.{versionWords}
-use Rattle.record.specs.View.{phaseView}
-use Rattle.record.specs.Methods.{withCandidates}
-use Rattle.record.specs.declared.Phase.the-variants as phase
-use Rattle.record.specs.declared.Transaction.{Transaction}
-use Rattle.matching.specs.Matching.{look}
-use Rattle.reads.specs.Rows.{matchedRows, LeftRows, refusedRows, answerOf, readingOf, rowsOf}
+use Rattle.table.specs.Fields.{versionWords}
+use Rattle.txn.specs.View.{phaseView}
+use Rattle.txn.specs.Methods.{withCandidates}
+use Rattle.txn.specs.declared.Phase.the-variants as phase
+use Rattle.txn.specs.declared.Transaction.{Transaction}
+use Rattle.read_match.specs.Matching.{look}
+use Rattle.read.specs.Rows.{matchedRows, LeftRows, refusedRows, answerOf, readingOf, rowsOf}
 use Rattle.tightness.specs.Wrong.{Excludes}
 use Rattle.tightness.proofs.Apart.{apart, numberIn}
 use Rattle.tightness.proofs.Computes.{computes}

@@ -4,12 +4,12 @@ use Prim.Native.Nat.{ℕ, _+_, _-_, min}
 use mathlib.Core.Path.{refl}
 use mathlib.Core.Bool.{Bool}
 use mathlib.Core.List.{List, [], _∷_, map}
-use Rattle.limits.specs.Limits.{mostIndexReads, mostWrites, mostRecords}
+use Rattle.base_limits.specs.Limits.{mostIndexReads, mostWrites, mostRecords}
 use lib.ListN.{take}
-use Rattle.model.specs.Lists.{member, least}
-use Rattle.tables.specs.Lists.{records, readsOf, writesOf, recordsOf}
-use Rattle.scans.specs.declared.Found.{Found}
-use Rattle.scans.specs.Scans as spec
+use Rattle.base_lists.specs.Lists.{member, least}
+use Rattle.table.specs.Lists.{records, readsOf, writesOf, recordsOf}
+use Rattle.table_scans.specs.declared.Found.{Found}
+use Rattle.table_scans.specs.Scans as spec
 use Rattle.tightness.specs.Wrong.{Excludes}
 use Rattle.tightness.proofs.Apart.{apart, itself, bit, placeFound}
 use Rattle.tightness.proofs.Computes.{computes}

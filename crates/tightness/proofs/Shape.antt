@@ -7,16 +7,16 @@ use mathlib.Core.List.{[], map}
 use lib.Dec.{leb}
 use lib.ListN.{length, getD, replicate, set}
 use Rattle.model.specs.Shape.{rightShape}
-use Rattle.tables.specs.Fields.{rowWords, versionWords, bucketWords}
-use Rattle.tables.specs.Lists.{listsWords}
-use Rattle.record.specs.declared.Phase.the-variants as phase
-use Rattle.record.specs.declared.Transaction.{Transaction}
-use Rattle.places.specs.declared.Sizes.{Sizes}
-use Rattle.places.specs.declared.Others.{Others}
-use Rattle.steps.specs.Words.{view, freePlaces, othersIn}
+use Rattle.table.specs.Fields.{rowWords, versionWords, bucketWords}
+use Rattle.table.specs.Lists.{listsWords}
+use Rattle.txn.specs.declared.Phase.the-variants as phase
+use Rattle.txn.specs.declared.Transaction.{Transaction}
+use Rattle.txn_places.specs.declared.Sizes.{Sizes}
+use Rattle.txn_places.specs.declared.Others.{Others}
+use Rattle.step.specs.Words.{view, freePlaces, othersIn}
 use Rattle.shape.specs.Shape.{tablesLent, tablesFit, shapeOf}
 use Rattle.shape.specs.declared.Machine.{Machine}
-use Rattle.turns.specs.Turns.{freshOf, closedOf}
+use Rattle.call.specs.Turns.{freshOf, closedOf}
 use Rattle.tightness.specs.Wrong.{Excludes}
 use Rattle.tightness.proofs.Apart.{apart, bit}
 use Rattle.tightness.proofs.Computes.{computes}

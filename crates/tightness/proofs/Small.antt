@@ -5,20 +5,20 @@ use mathlib.Core.Path.{_≡_, refl}
 use mathlib.Core.Bool.{true, false}
 use mathlib.Core.List.{List, [], _∷_, _++_}
 use lib.ListN.{replicate, set}
-use Rattle.limits.specs.Limits.{mostActive}
-use Rattle.model.specs.Lists.{member, pick}
+use Rattle.base_limits.specs.Limits.{mostActive}
+use Rattle.base_lists.specs.Lists.{member, pick}
 use Rattle.model.specs.Store.{bucketIn}
-use Rattle.tables.specs.Fields.{rowWords, versionWords, bucketWords}
-use Rattle.tables.specs.Lists.{Kind, writes, listsWords}
-use Rattle.chain.specs.Chain.{activeOf}
-use Rattle.chain.specs.declared.Snapshot.{Snapshot}
-use Rattle.record.specs.View.{phaseView}
-use Rattle.record.specs.Methods.{withWrites}
-use Rattle.record.specs.declared.Phase.{Phase}
-use Rattle.record.specs.declared.Phase.the-variants as phase
-use Rattle.record.specs.declared.Transaction.{Transaction}
-use Rattle.places.specs.declared.Sizes.{Sizes}
-use Rattle.steps.specs.Words.{Words, freePlaces}
+use Rattle.table.specs.Fields.{rowWords, versionWords, bucketWords}
+use Rattle.table.specs.Lists.{Kind, writes, listsWords}
+use Rattle.table_chain.specs.Chain.{activeOf}
+use Rattle.table_chain.specs.declared.Snapshot.{Snapshot}
+use Rattle.txn.specs.View.{phaseView}
+use Rattle.txn.specs.Methods.{withWrites}
+use Rattle.txn.specs.declared.Phase.{Phase}
+use Rattle.txn.specs.declared.Phase.the-variants as phase
+use Rattle.txn.specs.declared.Transaction.{Transaction}
+use Rattle.txn_places.specs.declared.Sizes.{Sizes}
+use Rattle.step.specs.Words.{Words, freePlaces}
 use Rattle.shape.specs.Shape.{shapeOf, wordsOf}
 use Rattle.shape.specs.declared.Machine.{Machine}
 use Rattle.tightness.proofs.Computes.{computes}

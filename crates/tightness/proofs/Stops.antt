@@ -5,12 +5,12 @@ use mathlib.Core.Path.{refl}
 use mathlib.Core.List.{List}
 use lib.ListN.{getD}
 use Rattle.model.specs.Refusals.{WrongSize, Malformed, refusalNumber}
-use Rattle.lines.specs.declared.Wrote.{Wrote}
-use Rattle.lines.specs.declared.Wrote.the-variants.{Next, Full}
-use Rattle.lines.specs.Lines.{writtenAt}
+use Rattle.report_lines.specs.declared.Wrote.{Wrote}
+use Rattle.report_lines.specs.declared.Wrote.the-variants.{Next, Full}
+use Rattle.report_lines.specs.Lines.{writtenAt}
 use Rattle.report.specs.Lines.{openLine, badLine}
-use Rattle.stops.specs.declared.Stopped.{Stopped}
-use Rattle.stops.specs.Stops.{Left, stopAfter, stopWith, malformedAt, unopenedAt}
+use Rattle.replay_stop.specs.declared.Stopped.{Stopped}
+use Rattle.replay_stop.specs.Stops.{Left, stopAfter, stopWith, malformedAt, unopenedAt}
 use Rattle.tightness.specs.Wrong.{Excludes}
 use Rattle.tightness.proofs.Apart.{apart}
 use Rattle.tightness.proofs.Computes.{computes}

@@ -4,8 +4,8 @@ use Prim.Native.Nat.{ℕ, zero, suc, _-_}
 use mathlib.Core.Path.{refl}
 use mathlib.Core.List.{List, [], _∷_}
 use lib.ListN.{getD}
-use Rattle.tables.specs.Fields.{setClaim, setHolder}
-use Rattle.sweeps.specs.Sweeps.{releaseEvery, unclaimEvery}
+use Rattle.table.specs.Fields.{setClaim, setHolder}
+use Rattle.table_sweeps.specs.Sweeps.{releaseEvery, unclaimEvery}
 use Rattle.tightness.specs.Wrong.{Excludes}
 use Rattle.tightness.proofs.Apart.{apart}
 use Rattle.tightness.proofs.Computes.{computes}

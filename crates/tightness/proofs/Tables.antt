@@ -7,13 +7,13 @@ use mathlib.Core.List.{List, [], _∷_}
 use native.Mathlib.Omega.{arith}
 use lib.ListN.{length, getD, set}
 use lib.Seq.{getD-set-same, getD-set-other}
-use Rattle.tables.specs.Words.{field, setField}
-use Rattle.tables.specs.Regions.{words}
-use Rattle.tables.specs.Lists.{Kind, reads, writes, records, candidates, placeOf, readAt, writeAt, recordAt, stored}
-use Rattle.tables.specs.declared.lists.IndexRead.{IndexRead}
-use Rattle.tables.specs.declared.lists.Write.{Write}
-use Rattle.tables.specs.declared.lists.ReadRecord.{ReadRecord}
-use Rattle.tables.proofs.Spans.{words-at}
+use Rattle.table.specs.Words.{field, setField}
+use Rattle.table.specs.Regions.{words}
+use Rattle.table.specs.Lists.{Kind, reads, writes, records, candidates, placeOf, readAt, writeAt, recordAt, stored}
+use Rattle.table.specs.declared.lists.IndexRead.{IndexRead}
+use Rattle.table.specs.declared.lists.Write.{Write}
+use Rattle.table.specs.declared.lists.ReadRecord.{ReadRecord}
+use Rattle.table.proofs.Spans.{words-at}
 use Rattle.tightness.specs.Wrong.{Excludes}
 use Rattle.tightness.proofs.Apart.{apart, itself}
 use Rattle.tightness.proofs.Computes.{computes}

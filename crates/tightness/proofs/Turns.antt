@@ -6,17 +6,17 @@ use mathlib.Core.Bool.{true, cond, not}
 use mathlib.Core.List.{List, []}
 use lib.ListN.{getD, set}
 use Rattle.model.specs.Machine.{canOpen}
-use Rattle.protocol.specs.declared.Step.{Step}
-use Rattle.protocol.specs.declared.Step.the-variants as ask
-use Rattle.protocol.specs.declared.Answer.the-variants as tell
-use Rattle.tables.specs.Fields.{rowWords, versionWords, bucketWords}
-use Rattle.record.specs.Methods.{idleOf}
-use Rattle.record.specs.declared.Phase.the-variants as phase
-use Rattle.places.specs.declared.Sizes.{Sizes}
-use Rattle.steps.specs.Words.{sizesView, movedBy, wordsAfter}
+use Rattle.base_protocol.specs.declared.Step.{Step}
+use Rattle.base_protocol.specs.declared.Step.the-variants as ask
+use Rattle.base_protocol.specs.declared.Answer.the-variants as tell
+use Rattle.table.specs.Fields.{rowWords, versionWords, bucketWords}
+use Rattle.txn.specs.Methods.{idleOf}
+use Rattle.txn.specs.declared.Phase.the-variants as phase
+use Rattle.txn_places.specs.declared.Sizes.{Sizes}
+use Rattle.step.specs.Words.{sizesView, movedBy, wordsAfter}
 use Rattle.shape.specs.Shape.{tablesLent, shapeOf, wordsOf}
 use Rattle.shape.specs.declared.Machine.{Machine}
-use Rattle.turns.specs.Turns.{Left, turnedBy, wordsTurned, turnOf, cleared, freshOf, closedOf, refusedOpen, openOf}
+use Rattle.call.specs.Turns.{Left, turnedBy, wordsTurned, turnOf, cleared, freshOf, closedOf, refusedOpen, openOf}
 use Rattle.tightness.specs.Wrong.{Excludes}
 use Rattle.tightness.proofs.Apart.{apart, numberIn}
 use Rattle.tightness.proofs.Computes.{computes}

@@ -5,17 +5,17 @@ use mathlib.Core.Path.{refl}
 use mathlib.Core.Bool.{false}
 use mathlib.Core.List.{List, [], _∷_}
 use Rattle.model.specs.Verdict as judged
-use Rattle.protocol.specs.declared.Verdict.{Verdict}
-use Rattle.protocol.specs.declared.Verdict.the-variants as verdict
-use Rattle.tables.specs.Lists.{records}
-use Rattle.scans.specs.declared.Found.{Found}
-use Rattle.scans.specs.declared.Found.the-variants.{Nothing}
-use Rattle.chain.specs.declared.Snapshot.{Snapshot}
-use Rattle.record.specs.declared.Phase.the-variants as phase
-use Rattle.record.specs.declared.Transaction.{Transaction}
-use Rattle.record.specs.View.{snapshotView, recordsIn}
-use Rattle.record.specs.Methods.{withReads}
-use Rattle.verdict.specs.Judged.{versionsView, verdictOf, firstWhere, badIn, changedRecord}
+use Rattle.base_protocol.specs.declared.Verdict.{Verdict}
+use Rattle.base_protocol.specs.declared.Verdict.the-variants as verdict
+use Rattle.table.specs.Lists.{records}
+use Rattle.table_scans.specs.declared.Found.{Found}
+use Rattle.table_scans.specs.declared.Found.the-variants.{Nothing}
+use Rattle.table_chain.specs.declared.Snapshot.{Snapshot}
+use Rattle.txn.specs.declared.Phase.the-variants as phase
+use Rattle.txn.specs.declared.Transaction.{Transaction}
+use Rattle.txn.specs.View.{snapshotView, recordsIn}
+use Rattle.txn.specs.Methods.{withReads}
+use Rattle.write_verdict.specs.Judged.{versionsView, verdictOf, firstWhere, badIn, changedRecord}
 use Rattle.tightness.specs.Wrong.{Excludes}
 use Rattle.tightness.proofs.Apart.{apart, placeFound}
 use Rattle.tightness.proofs.Computes.{computes}

@@ -6,7 +6,7 @@ use Prim.Native.Nat.{_-_}
 use mathlib.Core.Path.{_≡_, refl, sym, _∙_}
 use native.Mathlib.Omega.{arith}
 use lib.ListN.{length, length-set}
-use Rattle.steps.specs.Words.{othersIn}
+use Rattle.step.specs.Words.{othersIn}
 use Rattle.replay.specs.Replay.{openedFrom}
 use Rattle.replay.proofs.Going.{Going, ends, stops-malformed, further, stops-full, goes}
 use Rattle.replay.proofs.Zeroes.{wordsOf, found-room, starts}

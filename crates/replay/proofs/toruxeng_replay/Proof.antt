@@ -3,7 +3,7 @@
 use borrow.Author.Needs.{needs}
 use Prim.Native.Nat.{_+_, _*_}
 use mathlib.Core.Path.{ap}
-use Rattle.stops.specs.Stops.{Left}
+use Rattle.replay_stop.specs.Stops.{Left}
 use Rattle.replay.proofs.toruxeng_replay.Statement.{statement}
 use Rattle.replay.proofs.toruxeng_replay.Tie as tie
 

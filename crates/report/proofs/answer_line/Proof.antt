@@ -5,7 +5,7 @@ use mathlib.Core.Path.{_≡_, ap, sym, _∙_}
 use native.Mathlib.Omega.{arith}
 use lib.ListN.{length}
 use lib.Seq.{length-take-le}
-use Rattle.lines.specs.Lines.{writtenAt}
+use Rattle.report_lines.specs.Lines.{writtenAt}
 use Rattle.report.proofs.Answers.{line-said}
 use Rattle.report.proofs.answer_line.Statement.{statement}
 use Rattle.report.proofs.answer_line.Tie as tie

@@ -5,9 +5,9 @@ use mathlib.Core.Path.{_≡_}
 use mathlib.Core.Bool.{true}
 use Prim.Native.Nat.{_≤_, _-_}
 use native.Mathlib.Omega.{arith}
-use Rattle.links.proofs.Laws.{every-none, every-next, every-done, every-fails}
+use Rattle.shape_chains.proofs.Laws.{every-none, every-next, every-done, every-fails}
 use borrow.Author.Tests.{not-true, not-false}
-use Rattle.model.specs.Lists.{every}
+use Rattle.base_lists.specs.Lists.{every}
 use Rattle.shape.specs.Tests.{distinctAt}
 use Rattle.shape.proofs.distinct_numbers.Statement.{statement}
 use Rattle.shape.proofs.distinct_numbers.Tie as tie

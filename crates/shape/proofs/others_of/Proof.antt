@@ -5,9 +5,9 @@ use mathlib.Core.Path.{_≡_, refl}
 use Prim.Native.Nat.{_≤_, _-_}
 use native.Mathlib.Omega.{arith}
 use lib.ListN.{length, take, length-set}
-use Rattle.record.specs.declared.Transaction.{Transaction}
-use Rattle.places.specs.Places.{activeNumber, preparedCount}
-use Rattle.steps.specs.Words.{othersIn}
+use Rattle.txn.specs.declared.Transaction.{Transaction}
+use Rattle.txn_places.specs.Places.{activeNumber, preparedCount}
+use Rattle.step.specs.Words.{othersIn}
 use Rattle.shape.proofs.Laws.{filled-next, filled-all}
 use Rattle.shape.proofs.others_of.Statement.{statement}
 use Rattle.shape.proofs.others_of.Tie as tie

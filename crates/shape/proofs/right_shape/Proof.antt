@@ -6,11 +6,11 @@ use Prim.Native.Nat.{ℕ, _+_}
 use lib.Dec.{leb}
 use lib.ListN.{length, length-map}
 use borrow.Author.Tests.{le-leb, lt-leb, not-true, not-false}
-use Rattle.limits.specs.Limits.{lastNumber}
-use Rattle.prepare.specs.Prepare.{reservedIn}
-use Rattle.places.specs.declared.Others.{Others}
-use Rattle.places.specs.Places.{liveIn}
-use Rattle.steps.specs.Words.{othersIn}
+use Rattle.base_limits.specs.Limits.{lastNumber}
+use Rattle.write_prepare.specs.Prepare.{reservedIn}
+use Rattle.txn_places.specs.declared.Others.{Others}
+use Rattle.txn_places.specs.Places.{liveIn}
+use Rattle.step.specs.Words.{othersIn}
 use Rattle.shape.specs.Shape.{tablesFit, wordsOf}
 use Rattle.shape.specs.Tests.{allDistinct}
 use Rattle.shape.proofs.Joined.{shape-tested}

@@ -7,11 +7,11 @@ use Prim.Native.Nat.{_≤_, _-_}
 use native.Mathlib.Omega.{arith}
 use lib.ListN.{length, getD}
 use borrow.Author.Tests.{not-true, not-false}
-use Rattle.model.specs.Lists.{every}
-use Rattle.record.specs.Methods.{idleOf}
-use Rattle.links.proofs.Laws.{every-none, every-next, every-done, every-fails}
+use Rattle.base_lists.specs.Lists.{every}
+use Rattle.txn.specs.Methods.{idleOf}
+use Rattle.shape_chains.proofs.Laws.{every-none, every-next, every-done, every-fails}
 use Rattle.shape.proofs.Laws.{test-at}
-use Rattle.fits.specs.Fits.{placeFits}
+use Rattle.shape_txn.specs.Fits.{placeFits}
 use Rattle.shape.proofs.txns_fit.Statement.{statement}
 use Rattle.shape.proofs.txns_fit.Tie as tie
 

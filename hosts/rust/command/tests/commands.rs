@@ -7,7 +7,7 @@ use std::os::unix::ffi::OsStringExt;
 use std::path::PathBuf;
 use std::process::{Command, Output, Stdio};
 
-const PRINTED: &str = include_str!("../../../../crates/replay_log/stdout");
+const PRINTED: &str = include_str!("../../../../crates/run_log/stdout");
 
 /// The worked example of document 01.
 const WORDS: &str = "# the worked example

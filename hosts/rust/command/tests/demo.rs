@@ -22,7 +22,7 @@ fn assert_together(words: &[u8], log: &str, report: &str) {
 
 #[test]
 fn the_worked_example() {
-    assert_together(&file("demo/worked_example.txt"), "crates/replay_log/stdin", "crates/replay_log/stdout");
+    assert_together(&file("demo/worked_example.txt"), "crates/run_log/stdin", "crates/run_log/stdout");
 }
 
 #[test]

@@ -9,7 +9,7 @@ use std::process::Command;
 use document::worked_example;
 use toruxeng::{replay, replay_or_abort, Log, Refusal, Status, Stopped};
 
-const PRINTED: &str = include_str!("../../../../crates/replay_log/stdout");
+const PRINTED: &str = include_str!("../../../../crates/run_log/stdout");
 const GUARD: usize = 64;
 const MARK: u8 = 0xA5;
 

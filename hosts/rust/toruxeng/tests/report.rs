@@ -2,7 +2,7 @@
 
 use toruxeng::{Advice, Kind, Line, Log, Refusal, Report, Values, Verdict};
 
-const PRINTED: &str = include_str!("../../../../crates/replay_log/stdout");
+const PRINTED: &str = include_str!("../../../../crates/run_log/stdout");
 
 fn only_line(text: &str) -> Line<'_> {
     let mut lines = Report::of_bytes(text.as_bytes()).expect("a report").lines();

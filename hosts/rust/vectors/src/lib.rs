@@ -1,4 +1,4 @@
-//! The hand-made logs of `crates/cases/data`, each with the report that document 01 asks for.
+//! The hand-made logs of `crates/run_cases/data`, each with the report that document 01 asks for.
 
 use std::fs;
 use std::path::Path;
@@ -16,7 +16,7 @@ pub struct Vector {
 /// # Panics
 /// Where the file is missing, is cut, or has more or fewer vectors than `vectors.txt` names.
 pub fn all() -> Vec<Vector> {
-    let folder = Path::new(env!("CARGO_MANIFEST_DIR")).join("../../../crates/cases/data");
+    let folder = Path::new(env!("CARGO_MANIFEST_DIR")).join("../../../crates/run_cases/data");
     let words = fs::read_to_string(folder.join("vectors.txt")).expect("the vectors in words");
     let packed = fs::read(folder.join("vectors")).expect("the vectors as bytes");
     let mut rest = &packed[..];

@@ -1,0 +1,98 @@
+-- A public step put together from what its callees leave, and tables cleared word by word.
+-- Assumes nothing.
+use Prim.Native.Nat.{ℕ, zero, suc, _+_, _*_, _≤_, _<_}
+use mathlib.Core.Path.{_≡_, refl, sym, ap, _∙_}
+use mathlib.Core.Bool.{true, _&&_}
+use mathlib.Core.List.{List, [], _∷_, _++_}
+use native.Mathlib.Numerals.{add-one}
+use native.Mathlib.Omega.{arith}
+use lib.Dec.{leb}
+use lib.ListN.{length, drop, getD, set, replicate}
+use borrow.Author.Tests.{leb-true}
+use Rattle.base_limits.specs.Limits.{mostLive}
+use Rattle.base_lists.proofs.ListLaws.{and-l, and-r}
+use Rattle.base_protocol.specs.declared.Step.{Step}
+use Rattle.txn.specs.Methods.{idleOf}
+use Rattle.txn.specs.declared.Transaction.{Transaction}
+use Rattle.txn_places.specs.declared.Sizes.{Sizes}
+use Rattle.txn_places.specs.declared.Others.{Others}
+use Rattle.txn_places.specs.Places.{wantedOf, placeIn}
+use Rattle.step.specs.Steps.{Moved, stepOf}
+use Rattle.step.specs.Words.{othersIn, placeFor, movedBy}
+use Rattle.step_bridge.proofs.Places.{default-any}
+use Rattle.shape.specs.Shape.{tablesLent, tablesFit, shapeOf, wordsOf}
+use Rattle.shape.specs.declared.Machine.{Machine}
+use Rattle.call.specs.declared.Turned.{Turned}
+use Rattle.call.specs.Turns.{Left, left, asker, Swept, sweptFor, turnOf, placedOf, cleared}
+
+-- the list lent for the rows of a read is no part of the shape
+pub shape-found : (rows versions buckets lists found : List ℕ) (m : Machine) → shapeOf (wordsOf rows versions buckets lists found m) ≡ shapeOf (wordsOf rows versions buckets lists [] m)
+unfolding shapeOf tablesFit
+shape-found rows versions buckets lists found m = refl
+
+-- the step of the transaction at its place
+module _ (rows versions buckets lists found : List ℕ) (m : Machine) (s : Step) (o : Others) (x p : ℕ) (d : Transaction) (eight : length (m .txns) ≡ mostLive)
+    (others : o ≡ othersIn (m .txns)) (asks : x ≡ wantedOf s) (place : p ≡ placeIn (o .numbers) x) (within : p < mostLive) where
+  place-same : placeFor (m .txns) s ≡ p
+  unfolding placeFor
+  place-same = sym (place ∙ rw (others, asks))
+
+  moved-same : movedBy (wordsOf rows versions buckets lists found m) s ≡ stepOf (m .sizes) o (getD (m .txns) p d) (m .clock) (m .used) s (wordsOf rows versions buckets lists found m .tables)
+  unfolding movedBy
+  moved-same = rw (place-same, others, default-any (m .txns) p (idleOf 0) d (omega arith))
+
+  asker-same : asker (wordsOf rows versions buckets lists found m) s ≡ getD (m .txns) p d
+  asker-same = rw place-same (default-any (m .txns) p (idleOf 0) d (omega arith))
+
+  pub turn-done : (mv : Moved) (sw : Swept) (r : Turned) → shapeOf (wordsOf rows versions buckets lists found m) ≡ true
+      → mv ≡ stepOf (m .sizes) o (getD (m .txns) p d) (m .clock) (m .used) s (wordsOf rows versions buckets lists found m .tables)
+      → sw ≡ sweptFor (m .sizes) (getD (m .txns) p d .number) (mv .stepped .txn .number) (mv .rows) (mv .buckets) → r ≡ placedOf m p (mv .stepped)
+      → left r (sw .rows) (mv .versions) (sw .buckets) (mv .lists) (mv .found) ≡ turnOf (wordsOf rows versions buckets lists found m) s
+  unfolding turnOf
+  turn-done mv sw r shape moved swept placed =
+      let e : movedBy (wordsOf rows versions buckets lists found m) s ≡ mv = moved-same ∙ sym moved in
+      rw (shape, e, asker-same, place-same, swept, placed)
+
+-- ---- open
+
+-- one word more is cleared
+clear-one : (i : ℕ) (l : List ℕ) → i < length l → set (replicate i 0 ++ drop i l) i 0 ≡ replicate (suc i) 0 ++ drop (suc i) l
+clear-one i [] h = absurd (omega arith)
+clear-one zero (x ∷ l) h = refl
+clear-one (suc i) (x ∷ l) h = ap (λ (r : List ℕ). 0 ∷ r) (clear-one i l (omega arith))
+
+pub clear-none : (l : List ℕ) → l ≡ cleared 0 l
+unfolding cleared
+clear-none l = refl
+
+pub clear-next : (l xs : List ℕ) (i : ℕ) → i < length l → xs ≡ cleared i l → set xs i 0 ≡ cleared (i + 1) l
+unfolding cleared
+clear-next l xs i h e = rw (e, add-one) (clear-one i l h)
+
+pub clear-done : (l xs : List ℕ) (i n : ℕ) → i ≤ n → n ≤ i → xs ≡ cleared i l → xs ≡ cleared n l
+clear-done l xs i n a b e = let d : i ≡ n = omega arith in e ∙ ap (λ (j : ℕ). cleared j l) d
+
+-- the words that a size names are there
+module _ (rows versions buckets lists : List ℕ) (z : Sizes) (e : tablesLent rows versions buckets lists z ≡ true) where
+  three : leb (4 * z .rows) (length rows) && leb (6 * suc (z .versions)) (length versions) && leb (2 * z .buckets) (length buckets) ≡ true
+  three = and-l _ (leb 4352 (length lists)) e
+
+  two : leb (4 * z .rows) (length rows) && leb (6 * suc (z .versions)) (length versions) ≡ true
+  two = and-l _ (leb (2 * z .buckets) (length buckets)) three
+
+  pub rows-lent : 4 * z .rows ≤ length rows
+  rows-lent = leb-true _ _ (and-l (leb (4 * z .rows) (length rows)) (leb (6 * suc (z .versions)) (length versions)) two)
+
+  pub versions-lent : 6 * suc (z .versions) ≤ length versions
+  versions-lent = leb-true _ _ (and-r (leb (4 * z .rows) (length rows)) (leb (6 * suc (z .versions)) (length versions)) two)
+
+  pub buckets-lent : 2 * z .buckets ≤ length buckets
+  buckets-lent = leb-true _ _ (and-r (leb (4 * z .rows) (length rows) && leb (6 * suc (z .versions)) (length versions)) (leb (2 * z .buckets) (length buckets)) three)
+
+  pub lists-lent : 4352 ≤ length lists
+  lists-lent = leb-true 4352 (length lists) (and-r (leb (4 * z .rows) (length rows) && leb (6 * suc (z .versions)) (length versions) && leb (2 * z .buckets) (length buckets)) (leb 4352 (length lists)) e)
+
+-- an empty list that was lent comes back empty
+pub lent-none : (r : Turned) (rows versions buckets lists found : List ℕ) (x : Left) → length found ≡ 0 → left r rows versions buckets lists found ≡ x → left r rows versions buckets lists [] ≡ x
+lent-none r rows versions buckets lists [] x n e = e
+lent-none r rows versions buckets lists (y ∷ found) x n e = absurd (omega arith)

@@ -1,0 +1,245 @@
+-- A call on any words is the model's public step; so any sequence of calls, the tables handed on as the last call left them, is the model's run.
+-- Assumes nothing.
+use Prim.Native.Nat.{ℕ, suc, _*_, _<_, min}
+use mathlib.Core.Path.{_≡_, refl, sym, ap, subst, _∙_}
+use mathlib.Core.Bool.{Bool, true, false, _&&_}
+use mathlib.Core.List.{List, [], _∷_}
+use native.Mathlib.Omega.{arith}
+use lib.Dec.{eqb, leb}
+use lib.ListN.{length}
+use borrow.Author.Tests.{eq-eqb, le-leb, eqb-true, leb-true}
+use Rattle.base_limits.specs.Limits.{mostLive, mostActive, mostIndexReads, mostWrites, mostRecords, mostRows}
+use Rattle.base_lists.proofs.ListLaws.{and-l, and-r, every-each}
+use Rattle.model.specs.Store.{Store}
+use Rattle.model.specs.Shape.{rightShape}
+use Rattle.model.specs.Refusals.{Step as Asked, WrongShape}
+use Rattle.model.specs.Machine as machine
+use Rattle.model.specs.Machine.{gives, step, stepIn, run}
+use Rattle.model.proofs.Good.{Good, good-run, right-shape}
+use Rattle.base_protocol.specs.declared.Step.{Step}
+use Rattle.base_protocol.specs.declared.Step.the-variants as ask
+use Rattle.base_protocol.specs.declared.Answer.the-variants as tell
+use Rattle.table.specs.Fields.{rowWords, versionWords, bucketWords}
+use Rattle.table.specs.Lists.{listsWords}
+use Rattle.txn.specs.declared.Transaction.{Transaction}
+use Rattle.shape_txn.specs.Fits.{countsFit}
+use Rattle.txn_places.specs.Places.{missesOf}
+use Rattle.read.specs.Rows.{roomFor, readingOf, rowsOf}
+use Rattle.step.specs.Steps.{stepOf}
+use Rattle.step.specs.Words.{Words, view, txnAt, placeFor, movedBy, SizedTxn, Sized}
+use Rattle.step_bridge.proofs.Listing.{every-at}
+use Rattle.step_bridge.proofs.Same.{SameAs}
+use Rattle.step_bridge.proofs.Running.{Stands}
+use Rattle.step_bridge.proofs.Stepping.{Lent}
+use Rattle.shape.specs.Shape.{tablesLent, inPlace, allInPlace, tablesFit, shapeOf}
+use Rattle.call.specs.Turns.{turnedBy, wordsTurned, turnOf}
+use Rattle.call.proofs.Laws.{rows-lent, versions-lent, buckets-lent, lists-lent}
+use Rattle.call_promises.specs.Calls.{Call, roomWithin, asking, lending, called, calls, stepsOf, Typed, CalledAs, AnyCall}
+use Rattle.call_promises.proofs.Turned.{turn-same}
+
+-- ---- the room that a call asks for
+
+-- room above the lent list counts as its length
+module _ (w : Words) where
+  rows-cut : (n room : ℕ) → movedBy w (ask.Rows n (min room (length (w .tables .found)))) ≡ movedBy w (ask.Rows n room)
+  unfolding movedBy placeFor stepOf missesOf rowsOf readingOf
+  rows-cut n room = let e : roomFor (min room (length (w .tables .found))) (length (w .tables .found)) ≡ roomFor room (length (w .tables .found)) = omega arith in rw e
+
+  room-cut : (s : Step) → turnOf w (roomWithin (length (w .tables .found)) s) ≡ turnOf w s
+  unfolding turnOf placeFor
+  room-cut ask.Begin = refl
+  room-cut (ask.Capture n k) = refl
+  room-cut (ask.Collect n) = refl
+  room-cut (ask.Rows n room) = rw (rows-cut n room)
+  room-cut (ask.Put n r k payload) = refl
+  room-cut (ask.Erase n r) = refl
+  room-cut (ask.Prepare n) = refl
+  room-cut (ask.Install n) = refl
+  room-cut (ask.End n) = refl
+  room-cut (ask.Publish n) = refl
+  room-cut (ask.Validate n) = refl
+  room-cut (ask.Abort n) = refl
+
+  cut-lent : (s : Step) → Lent w (roomWithin (length (w .tables .found)) s)
+  cut-lent ask.Begin = omega arith
+  cut-lent (ask.Capture n k) = omega arith
+  cut-lent (ask.Collect n) = omega arith
+  cut-lent (ask.Rows n room) = omega arith
+  cut-lent (ask.Put n r k payload) = omega arith
+  cut-lent (ask.Erase n r) = omega arith
+  cut-lent (ask.Prepare n) = omega arith
+  cut-lent (ask.Install n) = omega arith
+  cut-lent (ask.End n) = omega arith
+  cut-lent (ask.Publish n) = omega arith
+  cut-lent (ask.Validate n) = omega arith
+  cut-lent (ask.Abort n) = omega arith
+
+-- ---- what the words' own tests say
+
+sized-txn : (i : ℕ) (t : Transaction) → length (t .snapshot .active) ≡ mostActive → inPlace i t ≡ true → SizedTxn i t
+sized-txn i t n e =
+    let place = and-l (eqb (t .slot) i && leb (t .snapshot .«active_n») mostActive) (countsFit t) e in
+    let four = and-r (eqb (t .slot) i && leb (t .snapshot .«active_n») mostActive) (countsFit t) e in
+    let reads = leb (t .«reads_n») mostIndexReads in
+    let writes = leb (t .«writes_n») mostWrites in
+    let records = leb (t .«records_n») mostRecords in
+    let candidates = leb (t .«candidates_n») mostRows in
+    let three = and-l (reads && writes && records) candidates four in
+    let two = and-l (reads && writes) records three in
+    record {
+      slot = eqb-true (t .slot) i (and-l _ (leb (t .snapshot .«active_n») mostActive) place);
+      active = leb-true _ mostActive (and-r (eqb (t .slot) i) _ place);
+      seven = n;
+      reads = leb-true _ mostIndexReads (and-l reads writes two);
+      writes = leb-true _ mostWrites (and-r reads writes two);
+      records = leb-true _ mostRecords (and-r (reads && writes) records three);
+      candidates = leb-true _ mostRows (and-r (reads && writes && records) candidates four);
+    }
+
+fit-sized : (w : Words) → Typed w → tablesFit w ≡ true → Sized w
+unfolding tablesFit
+fit-sized w t e =
+    let lent = and-l (tablesLent (w .tables .rows) (w .tables .versions) (w .tables .buckets) (w .tables .lists) (w .sizes)) (allInPlace (w .txns)) e in
+    let placed = and-r (tablesLent (w .tables .rows) (w .tables .versions) (w .tables .buckets) (w .tables .lists) (w .sizes)) (allInPlace (w .txns)) e in
+    record {
+      eight = t .eight;
+      rows = rows-lent (w .tables .rows) (w .tables .versions) (w .tables .buckets) (w .tables .lists) (w .sizes) lent;
+      versions = versions-lent (w .tables .rows) (w .tables .versions) (w .tables .buckets) (w .tables .lists) (w .sizes) lent;
+      buckets = buckets-lent (w .tables .rows) (w .tables .versions) (w .tables .buckets) (w .tables .lists) (w .sizes) lent;
+      lists = lists-lent (w .tables .rows) (w .tables .versions) (w .tables .buckets) (w .tables .lists) (w .sizes) lent;
+      txns = λ i l. sized-txn i (txnAt w i) (t .seven i l) (every-at mostLive (λ j. inPlace j (txnAt w j)) placed i l);
+    }
+
+sized-typed : (w : Words) → Sized w → Typed w
+sized-typed w z = record { eight = z .eight; seven = λ i l. z .txns i l .seven }
+
+pub sized-fit : (w : Words) → Sized w → tablesFit w ≡ true
+unfolding tablesFit
+sized-fit w z =
+    let placed : (i : ℕ) → i < mostLive → inPlace i (txnAt w i) ≡ true = λ i l.
+    let s = z .txns i l in
+    rw (
+      eq-eqb (txnAt w i .slot) i (s .slot),
+      le-leb (txnAt w i .snapshot .«active_n») mostActive (s .active),
+      le-leb (txnAt w i .«reads_n») mostIndexReads (s .reads),
+      le-leb (txnAt w i .«writes_n») mostWrites (s .writes),
+      le-leb (txnAt w i .«records_n») mostRecords (s .records),
+      le-leb (txnAt w i .«candidates_n») mostRows (s .candidates),
+    ) in
+    rw (
+      le-leb (rowWords * w .sizes .rows) (length (w .tables .rows)) (z .rows),
+      le-leb (versionWords * suc (w .sizes .versions)) (length (w .tables .versions)) (z .versions),
+      le-leb (bucketWords * w .sizes .buckets) (length (w .tables .buckets)) (z .buckets),
+      le-leb listsWords (length (w .tables .lists)) (z .lists),
+      every-each mostLive (λ i. inPlace i (txnAt w i)) placed,
+    )
+
+-- ---- one call
+
+-- the shape is the model's, with what only the words can get wrong
+shape-is : (w : Words) → shapeOf w ≡ (tablesFit w && rightShape (view w))
+unfolding shapeOf
+shape-is w = refl
+
+-- the lent list is no part of it
+module _ (w : Words) (found : List ℕ) where
+  lent-fit : tablesFit (lending w found) ≡ tablesFit w
+  unfolding tablesFit
+  lent-fit = refl
+
+  lent-shape : shapeOf (lending w found) ≡ shapeOf w
+  unfolding shapeOf
+  lent-shape = ap (λ (b : Bool). b && rightShape (view w)) lent-fit
+
+  lent-sized : Sized w → Sized (lending w found)
+  lent-sized z = record { eight = z .eight; rows = z .rows; versions = z .versions; buckets = z .buckets; lists = z .lists; txns = z .txns }
+
+-- a store of wrong shape gets 16 in the model too
+model-right : (v : Store) (a : Asked) → rightShape v ≡ true → step v a ≡ stepIn v a
+unfolding step
+model-right v a e = rw e
+
+model-wrong : (v : Store) (a : Asked) → rightShape v ≡ false → step v a ≡ gives v (machine.Refused WrongShape)
+unfolding step
+model-wrong v a e = rw e
+
+module _ (w : Words) (c : Call) where
+  abbrev lent : Words
+  lent = lending w (c .lent)
+
+  abbrev cut : Step
+  cut = roomWithin (length (c .lent)) (c .asks)
+
+  called-wrong : shapeOf w ≡ false → called w c ≡ record { answer = tell.Refused 16; words = lent }
+  unfolding turnOf
+  called-wrong e = rw (lent-shape w (c .lent), e)
+
+  turn-right : shapeOf w ≡ true → turnOf lent cut ≡ record { answer = turnedBy lent cut .stepped .answer; words = wordsTurned lent cut }
+  unfolding turnOf
+  turn-right e = rw (lent-shape w (c .lent), e)
+
+  called-right : shapeOf w ≡ true → called w c ≡ record { answer = turnedBy lent cut .stepped .answer; words = wordsTurned lent cut }
+  called-right e = sym (room-cut lent (c .asks)) ∙ turn-right e
+
+  -- of right shape
+  module _ (z : Sized w) (e : rightShape (view w) ≡ true) where
+    right : shapeOf w ≡ true
+    right = shape-is w ∙ rw (sized-fit w z, e)
+
+    turned : SameAs lent cut (turnedBy lent cut)
+    turned = turn-same lent (lent-sized w (c .lent) z) e cut (cut-lent lent (c .asks))
+
+    pub right-sized : Sized (called w c .words)
+    right-sized = rw (called-right right) (turned .sized)
+
+    pub right-as : CalledAs w c
+    right-as =
+        let m = model-right (view w) (asking c) e in
+        record { answer = rw (called-right right, m) (turned .answer); store = rw (called-right right, m) (turned .store); found = rw (called-right right, m) (turned .lent) }
+
+  -- of wrong shape
+  wrong-as : tablesFit w ≡ true → rightShape (view w) ≡ false → CalledAs w c
+  wrong-as f e =
+      let d = called-wrong (shape-is w ∙ rw (f, e)) in
+      let m = model-wrong (view w) (asking c) e in
+      record { answer = rw (d, m); store = rw (d, m); found = rw (d, m) }
+
+  pub any-call : Typed w → AnyCall w c
+  any-call t = record {
+    fitting = λ f. by f (rightShape (view w)) refl;
+    wrong = called-wrong;
+    shape = shape-is w;
+    typed = left (shapeOf w) refl;
+  }
+    where
+      by : tablesFit w ≡ true → (b : Bool) → rightShape (view w) ≡ b → CalledAs w c
+      by f true e = right-as (fit-sized w t f) e
+      by f false e = wrong-as f e
+
+      left : (b : Bool) → shapeOf w ≡ b → Typed (called w c .words)
+      left false e = rw (called-wrong e) (record { eight = t .eight; seven = t .seven })
+      left true e =
+          let both = sym (shape-is w) ∙ e in
+          sized-typed (called w c .words) (right-sized (fit-sized w t (and-l (tablesFit w) (rightShape (view w)) both)) (and-r (tablesFit w) (rightShape (view w)) both))
+
+-- ---- any sequence of calls, from words that stand for a reached store
+
+pub stands-typed : (w : Words) → Stands w → Typed w
+stands-typed w h = sized-typed w (h .sized)
+
+pub called-as : (w : Words) → Stands w → (c : Call) → CalledAs w c
+called-as w h c = right-as w c (h .sized) (right-shape (view w) (h .good))
+
+pub called-stands : (w : Words) → Stands w → (c : Call) → Stands (called w c .words)
+unfolding run
+called-stands w h c = record { sized = right-sized w c (h .sized) (right-shape (view w) (h .good)); good = subst (λ (v : Store). Good v) (sym (called-as w h c .store)) (good-run (view w) (h .good) (asking c ∷ [])) }
+
+pub calls-stand : (w : Words) → Stands w → (cs : List Call) → Stands (calls w cs)
+unfolding calls
+calls-stand w h [] = h
+calls-stand w h (c ∷ cs) = calls-stand (called w c .words) (called-stands w h c) cs
+
+pub calls-view : (w : Words) → Stands w → (cs : List Call) → view (calls w cs) ≡ run (view w) (stepsOf cs)
+unfolding calls run
+calls-view w h [] = refl
+calls-view w h (c ∷ cs) = calls-view (called w c .words) (called-stands w h c) cs ∙ ap (λ (v : Store). run v (stepsOf cs)) (called-as w h c .store)

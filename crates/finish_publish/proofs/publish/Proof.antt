@@ -1,0 +1,62 @@
+-- `finish_publish::publish` meets its contract.
+-- Assumes nothing.
+use borrow.Author.Tests.{eq-eqb, ne-eqb}
+use Rattle.finish_publish.specs.Publish.{publishOf}
+use borrow.Author.Needs.{needs}
+use Rattle.finish_publish.proofs.publish.Statement.{statement}
+use Rattle.finish_publish.proofs.publish.Tie as tie
+
+phase-rank-requires : tie.Need-phase-rank-requires
+phase-rank-requires c κs = search needs
+
+refused-requires : tie.Need-refused-requires
+refused-requires c κs = search needs
+
+returns : tie.Need-returns
+unfolding publishOf
+returns c = rw (c .refused .ensures, ← c .before .before .phase-rank .ensures, ne-eqb _ _ (c .before .if1 .taken))
+
+stamp-changes-requires : tie.Need-stamp-changes-requires
+stamp-changes-requires c κs = search needs
+
+bucket-in-requires : tie.Need-bucket-in-requires
+bucket-in-requires c κs = search needs
+
+free-needed-requires : tie.Need-free-needed-requires
+free-needed-requires c κs = search needs
+
+post-all-requires : tie.Need-post-all-requires
+post-all-requires c κs = search needs
+
+unclaim-all-requires : tie.Need-unclaim-all-requires
+unclaim-all-requires c κs = search needs
+
+idle-requires : tie.Need-idle-requires
+idle-requires c κs = search needs
+
+same-length : tie.Need-same-length
+same-length c = search needs
+
+same-length-2 : tie.Need-same-length-2
+same-length-2 c = search needs
+
+returns-2 : tie.Need-returns-2
+unfolding publishOf
+returns-2 c = rw (← c .before .before .before .before .before .before .before .before .before .before .before .before .before .before .before .before .before .before .before .before .before .phase-rank .ensures, eq-eqb _ _ (c .before .before .before .before .before .before .before .before .before .before .before .before .before .before .before .before .before .before .before .before .if1 .left), ← c .before .before .before .before .before .before .before .before .before .before .before .before .bucket-in .ensures, ← c .before .before .before .before .before .before .before .before .before .before .before .before .before .before .before .before .before .stamp-changes .ensures, ← c .before .before .before .before .before .before .before .before .before .before .before .free-needed .ensures, ← c .before .before .before .before .before .before .before .post-all .ensures, ← c .before .before .before .unclaim-all .ensures, c .idle .ensures)
+
+pub publish-spec : {M : Type 1} → statement M
+publish-spec =
+    tie.close
+    (tie.spec
+    phase-rank-requires
+    refused-requires
+    returns
+    stamp-changes-requires
+    bucket-in-requires
+    free-needed-requires
+    post-all-requires
+    unclaim-all-requires
+    idle-requires
+    same-length
+    same-length-2
+    returns-2)

@@ -1,0 +1,78 @@
+-- The step rows: what it answers, and the record, the lists and the lent list that it leaves.
+use Prim.Native.Nat.{ℕ, _+_, min}
+use mathlib.Core.Bool.{cond, not, _&&_, _||_}
+use mathlib.Core.List.{List, [], _∷_}
+use lib.Dec.{eqb, ltb}
+use lib.ListN.{length}
+use Rattle.base_limits.specs.Limits.{mostRows, mostRecords}
+use Rattle.base_lists.specs.Lists.{member, pick}
+use Rattle.model.specs.Store.{rank, keyIn}
+use Rattle.base_protocol.specs.declared.Answer.the-variants as tell
+use Rattle.table.specs.declared.lists.ReadRecord.{ReadRecord}
+use Rattle.table_buckets.specs.Buckets.{laid}
+use Rattle.txn.specs.View.{phaseView}
+use Rattle.txn.specs.Methods.{refusedOf}
+use Rattle.txn.specs.declared.Phase.the-variants as phase
+use Rattle.txn.specs.declared.Transaction.{Transaction}
+use Rattle.txn.specs.declared.Answered.{Answered}
+use Rattle.read_match.specs.Matching.{Look, look, matchOf, isMatch, throughOf}
+use Rattle.read_gather.specs.Gathering.{wantedRows}
+use Rattle.read_record.specs.Recording.{knownPointers, recordFor, putRecords}
+
+-- the rows of the store that are wanted and match, ascending; a row count above 256 acts as 256
+unfoldable pub matchedRows : Look → ℕ → List ℕ
+matchedRows l rowCount = pick (λ r. member r (wantedRows (l .lists) (l .txn)) && isMatch (matchOf l r)) 0 (min rowCount mostRows)
+
+-- the pointer that a row is matched through
+abbrev pub through : Look → ℕ → ℕ
+through l r = throughOf (matchOf l r)
+
+-- for each row matched through a version whose pointer is not yet recorded, a record, in row order
+unfoldable pub newRecords : Look → List ℕ → List ℕ → List ReadRecord
+newRecords l known [] = []
+newRecords l known (r ∷ rs) =
+    cond (eqb (through l r) 0 || member (through l r) known) (newRecords l known rs)
+    (recordFor (l .versions) r (through l r) ∷ newRecords l (through l r ∷ known) rs)
+
+-- a room above 256 counts as 256; the lent list may be shorter
+abbrev pub roomFor : ℕ → ℕ → ℕ
+roomFor room len = min (min room mostRows) len
+
+-- the transaction once its read is done: Open, without candidates
+abbrev pub doneTxn : Transaction → ℕ → Transaction
+doneTxn t n = record { number = t .number; snapshot = t .snapshot; marked = t .marked; phase = phase.Open; slot = t .slot; «reads_n» = t .«reads_n»; «writes_n» = t .«writes_n»; «records_n» = n; «candidates_n» = 0 }
+
+-- an answer, the lists and the lent list
+pub record LeftRows : Type 0 where
+  pub reply : Answered
+  pub lists : List ℕ
+  pub found : List ℕ
+
+abbrev pub refusedRows : Transaction → ℕ → List ℕ → List ℕ → LeftRows
+refusedRows t why lists found = record { reply = refusedOf t why; lists = lists; found = found }
+
+-- a read that is done: the rows go to the front of the lent list, the new records behind the old
+abbrev pub doneRows : Transaction → List ℕ → List ℕ → List ℕ → List ReadRecord → LeftRows
+doneRows t lists found rs new = record {
+  reply = record { answer = tell.Rows (length rs); txn = doneTxn t (t .«records_n» + length new) };
+  lists = putRecords lists (t .slot) (t .«records_n») new;
+  found = laid rs found;
+}
+
+-- the tests: a lent list too short, then more than 64 read records
+abbrev pub answerOf : List ℕ → List ℕ → Transaction → ℕ → List ℕ → List ReadRecord → LeftRows
+answerOf lists found t room rs new =
+    cond (ltb (roomFor room (length found)) (length rs)) (refusedRows t 10 lists found)
+    (cond (ltb mostRecords (t .«records_n» + length new)) (refusedRows t 11 lists found)
+    (doneRows t lists found rs new))
+
+-- a read of what is looked at
+unfoldable pub readingOf : Look → ℕ → ℕ → List ℕ → LeftRows
+readingOf l rowCount room found =
+    answerOf (l .lists) found (l .txn) room (matchedRows l rowCount) (newRecords l (knownPointers (l .lists) (l .txn .slot) (l .txn .«records_n»)) (matchedRows l rowCount))
+
+-- rows: wrong phase first
+unfoldable pub rowsOf : List ℕ → List ℕ → List ℕ → List ℕ → ℕ → ℕ → ℕ → Transaction → LeftRows
+rowsOf rows versions lists found rowCount used room t =
+    cond (not (eqb (rank (phaseView (t .phase))) 3)) (refusedRows t 5 lists found)
+    (readingOf (look rows versions lists used t (keyIn (phaseView (t .phase)))) rowCount room found)

@@ -1,0 +1,29 @@
+-- How a replay stops: its status, how many bytes it wrote, and the lent report.
+use Prim.Native.Nat.{ℕ}
+use mathlib.Core.List.{List}
+use Rattle.model.specs.Refusals.{WrongSize, Malformed, refusalNumber}
+use Rattle.report_lines.specs.declared.Wrote.{Wrote}
+use Rattle.report_lines.specs.declared.Wrote.the-variants.{Next, Full}
+use Rattle.report_lines.specs.Lines.{Written, writtenAt}
+use Rattle.report.specs.Lines.{openLine, badLine}
+use Rattle.replay_stop.specs.declared.Stopped.{Stopped}
+
+-- how a replay stopped, and the lent report afterwards
+pub record Left : Type 0 where
+  pub stopped : Stopped
+  pub report : List ℕ
+
+-- after a last line: with this status, or with 10 where the line did not fit
+abbrev pub stopAfter : Wrote → ℕ → ℕ → Stopped
+stopAfter (Next end) status at = record { status = status; wrote = end }
+stopAfter Full status at = record { status = 10; wrote = at }
+
+abbrev pub stopWith : Written → ℕ → ℕ → Left
+stopWith w status at = record { stopped = stopAfter (w .wrote) status at; report = w .report }
+
+-- `bad 15`, and stop; `open 1`, and stop
+abbrev pub malformedAt : List ℕ → ℕ → Left
+malformedAt report at = stopWith (writtenAt report at badLine) (refusalNumber Malformed) at
+
+abbrev pub unopenedAt : List ℕ → Left
+unopenedAt report = stopWith (writtenAt report 0 (openLine (refusalNumber WrongSize))) (refusalNumber WrongSize) 0

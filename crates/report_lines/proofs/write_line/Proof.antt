@@ -1,0 +1,95 @@
+-- `report_lines::write_line` meets its contract.
+-- Assumes nothing.
+use borrow.Author.Needs.{needs}
+use Prim.Native.Nat.{_+_}
+use mathlib.Core.Path.{_≡_}
+use mathlib.Core.List.{_++_}
+use native.Mathlib.Omega.{arith}
+use lib.ListN.{length}
+use Rattle.model.specs.Report.{line}
+use Rattle.report_lines.proofs.Spaced.{spaced-least}
+use Rattle.report_lines.proofs.Writing.{line-two-long, written-full, written-next, rest-laid}
+use Rattle.report_lines.proofs.write_line.Statement.{statement}
+use Rattle.report_lines.proofs.write_line.Tie as tie
+
+returns : tie.Need-returns
+returns c = let a = c .before .before .before .before .before .args in let long = line-two-long (a .word .now) (a .numbers .now) (a .rows .now) in written-full (a .report .now) (a .at) _ (omega arith)
+
+returns-2 : tie.Need-returns-2
+returns-2 c = let a = c .before .before .before .before .before .before .args in let two = spaced-least (a .numbers .now) in let long = line-two-long (a .word .now) (a .numbers .now) (a .rows .now) in written-full (a .report .now) (a .at) _ (omega arith)
+
+returns-3 : tie.Need-returns-3
+returns-3 c = let a = c .before .before .before .before .before .before .before .args in let two = spaced-least (a .rows .now) in let long = line-two-long (a .word .now) (a .numbers .now) (a .rows .now) in written-full (a .report .now) (a .at) _ (omega arith)
+
+spaced-width-requires : tie.Need-spaced-width-requires
+spaced-width-requires c κs = search needs
+
+add-long : tie.Need-add-long
+add-long c = search needs
+
+spaced-width-requires-2 : tie.Need-spaced-width-requires-2
+spaced-width-requires-2 c κs = search needs
+
+add-long-2 : tie.Need-add-long-2
+add-long-2 c = search needs
+
+add-long-3 : tie.Need-add-long-3
+add-long-3 c = search needs
+
+least-requires : tie.Need-least-requires
+least-requires c κs = search needs
+
+returns-4 : tie.Need-returns-4
+returns-4 c = let a = c .before .before .before .before .before .before .before .before .before .before .before .args in let r = c .before .least .ensures in let long = line-two-long (a .word .now) (a .numbers .now) (a .rows .now) in written-full (a .report .now) (a .at) _ (omega arith)
+
+returns-5 : tie.Need-returns-5
+returns-5 c = let a = c .before .before .before .before .before .before .before .before .before .before .before .before .args in let v = c .before .before .before .before .spaced-width .ensures .0 in let w = c .before .before .before .spaced-width2 .ensures .0 in let r = c .before .before .least .ensures in let long = line-two-long (a .word .now) (a .numbers .now) (a .rows .now) in written-full (a .report .now) (a .at) _ (omega arith)
+
+sub-put-line : tie.Need-sub-put-line
+sub-put-line c = search needs
+
+part-put-line-start : tie.Need-part-put-line-start
+part-put-line-start c = search needs
+
+part-put-line-end : tie.Need-part-put-line-end
+part-put-line-end c = search needs
+
+put-line-requires : tie.Need-put-line-requires
+put-line-requires c κs = let a = c .before .before .before .before .before .before .before .before .before .before .before .before .before .args in let v = c .before .before .before .before .before .spaced-width .ensures .0 in let w = c .before .before .before .before .spaced-width2 .ensures .0 in let r = c .before .before .before .least .ensures in let long = line-two-long (a .word .now) (a .numbers .now) (a .rows .now) in omega arith
+
+add-t13 : tie.Need-add-t13
+add-t13 c = search needs
+
+same-length : tie.Need-same-length
+same-length c = search needs
+
+returns-6 : tie.Need-returns-6
+returns-6 c = let a = c .before .before .before .before .before .before .before .before .before .before .before .before .before .before .before .before .args in let v = c .before .before .before .before .before .before .before .before .spaced-width .ensures .0 in let w = c .before .before .before .before .before .before .before .spaced-width2 .ensures .0 in let r = c .before .before .before .before .before .before .least .ensures in
+    let long = line-two-long (a .word .now) (a .numbers .now) (a .rows .now) in
+    let text = line (a .word .now) (a .numbers .now ++ a .rows .now) in
+    let n : length (a .word .now) + c .before .before .before .before .before .before .before .before .spaced-width .result + c .before .before .before .before .before .before .before .spaced-width2 .result + 1 ≡ length text = omega arith in
+    let l = rest-laid (a .report .now) (a .at) text (c .before .before .put-line .last .0) (omega arith) (c .before .before .put-line .ensures) in
+    rw (n, l) (written-next (a .report .now) (a .at) text (omega arith))
+
+pub write-line-spec : {M : Type 1} → statement M
+write-line-spec =
+    tie.close
+    (tie.spec
+    returns
+    returns-2
+    returns-3
+    spaced-width-requires
+    add-long
+    spaced-width-requires-2
+    add-long-2
+    add-long-3
+    least-requires
+    returns-4
+    returns-5
+    sub-put-line
+    part-put-line-start
+    part-put-line-end
+    put-line-requires
+    add-t13
+    same-length
+    returns-6)

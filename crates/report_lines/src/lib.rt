@@ -1,0 +1,126 @@
+// Lines of a word and numbers in the lent report, each written from where the last one ended.
+ghost use mathlib.Core.Path.{_≡_};
+ghost use mathlib.Core.List.{_++_};
+ghost use Prim.Native.Nat.{_+_, _*_, _≤_, min};
+ghost use lib.ListN.{length};
+ghost use Rattle.model.specs.Report.{decimal, spaced, line};
+ghost use Rattle.model.specs.Replay.{mostRoom};
+ghost use Rattle.report_lines.specs.Lines.{laid, writtenAt};
+
+// Where the next line begins, or that the line does not fit.
+pub enum Wrote {
+    Next(usize),
+    Full,
+}
+
+// Room beyond this is not used.
+const MOST_ROOM: usize = 4294967295;
+
+// How many digits n has.
+fn width(n: u64) -> usize
+    ensures { λ r. ⌜ (r ≡ length (decimal n)) × (r ≤ 20) ⌝ }
+{
+    if n < 10 {
+        return 1;
+    }
+    width(n / 10) + 1
+}
+
+// How long the numbers are, each after its space.
+fn spaced_width(list: &[u64]) -> usize
+    requires { ⌜ length (now list) ≤ mostRoom ⌝ }
+    ensures { λ r. ⌜ (r ≡ length (spaced (now (list .entry)))) × (r ≤ 21 * length (now (list .entry))) ⌝ }
+{
+    let mut long = 0;
+    let mut i = 0;
+    while i < list.len() {
+        long += 1 + width(list[i]);
+        i += 1;
+    }
+    long
+}
+
+// Writes a word, and returns the place after it.
+fn put_word(out: &mut [u8], word: &[u8]) -> usize
+    requires { ⌜ length (now word) ≤ length (now out) ⌝ }
+    ensures { λ r. ⌜ (r ≡ length (now (word .entry))) × (now (out .exit) ≡ laid (now (out .entry)) 0 (now (word .entry))) ⌝ }
+{
+    let mut i = 0;
+    while i < word.len() {
+        out[i] = word[i];
+        i += 1;
+    }
+    i
+}
+
+// Writes n from `at` on, and returns the place after it.
+fn put_digits(out: &mut [u8], at: usize, n: u64) -> usize
+    requires { ⌜ at + length (decimal n) ≤ length (now out) ⌝ }
+    ensures { λ r. ⌜ (r ≡ at + length (decimal n)) × (now (out .exit) ≡ laid (now (out .entry)) at (decimal n)) ⌝ }
+{
+    if n < 10 {
+        out[at] = b'0' + n as u8;
+        return at + 1;
+    }
+    let p = put_digits(out, at, n / 10);
+    out[p] = b'0' + (n % 10) as u8;
+    p + 1
+}
+
+// Writes the numbers from `at` on, each after a space, and returns the place after them.
+fn put_spaced(out: &mut [u8], at: usize, list: &[u64]) -> usize
+    requires { ⌜ at + length (spaced (now list)) ≤ length (now out) ⌝ }
+    ensures { λ r. ⌜ (r ≡ at + length (spaced (now (list .entry)))) × (now (out .exit) ≡ laid (now (out .entry)) at (spaced (now (list .entry)))) ⌝ }
+{
+    let mut p = at;
+    let mut i = 0;
+    while i < list.len() {
+        out[p] = b' ';
+        p = put_digits(out, p + 1, list[i]);
+        i += 1;
+    }
+    p
+}
+
+// Writes a line at the front of the rest of the report.
+fn put_line(rest: &mut [u8], word: &[u8], numbers: &[u64], rows: &[u64])
+    requires { ⌜ length (line (now word) (now numbers ++ now rows)) ≤ length (now rest) ⌝ }
+    ensures { λ _. ⌜ now (rest .exit) ≡ laid (now (rest .entry)) 0 (line (now (word .entry)) (now (numbers .entry) ++ now (rows .entry))) ⌝ }
+{
+    let a = put_word(rest, word);
+    let b = put_spaced(rest, a, numbers);
+    let end = put_spaced(rest, b, rows);
+    rest[end] = b'\n';
+}
+
+// The lesser of two lengths.
+pub fn least(a: usize, b: usize) -> usize
+    ensures { λ r. ⌜ r ≡ min a b ⌝ }
+{
+    if a < b { a } else { b }
+}
+
+// Writes a word, then numbers and rows, from `at` on, or nothing where the line does not fit.
+pub fn write_line(report: &mut [u8], at: usize, word: &[u8], numbers: &[u64], rows: &[u64]) -> Wrote
+    ensures { λ r. ⌜ record { wrote = r; report = now (report .exit) } ≡ writtenAt (now (report .entry)) at (line (now (word .entry)) (now (numbers .entry) ++ now (rows .entry))) ⌝ }
+{
+    if word.len() > MOST_ROOM {
+        return Wrote::Full;
+    }
+    if numbers.len() > MOST_ROOM {
+        return Wrote::Full;
+    }
+    if rows.len() > MOST_ROOM {
+        return Wrote::Full;
+    }
+    let long = word.len() + spaced_width(numbers) + spaced_width(rows) + 1;
+    let room = least(report.len(), MOST_ROOM);
+    if at > room {
+        return Wrote::Full;
+    }
+    if room - at < long {
+        return Wrote::Full;
+    }
+    put_line(&mut report[at..], word, numbers, rows);
+    Wrote::Next(at + long)
+}

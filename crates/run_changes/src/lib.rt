@@ -1,0 +1,245 @@
+// Words of a state by their names: what stands there, and another word there. So a state can be made that no step leads to, and looked at behind any step.
+use base_limits::LAST_NUMBER;
+use base_limits::MOST_ACTIVE;
+use base_limits::MOST_INDEX_READS;
+use base_limits::MOST_LIVE;
+use base_limits::MOST_RECORDS;
+use base_limits::MOST_ROWS;
+use base_limits::MOST_WRITES;
+use names::word_named;
+use records::own_of;
+use records::own_words;
+use records::record_of;
+use records::record_words;
+use shape::Machine;
+use table::BUCKET_WORDS;
+use table::ROW_WORDS;
+use table::VERSION_WORDS;
+use table::lists::CANDIDATE_WORDS;
+use table::lists::CANDIDATES_AT;
+use table::lists::READ_WORDS;
+use table::lists::READS_AT;
+use table::lists::RECORD_WORDS;
+use table::lists::RECORDS_AT;
+use table::lists::SLOT_WORDS;
+use table::lists::WRITE_WORDS;
+use table::lists::WRITES_AT;
+use table::set_word;
+ghost use mathlib.Core.Path.{_≡_};
+ghost use Prim.Native.Nat.{_≤_};
+ghost use Rattle.base_limits.specs.Limits.{mostLive};
+ghost use Rattle.table.specs.Lists.{slotWords};
+ghost use Rattle.run_changes.specs.Changes.{entryPlace, listPlace, listsPlace, recordPlace, seenAt, machineSeen, lookOf, machineChanged, changeOf};
+
+mod names; // names.rt: the word that a name names
+mod records; // records.rt: a record as words, and back
+
+// A word that is looked at, or none.
+pub enum Seen {
+    Word(u64),
+    Missing,
+}
+
+// The first name of a version's words, of a bucket's, of the lists', of a record's and of the machine's own.
+const VERSION_NAMES: usize = 4;
+
+const BUCKET_NAMES: usize = 10;
+
+const LIST_NAMES: usize = 12;
+
+const RECORD_NAMES: usize = 22;
+
+const OWN_NAMES: usize = 36;
+
+// Parts of a record that are no active number.
+const RECORD_PARTS: usize = 13;
+
+// No word stands here.
+const NOWHERE: usize = LAST_NUMBER as usize;
+
+// ---- where a word stands
+
+// Word `field` of entry i, below `entries`, where an entry has `width` words. No slice has more words than the bound, so that no place wraps.
+fn entry_place(entries: usize, width: usize, field: usize, i: u64) -> usize
+    requires { ⌜ (entries ≤ 1152921504606846975) × (width ≤ 8) × (field ≤ 8) ⌝ }
+    ensures { λ r. ⌜ r ≡ entryPlace entries width field i ⌝ }
+{
+    if i < entries as u64 {
+        return width * (i as usize) + field;
+    }
+    NOWHERE
+}
+
+// The same of a list of the record at a place; the list starts at `off` of its slot and has room for so many entries.
+fn list_place(off: usize, width: usize, room: u32, field: usize, place: u64, i: u64) -> usize
+    requires { ⌜ (off ≤ slotWords) × (width ≤ 8) × (field ≤ 8) ⌝ }
+    ensures { λ r. ⌜ r ≡ listPlace (record { off = off; w = width; room = room }) field place i ⌝ }
+{
+    if place >= MOST_LIVE as u64 {
+        return NOWHERE;
+    }
+    if i < room as u64 {
+        return SLOT_WORDS * (place as usize) + off + width * (i as usize) + field;
+    }
+    NOWHERE
+}
+
+// Of the words of all four lists, by number.
+fn lists_place(k: usize, place: u64, i: u64) -> usize
+    ensures { λ r. ⌜ r ≡ listsPlace k place i ⌝ }
+{
+    if k < 2 {
+        return list_place(READS_AT, READ_WORDS, MOST_INDEX_READS, k, place, i);
+    }
+    if k < 6 {
+        return list_place(WRITES_AT, WRITE_WORDS, MOST_WRITES, k - 2, place, i);
+    }
+    if k < 9 {
+        return list_place(RECORDS_AT, RECORD_WORDS, MOST_RECORDS, k - 6, place, i);
+    }
+    list_place(
+        CANDIDATES_AT,
+        CANDIDATE_WORDS,
+        MOST_ROWS as u32,
+        0,
+        place,
+        i,
+    )
+}
+
+// Among the words of a record: one of its parts, or its active number i.
+fn record_place(k: usize, i: u64) -> usize
+    ensures { λ r. ⌜ r ≡ recordPlace k i ⌝ }
+{
+    if k < RECORD_PARTS {
+        return k;
+    }
+    if i < MOST_ACTIVE as u64 {
+        return RECORD_PARTS + i as usize;
+    }
+    NOWHERE
+}
+
+// ---- what stands there
+
+fn seen_at(words: &[u64], at: usize) -> Seen
+    ensures { λ r. ⌜ r ≡ seenAt (now (words .entry)) at ⌝ }
+{
+    if at < words.len() {
+        return Seen::Word(words[at]);
+    }
+    Seen::Missing
+}
+
+// A word of the record at a place, or one of the machine's own.
+fn machine_seen(m: Machine, k: usize, place: u64, i: u64) -> Seen
+    ensures { λ r. ⌜ r ≡ machineSeen m k place i ⌝ }
+{
+    let txns = m.txns;
+    if k >= OWN_NAMES - RECORD_NAMES {
+        let own = own_words(m);
+        return seen_at(&own, k - (OWN_NAMES - RECORD_NAMES));
+    }
+    if place >= MOST_LIVE as u64 {
+        return Seen::Missing;
+    }
+    let at = place as usize;
+    let words = record_words(txns[at]);
+    seen_at(&words, record_place(k, i))
+}
+
+// The word of this name: of entry a, or of the record at place a and there of entry b; or one of the machine's own.
+pub fn look(
+    rows_table: &[u64],
+    versions: &[u64],
+    buckets: &[u64],
+    lists: &[u64],
+    m: Machine,
+    name: u64,
+    a: u64,
+    b: u64,
+) -> Seen
+    ensures { λ r. ⌜ r ≡ lookOf (record { rows = now («rows_table» .entry); versions = now (versions .entry); buckets = now (buckets .entry); lists = now (lists .entry); machine = m }) name a b ⌝ }
+{
+    let k = word_named(name);
+    if k < VERSION_NAMES {
+        return seen_at(rows_table, entry_place(rows_table.len(), ROW_WORDS, k, a));
+    }
+    if k < BUCKET_NAMES {
+        return seen_at(
+            versions,
+            entry_place(versions.len(), VERSION_WORDS, k - VERSION_NAMES, a),
+        );
+    }
+    if k < LIST_NAMES {
+        return seen_at(
+            buckets,
+            entry_place(buckets.len(), BUCKET_WORDS, k - BUCKET_NAMES, a),
+        );
+    }
+    if k < RECORD_NAMES {
+        return seen_at(lists, lists_place(k - LIST_NAMES, a, b));
+    }
+    machine_seen(m, k - RECORD_NAMES, a, b)
+}
+
+// ---- another word there
+
+fn machine_changed(m: Machine, k: usize, place: u64, i: u64, value: u64) -> Machine
+    ensures { λ r. ⌜ r ≡ machineChanged m k place i value ⌝ }
+{
+    let mut changed = m;
+    let mut txns = m.txns;
+    if k >= OWN_NAMES - RECORD_NAMES {
+        let mut own = own_words(m);
+        set_word(&mut own, k - (OWN_NAMES - RECORD_NAMES), value);
+        return own_of(txns, own);
+    }
+    if place >= MOST_LIVE as u64 {
+        return m;
+    }
+    let at = place as usize;
+    let mut words = record_words(txns[at]);
+    set_word(&mut words, record_place(k, i), value);
+    txns[at] = record_of(words);
+    changed.txns = txns;
+    changed
+}
+
+// Another word of this name, where `look` would see one.
+pub fn change(
+    rows_table: &mut [u64],
+    versions: &mut [u64],
+    buckets: &mut [u64],
+    lists: &mut [u64],
+    m: Machine,
+    name: u64,
+    a: u64,
+    b: u64,
+    value: u64,
+) -> Machine
+    ensures { λ r. ⌜ record { rows = now («rows_table» .exit); versions = now (versions .exit); buckets = now (buckets .exit); lists = now (lists .exit); machine = r }
+        ≡ changeOf (record { rows = now («rows_table» .entry); versions = now (versions .entry); buckets = now (buckets .entry); lists = now (lists .entry); machine = m }) name a b value ⌝ }
+{
+    let k = word_named(name);
+    if k < VERSION_NAMES {
+        let at = entry_place(rows_table.len(), ROW_WORDS, k, a);
+        set_word(rows_table, at, value);
+        return m;
+    }
+    if k < BUCKET_NAMES {
+        let at = entry_place(versions.len(), VERSION_WORDS, k - VERSION_NAMES, a);
+        set_word(versions, at, value);
+        return m;
+    }
+    if k < LIST_NAMES {
+        let at = entry_place(buckets.len(), BUCKET_WORDS, k - BUCKET_NAMES, a);
+        set_word(buckets, at, value);
+        return m;
+    }
+    if k < RECORD_NAMES {
+        set_word(lists, lists_place(k - LIST_NAMES, a, b), value);
+        return m;
+    }
+    machine_changed(m, k - RECORD_NAMES, a, b, value)
+}

@@ -1,0 +1,216 @@
+// A step by its name: a call of the public function that does it.
+use toruxeng_finishing::abort;
+use toruxeng_finishing::end;
+use toruxeng_finishing::install;
+use toruxeng_finishing::publish;
+use base_limits::MOST_BUCKETS;
+use base_limits::MOST_LIVE;
+use base_limits::MOST_ROWS;
+use base_limits::MOST_VERSIONS;
+use base_protocol::Answer;
+use toruxeng_reading::begin;
+use toruxeng_reading::capture;
+use toruxeng_reading::collect;
+use toruxeng_reading::rows;
+use shape::Machine;
+use table::BUCKET_WORDS;
+use table::ROW_WORDS;
+use table::VERSION_WORDS;
+use table::lists::SLOT_WORDS;
+use call::Turned;
+use toruxeng_writing::erase;
+use toruxeng_writing::prepare;
+use toruxeng_writing::put;
+use toruxeng_writing::validate;
+ghost use Prim.Native.Nat.{_≤_};
+
+// Words of the lent tables: an entry more than the largest sizes name, so that a size beyond is wrong by itself; and the room for rows.
+pub const ROWS_LENT: usize = (MOST_ROWS + 1) * ROW_WORDS;
+
+pub const VERSIONS_LENT: usize = (MOST_VERSIONS + 2) * VERSION_WORDS;
+
+pub const BUCKETS_LENT: usize = (MOST_BUCKETS + 1) * BUCKET_WORDS;
+
+pub const LISTS_LENT: usize = MOST_LIVE * SLOT_WORDS;
+
+pub const MOST_FOUND: usize = MOST_ROWS;
+
+// The steps' names, by their letters.
+const BEGIN: u64 = 0x626567696e;
+
+const CAPTURE: u64 = 0x63617074757265;
+
+const COLLECT: u64 = 0x636f6c6c656374;
+
+const ROWS: u64 = 0x726f7773;
+
+const PUT: u64 = 0x707574;
+
+const ERASE: u64 = 0x6572617365;
+
+const VALIDATE: u64 = 0x76616c6964617465;
+
+const PREPARE: u64 = 0x70726570617265;
+
+const INSTALL: u64 = 0x696e7374616c6c;
+
+const END: u64 = 0x656e64;
+
+const PUBLISH: u64 = 0x7075626c697368;
+
+const ABORT: u64 = 0x61626f7274;
+
+// What no step answers: its name is no step's.
+const NO_STEP: u64 = 99;
+
+// Install to abort; another name is no step.
+fn finishing_step(
+    rows_table: &mut [u64; ROWS_LENT],
+    versions: &mut [u64; VERSIONS_LENT],
+    buckets: &mut [u64; BUCKETS_LENT],
+    lists: &mut [u64; LISTS_LENT],
+    m: Machine,
+    name: u64,
+    a: u64,
+) -> Turned {
+    if name == INSTALL {
+        return install(rows_table, versions, buckets, lists, m, a);
+    }
+    if name == END {
+        return end(rows_table, versions, buckets, lists, m, a);
+    }
+    if name == PUBLISH {
+        return publish(rows_table, versions, buckets, lists, m, a);
+    }
+    if name == ABORT {
+        return abort(rows_table, versions, buckets, lists, m, a);
+    }
+    Turned {
+        answer: Answer::Refused(NO_STEP),
+        machine: m,
+    }
+}
+
+// Put to prepare, and then the others.
+fn writing_step(
+    rows_table: &mut [u64; ROWS_LENT],
+    versions: &mut [u64; VERSIONS_LENT],
+    buckets: &mut [u64; BUCKETS_LENT],
+    lists: &mut [u64; LISTS_LENT],
+    m: Machine,
+    name: u64,
+    a: u64,
+    b: u64,
+    c: u64,
+    d: u64,
+) -> Turned {
+    if name == PUT {
+        return put(rows_table, versions, buckets, lists, m, a, b, c, d);
+    }
+    if name == ERASE {
+        return erase(rows_table, versions, buckets, lists, m, a, b);
+    }
+    if name == VALIDATE {
+        return validate(rows_table, versions, buckets, lists, m, a);
+    }
+    if name == PREPARE {
+        return prepare(rows_table, versions, buckets, lists, m, a);
+    }
+    finishing_step(rows_table, versions, buckets, lists, m, name, a)
+}
+
+// How much of the list is lent: the room that rows names, or all of it.
+fn room_of(room: u64, most: usize) -> usize
+    ensures { λ r. ⌜ r ≤ most ⌝ }
+{
+    if room < most as u64 {
+        return room as usize;
+    }
+    most
+}
+
+fn read_rows(
+    rows_table: &mut [u64; ROWS_LENT],
+    versions: &mut [u64; VERSIONS_LENT],
+    buckets: &mut [u64; BUCKETS_LENT],
+    lists: &mut [u64; LISTS_LENT],
+    found: &mut [u64],
+    m: Machine,
+    number: u64,
+    room: u64,
+) -> Turned {
+    let lent = room_of(room, found.len());
+    rows(
+        rows_table,
+        versions,
+        buckets,
+        lists,
+        &mut found[..lent],
+        m,
+        number,
+    )
+}
+
+// How much of a table is lent: all but the words that are held back.
+pub fn lent(most: usize, back: u64) -> usize
+    ensures { λ r. ⌜ r ≤ most ⌝ }
+{
+    if back < most as u64 {
+        return most - back as usize;
+    }
+    0
+}
+
+// Begin, in tables of which some words may be held back.
+fn begun(
+    rows_table: &mut [u64],
+    versions: &mut [u64],
+    buckets: &mut [u64],
+    lists: &mut [u64],
+    m: Machine,
+    rows_back: u64,
+    versions_back: u64,
+    buckets_back: u64,
+    lists_back: u64,
+) -> Turned {
+    let rows_lent = lent(rows_table.len(), rows_back);
+    let versions_lent = lent(versions.len(), versions_back);
+    let buckets_lent = lent(buckets.len(), buckets_back);
+    let lists_lent = lent(lists.len(), lists_back);
+    begin(
+        &mut rows_table[..rows_lent],
+        &mut versions[..versions_lent],
+        &mut buckets[..buckets_lent],
+        &mut lists[..lists_lent],
+        m,
+    )
+}
+
+// Begin to rows, and then the others.
+pub fn any_step(
+    rows_table: &mut [u64; ROWS_LENT],
+    versions: &mut [u64; VERSIONS_LENT],
+    buckets: &mut [u64; BUCKETS_LENT],
+    lists: &mut [u64; LISTS_LENT],
+    found: &mut [u64; MOST_FOUND],
+    m: Machine,
+    name: u64,
+    a: u64,
+    b: u64,
+    c: u64,
+    d: u64,
+) -> Turned {
+    if name == BEGIN {
+        return begun(rows_table, versions, buckets, lists, m, a, b, c, d);
+    }
+    if name == CAPTURE {
+        return capture(rows_table, versions, buckets, lists, m, a, b);
+    }
+    if name == COLLECT {
+        return collect(rows_table, versions, buckets, lists, m, a);
+    }
+    if name == ROWS {
+        return read_rows(rows_table, versions, buckets, lists, found, m, a, b);
+    }
+    writing_step(rows_table, versions, buckets, lists, m, name, a, b, c, d)
+}

@@ -1,0 +1,58 @@
+// Pointers in range: heads at most the last used pointer, each next below its own.
+use txn_places::Sizes;
+use table::head_at;
+use table::next_at;
+ghost use mathlib.Core.Path.{_≡_};
+ghost use Rattle.model.specs.Shape as model;
+ghost use Rattle.shape_chains.specs.Links.{headsIn, nextsFall, chainsFit};
+
+// Whether a number is from 1 to the most.
+pub fn within(n: u64, most: u64) -> bool
+    ensures { λ r. ⌜ r ≡ model.within n most ⌝ }
+{
+    if n < 1 {
+        return false;
+    }
+    n <= most
+}
+
+// Whether heads are at most the last used pointer.
+fn heads_in(rows_table: &[u64], count: u64, used: u64) -> bool
+    ensures { λ r. ⌜ r ≡ headsIn (now («rows_table» .entry)) count used ⌝ }
+{
+    let mut row: u64 = 0;
+    while row < count {
+        if used < head_at(rows_table, row as usize) {
+            return false;
+        }
+        row += 1;
+    }
+    true
+}
+
+// Whether each next is below its own pointer.
+fn nexts_fall(versions: &[u64], used: u64) -> bool
+    ensures { λ r. ⌜ r ≡ nextsFall (now (versions .entry)) used ⌝ }
+{
+    let mut p: u64 = 0;
+    while p < used {
+        if p + 1 <= next_at(versions, (p + 1) as usize) {
+            return false;
+        }
+        p += 1;
+    }
+    true
+}
+
+// Whether used pointers, heads and nexts are in range.
+pub fn chains_fit(rows_table: &[u64], versions: &[u64], sizes: Sizes, used: u64) -> bool
+    ensures { λ r. ⌜ r ≡ chainsFit (now («rows_table» .entry)) (now (versions .entry)) sizes used ⌝ }
+{
+    if sizes.versions < used {
+        return false;
+    }
+    if !heads_in(rows_table, sizes.rows, used) {
+        return false;
+    }
+    nexts_fall(versions, used)
+}

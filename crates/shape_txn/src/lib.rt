@@ -1,0 +1,227 @@
+// What the shape asks of one transaction's record and its lists.
+use txn_needs::gets_version;
+use txn_needs::headed_by;
+use base_limits::MOST_INDEX_READS;
+use base_limits::MOST_RECORDS;
+use base_limits::MOST_ROWS;
+use base_limits::MOST_WRITES;
+use shape_chains::within;
+use txn_places::Sizes;
+use txn::INSTALLED;
+use txn::Transaction;
+use txn::bucket_in;
+use txn::phase_rank;
+use table_scans::least_of;
+use table::lists::candidate_at;
+use table::lists::read_bucket_at;
+use table::lists::record_ptr_at;
+use table::lists::record_row_at;
+use table::lists::write_row_at;
+ghost use mathlib.Core.Path.{_≡_};
+ghost use Rattle.shape_txn.specs.Fits.{countsFit, writesIn, recordIn, recordsIn, candidatesIn, readsIn, rangesFit, rowFits, rowsHeaded, headsFit, txnFits, placeFits};
+
+// Whether counts are within limits.
+pub fn counts_fit(t: Transaction) -> bool
+    ensures { λ r. ⌜ r ≡ countsFit t ⌝ }
+{
+    if t.reads_n > MOST_INDEX_READS {
+        return false;
+    }
+    if t.writes_n > MOST_WRITES {
+        return false;
+    }
+    if t.records_n > MOST_RECORDS {
+        return false;
+    }
+    t.candidates_n <= MOST_ROWS as u32
+}
+
+// Whether rows, buckets and recorded pointers are in range, list by list.
+fn writes_in(lists: &[u64], slot: u32, count: u32, row_count: u64) -> bool
+    ensures { λ r. ⌜ r ≡ writesIn (now (lists .entry)) slot count «row_count» ⌝ }
+{
+    let mut i: u32 = 0;
+    while i < count {
+        if write_row_at(lists, slot, i) >= row_count {
+            return false;
+        }
+        i += 1;
+    }
+    true
+}
+
+fn record_in(row_count: u64, used: u64, row: u64, ptr: u64) -> bool
+    ensures { λ r. ⌜ r ≡ recordIn «row_count» used row ptr ⌝ }
+{
+    if row >= row_count {
+        return false;
+    }
+    within(ptr, used)
+}
+
+fn records_in(lists: &[u64], slot: u32, count: u32, row_count: u64, used: u64) -> bool
+    ensures { λ r. ⌜ r ≡ recordsIn (now (lists .entry)) slot count «row_count» used ⌝ }
+{
+    let mut i: u32 = 0;
+    while i < count {
+        if !record_in(
+            row_count,
+            used,
+            record_row_at(lists, slot, i),
+            record_ptr_at(lists, slot, i),
+        ) {
+            return false;
+        }
+        i += 1;
+    }
+    true
+}
+
+fn candidates_in(lists: &[u64], slot: u32, count: u32, row_count: u64) -> bool
+    ensures { λ r. ⌜ r ≡ candidatesIn (now (lists .entry)) slot count «row_count» ⌝ }
+{
+    let mut i: u32 = 0;
+    while i < count {
+        if candidate_at(lists, slot, i) >= row_count {
+            return false;
+        }
+        i += 1;
+    }
+    true
+}
+
+fn reads_in(lists: &[u64], slot: u32, count: u32, bucket_count: u64) -> bool
+    ensures { λ r. ⌜ r ≡ readsIn (now (lists .entry)) slot count «bucket_count» ⌝ }
+{
+    let mut i: u32 = 0;
+    while i < count {
+        if read_bucket_at(lists, slot, i) >= bucket_count {
+            return false;
+        }
+        i += 1;
+    }
+    true
+}
+
+fn ranges_fit(lists: &[u64], sizes: Sizes, used: u64, t: Transaction) -> bool
+    ensures { λ r. ⌜ r ≡ rangesFit (now (lists .entry)) sizes used t ⌝ }
+{
+    let phase = t.phase;
+    if !writes_in(lists, t.slot, t.writes_n, sizes.rows) {
+        return false;
+    }
+    if !records_in(lists, t.slot, t.records_n, sizes.rows, used) {
+        return false;
+    }
+    if !candidates_in(lists, t.slot, t.candidates_n, sizes.rows) {
+        return false;
+    }
+    if !reads_in(lists, t.slot, t.reads_n, sizes.buckets) {
+        return false;
+    }
+    bucket_in(phase) < sizes.buckets
+}
+
+// Whether a pending row is headed by the transaction's version; or its last write is an erase and it has no live head.
+fn row_fits(
+    rows_table: &[u64],
+    versions: &[u64],
+    lists: &[u64],
+    slot: u32,
+    count: u32,
+    number: u64,
+    row: u64,
+) -> bool
+    ensures { λ r. ⌜ r ≡ rowFits (now («rows_table» .entry)) (now (versions .entry)) (now (lists .entry)) slot count number row ⌝ }
+{
+    if headed_by(rows_table, versions, number, row) {
+        return true;
+    }
+    !gets_version(rows_table, versions, lists, slot, count, row)
+}
+
+fn rows_headed(
+    rows_table: &[u64],
+    versions: &[u64],
+    lists: &[u64],
+    slot: u32,
+    count: u32,
+    number: u64,
+) -> bool
+    ensures { λ r. ⌜ r ≡ rowsHeaded (now («rows_table» .entry)) (now (versions .entry)) (now (lists .entry)) slot count number count ⌝ }
+{
+    let mut i: u32 = 0;
+    while i < count {
+        if !row_fits(
+            rows_table,
+            versions,
+            lists,
+            slot,
+            count,
+            number,
+            write_row_at(lists, slot, i),
+        ) {
+            return false;
+        }
+        i += 1;
+    }
+    true
+}
+
+// Whether each pending row of an Installed or Ended transaction is headed as it must be.
+fn heads_fit(rows_table: &[u64], versions: &[u64], lists: &[u64], t: Transaction) -> bool
+    ensures { λ r. ⌜ r ≡ headsFit (now («rows_table» .entry)) (now (versions .entry)) (now (lists .entry)) t ⌝ }
+{
+    let phase = t.phase;
+    if phase_rank(phase) < INSTALLED {
+        return true;
+    }
+    rows_headed(rows_table, versions, lists, t.slot, t.writes_n, t.number)
+}
+
+// Whether a live transaction has its shape.
+fn txn_fits(
+    rows_table: &[u64],
+    versions: &[u64],
+    lists: &[u64],
+    sizes: Sizes,
+    clock: u64,
+    used: u64,
+    t: Transaction,
+) -> bool
+    ensures { λ r. ⌜ r ≡ txnFits (now («rows_table» .entry)) (now (versions .entry)) (now (lists .entry)) sizes clock used t ⌝ }
+{
+    let snapshot = t.snapshot;
+    let active = snapshot.active;
+    if t.number >= clock {
+        return false;
+    }
+    if snapshot.xmin != least_of(t.number, active, snapshot.active_n) {
+        return false;
+    }
+    if !counts_fit(t) {
+        return false;
+    }
+    if !ranges_fit(lists, sizes, used, t) {
+        return false;
+    }
+    heads_fit(rows_table, versions, lists, t)
+}
+
+// The same of what stands at a place; a free one is asked for nothing.
+pub fn place_fits(
+    rows_table: &[u64],
+    versions: &[u64],
+    lists: &[u64],
+    sizes: Sizes,
+    clock: u64,
+    used: u64,
+    t: Transaction,
+) -> bool
+    ensures { λ r. ⌜ r ≡ placeFits (now («rows_table» .entry)) (now (versions .entry)) (now (lists .entry)) sizes clock used t ⌝ }
+{
+    if t.number == 0 {
+        return true;
+    }
+    txn_fits(rows_table, versions, lists, sizes, clock, used, t)
+}

@@ -1,0 +1,115 @@
+-- One step over the words: what it answers, the record that goes back, and the tables.
+use Prim.Native.Nat.{ℕ}
+use mathlib.Core.Bool.{cond}
+use mathlib.Core.List.{List}
+use Rattle.base_protocol.specs.declared.Step.{Step}
+use Rattle.base_protocol.specs.declared.Step.the-variants as ask
+use Rattle.base_protocol.specs.declared.Answer.{Answer}
+use Rattle.base_protocol.specs.declared.Answer.the-variants as tell
+use Rattle.txn.specs.Methods as methods
+use Rattle.txn.specs.declared.Transaction.{Transaction}
+use Rattle.txn.specs.declared.Answered.{Answered}
+use Rattle.txn_begin.specs.Begin.{beginOf}
+use Rattle.txn_begin.specs.declared.Begun.{Begun}
+use Rattle.finish_install.specs.Install as install
+use Rattle.finish_install.specs.declared.Installed.{Installed}
+use Rattle.finish_publish.specs.Publish as publish
+use Rattle.write_prepare.specs.Prepare as prepare
+use Rattle.read.specs.Rows as reads
+use Rattle.txn_places.specs.Places.{missesOf, liveIn}
+use Rattle.txn_places.specs.declared.Sizes.{Sizes}
+use Rattle.txn_places.specs.declared.Others.{Others}
+use Rattle.step.specs.declared.Stepped.{Stepped}
+
+-- the parts that a step leaves alone put beside the others
+abbrev pub withClock : Answered → ℕ → ℕ → Stepped
+withClock a clock used = record { answer = a .answer; txn = a .txn; clock = clock; used = used }
+
+abbrev pub withBegun : Begun → ℕ → Stepped
+withBegun b used = record { answer = b .answer; txn = b .txn; clock = b .clock; used = used }
+
+abbrev pub withInstalled : Installed → ℕ → Stepped
+withInstalled i clock = record { answer = i .answer; txn = i .txn; clock = clock; used = i .used }
+
+-- clock up by 1 where a stamp was given
+abbrev pub clockAfter : Answer → ℕ → ℕ
+clockAfter (tell.Stamp n) clock = install.oneMore clock
+clockAfter tell.Done clock = clock
+clockAfter (tell.Number n) clock = clock
+clockAfter (tell.Count n) clock = clock
+clockAfter (tell.Rows n) clock = clock
+clockAfter (tell.Judged v) clock = clock
+clockAfter (tell.Refused n) clock = clock
+
+pub record Published : Type 0 where
+  pub stepped : Stepped
+  pub rows : List ℕ
+  pub buckets : List ℕ
+
+abbrev pub publishedFrom : publish.Left → ℕ → ℕ → Published
+publishedFrom l clock used = record { stepped = withClock (l .reply) (clockAfter (l .reply .answer) clock) used; rows = l .rows; buckets = l .buckets }
+
+unfoldable pub publishStep : List ℕ → List ℕ → ℕ → Transaction → ℕ → ℕ → List ℕ → List ℕ → Published
+publishStep versions lists count t clock used rows buckets = publishedFrom (publish.publishOf versions lists count clock t rows buckets) clock used
+
+-- the lent tables, and the lent row list
+pub record Tables : Type 0 where
+  pub rows : List ℕ
+  pub versions : List ℕ
+  pub buckets : List ℕ
+  pub lists : List ℕ
+  pub found : List ℕ
+
+-- all that a step leaves
+pub record Moved : Type 0 where
+  pub stepped : Stepped
+  pub rows : List ℕ
+  pub versions : List ℕ
+  pub buckets : List ℕ
+  pub lists : List ℕ
+  pub found : List ℕ
+
+abbrev pub stays : Stepped → Tables → Moved
+stays st b = record { stepped = st; rows = b .rows; versions = b .versions; buckets = b .buckets; lists = b .lists; found = b .found }
+
+abbrev pub inBuckets : methods.Left → ℕ → ℕ → Tables → Moved
+inBuckets l clock used b = record { stepped = withClock (l .reply) clock used; rows = b .rows; versions = b .versions; buckets = l .buckets; lists = l .lists; found = b .found }
+
+abbrev pub inLists : methods.LeftLists → ℕ → ℕ → Tables → Moved
+inLists l clock used b = record { stepped = withClock (l .reply) clock used; rows = b .rows; versions = b .versions; buckets = b .buckets; lists = l .lists; found = b .found }
+
+abbrev pub inFound : reads.LeftRows → ℕ → ℕ → Tables → Moved
+inFound l clock used b = record { stepped = withClock (l .reply) clock used; rows = b .rows; versions = b .versions; buckets = b .buckets; lists = l .lists; found = l .found }
+
+abbrev pub inPrepared : prepare.Left → ℕ → ℕ → Tables → Moved
+inPrepared l clock used b = record { stepped = withClock (l .reply) clock used; rows = l .rows; versions = b .versions; buckets = l .buckets; lists = b .lists; found = b .found }
+
+abbrev pub inInstalled : install.Left → ℕ → Tables → Moved
+inInstalled l clock b = record { stepped = withInstalled (l .reply) clock; rows = l .rows; versions = l .versions; buckets = b .buckets; lists = b .lists; found = b .found }
+
+abbrev pub inPublished : Published → Tables → Moved
+inPublished l b = record { stepped = l .stepped; rows = l .rows; versions = b .versions; buckets = l .buckets; lists = b .lists; found = b .found }
+
+abbrev pub inAborted : publish.Left → ℕ → ℕ → Tables → Moved
+inAborted l clock used b = record { stepped = withClock (l .reply) clock used; rows = l .rows; versions = b .versions; buckets = l .buckets; lists = b .lists; found = b .found }
+
+-- by the kind of step
+abbrev pub doneBy : Sizes → Others → Transaction → ℕ → ℕ → Step → Tables → Moved
+doneBy z o t clock used ask.Begin b = stays (withBegun (beginOf (o .active) (liveIn (o .numbers)) clock t) used) b
+doneBy z o t clock used (ask.Capture n k) b = inBuckets (methods.captureOf (z .buckets) t k (b .buckets) (b .lists)) clock used b
+doneBy z o t clock used (ask.Collect n) b = inBuckets (methods.collectOf (b .rows) (z .rows) t (b .buckets) (b .lists)) clock used b
+doneBy z o t clock used (ask.Rows n room) b = inFound (reads.rowsOf (b .rows) (b .versions) (b .lists) (b .found) (z .rows) used room t) clock used b
+doneBy z o t clock used (ask.Put n r k payload) b = inLists (methods.writeOf (z .rows) t (record { row = r; keyed = 1; key = k; payload = payload }) (b .lists)) clock used b
+doneBy z o t clock used (ask.Erase n r) b = inLists (methods.writeOf (z .rows) t (record { row = r; keyed = 0; key = 0; payload = 0 }) (b .lists)) clock used b
+doneBy z o t clock used (ask.Prepare n) b = inPrepared (prepare.prepareOf (b .versions) (b .lists) (z .buckets) (z .versions) used (o .prepared) t (b .rows) (b .buckets)) clock used b
+doneBy z o t clock used (ask.Install n) b = inInstalled (install.installOf (b .lists) t (record { rows = b .rows; versions = b .versions; used = used })) clock b
+doneBy z o t clock used (ask.End n) b = stays (withClock (publish.endOf t) clock used) b
+doneBy z o t clock used (ask.Publish n) b = inPublished (publishStep (b .versions) (b .lists) (z .buckets) t clock used (b .rows) (b .buckets)) b
+doneBy z o t clock used (ask.Validate n) b = stays (withClock (prepare.validateOf (b .versions) (b .buckets) (b .lists) t) clock used) b
+doneBy z o t clock used (ask.Abort n) b = inAborted (publish.abortOf (b .versions) (b .lists) (z .buckets) t (b .rows) (b .buckets)) clock used b
+
+-- no live transaction has this number; else the step
+unfoldable pub stepOf : Sizes → Others → Transaction → ℕ → ℕ → Step → Tables → Moved
+stepOf z o t clock used s b =
+    cond (missesOf (t .number) s) (stays (record { answer = tell.Refused 4; txn = t; clock = clock; used = used }) b)
+    (doneBy z o t clock used s b)

@@ -1,0 +1,143 @@
+-- The buckets that a transaction needs and the rows that it writes: the words list the same as the model names.
+-- Assumes nothing.
+use Prim.Native.Nat.{ℕ, suc, _%_, _≤_, _<_}
+use mathlib.Core.Path.{_≡_, refl, sym, ap, _∙_, fun-ext}
+use mathlib.Core.Bool.{Bool, true, false, cond}
+use mathlib.Core.Logic.{inl, inr, ⊎-elim}
+use mathlib.Core.Option.{none, some}
+use mathlib.Core.List.{List, [], _∷_, _++_, map}
+use native.Mathlib.Omega.{arith}
+use lib.Dec.{eqb}
+use borrow.Author.Tests.{eq-eqb}
+use Rattle.base_lists.specs.Lists.{member, join, Among}
+use Rattle.base_lists.specs.Table.{updateAll}
+use Rattle.base_lists.proofs.ListLaws.{among-left, among-right, among-cases, among-map, map-among, join-which, which-join, member-among, among-member, same-test, or-left, or-right, pick-which}
+use Rattle.model.specs.Store as model
+use Rattle.model.specs.Store.{bucketOf}
+use Rattle.model.specs.Seeing.{keyAt, pending}
+use Rattle.model.specs.Steps.{pendingRows, oldKey, newKey, keyBuckets, readBuckets, neededBuckets}
+use Rattle.model.proofs.SeeingLaws.{which-pendingRows, pending-which}
+use Rattle.table.specs.Fields as fields
+use Rattle.table.specs.Lists as lists
+use Rattle.table.specs.declared.lists.Write.{Write}
+use Rattle.table.proofs.Parts.{part-field}
+use Rattle.txn.specs.View.{keyView, writeView}
+use Rattle.txn_needs.specs.declared.Key.{Key}
+use Rattle.txn_needs.specs.Keys.{keyOf, versionKey, oldKeyOf, newKeyOf}
+use Rattle.txn_needs.specs.Needs.{bucketsFor, readsNeed, rowsWritten, writeNeeds, writesNeed}
+use Rattle.step.specs.Words.{Words, view, txnAt, Sized}
+use Rattle.step_bridge.proofs.Shaped.{Shaped}
+use Rattle.step_bridge.proofs.Places.{sized-at}
+use Rattle.step_bridge.proofs.Judging.{reads-need}
+use Rattle.step_bridge.proofs.Keyed.{new-key-same}
+
+-- lists with the same entries take the same entries
+pub all-same : (f : ℕ → ℕ) (is js : List ℕ) (v : ℕ) → ((j : ℕ) → Among j is → Among j js) → ((j : ℕ) → Among j js → Among j is) → updateAll f is v ≡ updateAll f js v
+unfolding updateAll
+all-same f is js v to back = fun-ext λ j. ap (λ (b : Bool). cond b v (f j)) (same-test (member j is) (member j js) (λ e. among-member j js (to j (member-among j is e))) (λ e. among-member j is (back j (member-among j js e))))
+
+-- a write's row is pending
+among-pending : (ws : List model.Write) (x : model.Write) → Among x ws → pending ws (x .row) ≡ true
+unfolding pending
+among-pending (y ∷ ws) x (inl e) = or-left _ _ (eq-eqb (y .row) (x .row) (ap (λ (v : model.Write). v .row) (sym e)))
+among-pending (y ∷ ws) x (inr m) = or-right (eqb (y .row) (x .row)) _ (among-pending ws x m)
+
+-- the rows of a slot's pending writes are the pending rows
+module _ (xs : List ℕ) (s n : ℕ) (z : model.Sizes) (r : ℕ) where
+  pub written-pending : r < z .rows → Among r (rowsWritten xs s n) → Among r (pendingRows z (map writeView (lists.writesOf xs s n)))
+  written-pending h m =
+      let ws = lists.writesOf xs s n in
+      let a = map-among (λ (x : Write). x .row) ws r m in
+      which-pendingRows z (map writeView ws) r h (rw (a .2) (among-pending (map writeView ws) (writeView (a .0)) (among-map writeView ws (a .0) (a .1))))
+
+  pub pending-written : Among r (pendingRows z (map writeView (lists.writesOf xs s n))) → Among r (rowsWritten xs s n)
+  unfolding pendingRows
+  pending-written m =
+      let ws = lists.writesOf xs s n in
+      let a = pending-which (map writeView ws) r (pick-which (pending (map writeView ws)) 0 (z .rows) r m .2) in
+      let b = map-among writeView ws (a .0) (a .1) in
+      let e : r ≡ b .0 .row = sym (a .2) ∙ ap (λ (x : model.Write). x .row) (b .2) in
+      rw e (among-map (λ (x : Write). x .row) ws (b .0) (b .1))
+
+-- the bucket of a key
+pub key-buckets : (z : model.Sizes) (k : Key) → keyBuckets z (keyOf k) ≡ bucketsFor (z .buckets) k
+unfolding keyBuckets bucketsFor bucketOf
+key-buckets z k = by (eqb (k .keyed) 0)
+  where
+    by : (b : Bool) → keyBuckets z (cond b none (some (k .key))) ≡ cond b [] ((k .key % z .buckets) ∷ [])
+    by true = refl
+    by false = refl
+
+-- the buckets that the words list for the index reads and the pending rows
+abbrev pub listedNeeds : Words → ℕ → List ℕ
+listedNeeds w p = readsNeed (w .tables .lists) (txnAt w p .slot) (txnAt w p .«reads_n») ++ writesNeed (w .tables .rows) (w .tables .versions) (w .tables .lists) (w .sizes .buckets) false (txnAt w p .slot) (txnAt w p .«writes_n»)
+
+module _ (w : Words) (z : Sized w) (g : Shaped w) where
+  pub used-in : (p : ℕ) → p ≤ w .used → p < suc (w .sizes .versions)
+  used-in p h = omega (arith, g .versions-left)
+
+  -- the key at a pointer that was given
+  pub version-key : (p : ℕ) → p ≤ w .used → keyOf (versionKey (w .tables .versions) p) ≡ keyAt (view w .chains) p
+  unfolding versionKey keyAt
+  version-key p h =
+      rw (part-field 6 3 (suc (w .sizes .versions)) (w .tables .versions) p (omega arith) (used-in p h), part-field 6 4 (suc (w .sizes .versions)) (w .tables .versions) p (omega arith) (used-in p h))
+      (by (eqb p 0))
+    where
+      by : (b : Bool) → keyOf (cond b (record { keyed = 0; key = 0 }) (record { keyed = fields.keyedOf (w .tables .versions) p; key = fields.keyOf (w .tables .versions) p }))
+          ≡ cond b none (keyView (fields.keyedOf (w .tables .versions) p) (fields.keyOf (w .tables .versions) p))
+      by true = refl
+      by false = refl
+
+  pub head-same : (r : ℕ) → r < w .sizes .rows → fields.headOf (w .tables .rows) r ≡ view w .chains .head r
+  head-same r h = sym (part-field 4 0 (w .sizes .rows) (w .tables .rows) r (omega arith) h)
+
+  -- the head version's key
+  pub old-key-same : (r : ℕ) → r < w .sizes .rows → keyOf (oldKeyOf (w .tables .rows) (w .tables .versions) false r) ≡ oldKey (view w .chains) r
+  unfolding oldKeyOf
+  old-key-same r h = rw (head-same r h) (version-key (view w .chains .head r) (g .heads-in r))
+
+  -- what is needed for one pending row
+  pub row-needs : (p r : ℕ) → r < w .sizes .rows → writeNeeds (w .tables .rows) (w .tables .versions) (w .tables .lists) (w .sizes .buckets) false (txnAt w p .slot) (txnAt w p .«writes_n») r
+      ≡ keyBuckets (view w .sizes) (oldKey (view w .chains) r) ++ keyBuckets (view w .sizes) (newKey (view w .txns p) r)
+  unfolding writeNeeds
+  row-needs p r h =
+      let a = key-buckets (view w .sizes) (oldKeyOf (w .tables .rows) (w .tables .versions) false r) in
+      let b = key-buckets (view w .sizes) (newKeyOf (w .tables .lists) (txnAt w p .slot) (txnAt w p .«writes_n») r) in
+      rw (← a, ← b, old-key-same r h, new-key-same (w .tables .lists) (txnAt w p) (sized-at w z p .writes) r)
+
+  -- the rows of the pending writes are the pending rows
+  pub row-in : (p : ℕ) → 1 ≤ txnAt w p .number → (r : ℕ) → Among r (rowsWritten (w .tables .lists) (txnAt w p .slot) (txnAt w p .«writes_n»)) → r < w .sizes .rows
+  row-in p l r m =
+      let ws = lists.writesOf (w .tables .lists) (txnAt w p .slot) (txnAt w p .«writes_n») in
+      let a = map-among (λ (x : Write). x .row) ws r m in
+      rw (a .2) (g .in-store p l .writes-in (writeView (a .0)) (among-map writeView ws (a .0) (a .1)))
+
+  pub row-pending : (p : ℕ) → 1 ≤ txnAt w p .number → (r : ℕ) → Among r (rowsWritten (w .tables .lists) (txnAt w p .slot) (txnAt w p .«writes_n»)) → Among r (pendingRows (view w .sizes) (view w .txns p .writes))
+  row-pending p l r m = written-pending (w .tables .lists) (txnAt w p .slot) (txnAt w p .«writes_n») (view w .sizes) r (row-in p l r m) m
+
+  pub pending-row : (p r : ℕ) → Among r (pendingRows (view w .sizes) (view w .txns p .writes)) → Among r (rowsWritten (w .tables .lists) (txnAt w p .slot) (txnAt w p .«writes_n»))
+  pending-row p r m = pending-written (w .tables .lists) (txnAt w p .slot) (txnAt w p .«writes_n») (view w .sizes) r m
+
+  -- they are those that the model needs
+  pub needed-listed : (p : ℕ) → 1 ≤ txnAt w p .number → (b : ℕ) → Among b (neededBuckets (view w) (view w .txns p)) → Among b (listedNeeds w p)
+  unfolding neededBuckets
+  needed-listed p l b m = ⊎-elim
+      (λ n. among-left b (readsNeed (w .tables .lists) (txnAt w p .slot) (txnAt w p .«reads_n»)) _ (rw (reads-need (w .tables .lists) (txnAt w p)) at n))
+      (λ n.
+      let a = join-which (λ r. keyBuckets (view w .sizes) (oldKey (view w .chains) r) ++ keyBuckets (view w .sizes) (newKey (view w .txns p) r)) (pendingRows (view w .sizes) (view w .txns p .writes)) b n in
+      let r = pending-row p (a .0) (a .1) in
+      among-right b (readsNeed (w .tables .lists) (txnAt w p .slot) (txnAt w p .«reads_n»)) _
+      (which-join (writeNeeds (w .tables .rows) (w .tables .versions) (w .tables .lists) (w .sizes .buckets) false (txnAt w p .slot) (txnAt w p .«writes_n»)) (rowsWritten (w .tables .lists) (txnAt w p .slot) (txnAt w p .«writes_n»)) b (a .0) r
+      (rw (row-needs p (a .0) (row-in p l (a .0) r)) (a .2))))
+      (among-cases b (readBuckets (view w .txns p)) (join (λ r. keyBuckets (view w .sizes) (oldKey (view w .chains) r) ++ keyBuckets (view w .sizes) (newKey (view w .txns p) r)) (pendingRows (view w .sizes) (view w .txns p .writes))) m)
+
+  pub listed-needed : (p : ℕ) → 1 ≤ txnAt w p .number → (b : ℕ) → Among b (listedNeeds w p) → Among b (neededBuckets (view w) (view w .txns p))
+  unfolding neededBuckets
+  listed-needed p l b m = ⊎-elim
+      (λ n. among-left b (readBuckets (view w .txns p)) _ (rw (reads-need (w .tables .lists) (txnAt w p)) n))
+      (λ n.
+      let a = join-which (writeNeeds (w .tables .rows) (w .tables .versions) (w .tables .lists) (w .sizes .buckets) false (txnAt w p .slot) (txnAt w p .«writes_n»)) (rowsWritten (w .tables .lists) (txnAt w p .slot) (txnAt w p .«writes_n»)) b n in
+      among-right b (readBuckets (view w .txns p)) _
+      (which-join (λ r. keyBuckets (view w .sizes) (oldKey (view w .chains) r) ++ keyBuckets (view w .sizes) (newKey (view w .txns p) r)) (pendingRows (view w .sizes) (view w .txns p .writes)) b (a .0) (row-pending p l (a .0) (a .1))
+      (rw (row-needs p (a .0) (row-in p l (a .0) (a .1))) at (a .2))))
+      (among-cases b (readsNeed (w .tables .lists) (txnAt w p .slot) (txnAt w p .«reads_n»)) (writesNeed (w .tables .rows) (w .tables .versions) (w .tables .lists) (w .sizes .buckets) false (txnAt w p .slot) (txnAt w p .«writes_n»)) m)

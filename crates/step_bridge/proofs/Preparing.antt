@@ -1,0 +1,178 @@
+-- Prepare over the words is the model's.
+-- Assumes nothing.
+use Prim.Native.Nat.{ℕ, _+_, _≤_, _<_}
+use mathlib.Core.Path.{_≡_, refl, sym, ap, _∙_}
+use mathlib.Core.Bool.{Bool, true, false, cond, not, _&&_, _||_}
+use mathlib.Core.Option.{none, some}
+use mathlib.Core.List.{List, [], _∷_}
+use native.Mathlib.Omega.{arith}
+use lib.Dec.{eqb, ltb}
+use lib.ListN.{length, take, getD, replicate, List·getD-map}
+use borrow.Author.Tests.{eqb-false}
+use Rattle.base_limits.specs.Limits.{mostLive}
+use Rattle.base_lists.specs.Lists.{some-of, Among, join}
+use Rattle.base_lists.proofs.ListLaws.{same-test, some-which, which-some}
+use Rattle.model.specs.Store as model
+use Rattle.model.specs.Store.{rank}
+use Rattle.model.specs.Verdict as judged
+use Rattle.model.specs.Steps.{pendingRows, neededBuckets, preparedHeld, versionRows}
+use Rattle.model.specs.Refusals.{Refusal, WrongPhase, Taken, Conflict, NoVersions, byAnother, reservedBy, reserved, bucketsTaken, rowsClaimed, checks, refusal, inPhase, txnOf}
+use Rattle.model.specs.Machine.{accepted, afterRefusal, carried}
+use Rattle.base_protocol.specs.declared.Step.the-variants as ask
+use Rattle.base_protocol.specs.declared.Answer.the-variants as tell
+use Rattle.base_protocol.specs.View.{asked, verdictTold}
+use Rattle.table.specs.Fields as fields
+use Rattle.table.proofs.Parts.{part-field}
+use Rattle.table.specs.Regions.{listOf}
+use Rattle.table_buckets.specs.Buckets.{canonicalOf}
+use Rattle.txn.specs.View.{phaseView, rowsPart, versionsPart, bucketsPart, chainsView, indexView, heldView}
+use Rattle.txn.specs.Methods.{withPhase, takenBy, refusedOf, idleOf}
+use Rattle.txn.specs.declared.Phase.the-variants as phase
+use Rattle.txn.specs.declared.Transaction.{Transaction}
+use Rattle.txn_needs.specs.Needs.{pushAll, rowsWritten}
+use Rattle.txn_needs.specs.Holders.{anyTaken, anyClaimed, holdAll, claimAll}
+use Rattle.write_prepare.specs.Prepare.{isClear, versionsIn, reservedIn, lacks, neededInto, left, prepareWith, prepareOf}
+use Rattle.finish_install.specs.Install.{rowsListed, pendingInto, versionsInto}
+use Rattle.txn_places.specs.Places.{preparedCount}
+use Rattle.step.specs.Steps.{inPrepared}
+use Rattle.step.specs.Words.{Words, sizesView, view, txnAt, othersIn, Sized}
+use Rattle.step_bridge.proofs.Shaped.{Shaped}
+use Rattle.step_bridge.proofs.Places.{standing, live-at, sized-at}
+use Rattle.step_bridge.proofs.Placed.{txns-set, sized-set}
+use Rattle.step_bridge.proofs.Same.{same-store, SameAt, Same, refused-same, by-place}
+use Rattle.step_bridge.proofs.Listing.{listed-all, some-same}
+use Rattle.step_bridge.proofs.Tabled.{hold-all, hold-other, hold-length, claim-all, claim-other, claim-length}
+use Rattle.step_bridge.proofs.Writing.{sized-phase}
+use Rattle.step_bridge.proofs.Judging.{taken-same, verdict-same}
+use Rattle.step_bridge.proofs.Needing.{all-same, listedNeeds, row-in, row-pending, pending-row, needed-listed, listed-needed}
+use Rattle.step_bridge.proofs.Aborting.{listed-few, listed-in}
+use Rattle.step_bridge.proofs.Distinct.{versions-counted}
+
+-- a test of some entry sees only which entries there are
+some-both : (test : ℕ → Bool) (xs ys : List ℕ) → ((x : ℕ) → Among x xs → Among x ys) → ((x : ℕ) → Among x ys → Among x xs) → some-of test xs ≡ some-of test ys
+some-both test xs ys to back = same-test _ _
+    (λ e. let a = some-which test xs e in which-some test ys (a .0) (to (a .0) (a .1)) (a .2))
+    (λ e. let a = some-which test ys e in which-some test xs (a .0) (back (a .0) (a .1)) (a .2))
+
+clear-same : (v : judged.Verdict) → isClear (verdictTold v) ≡ eqb (judged.verdictNumber v) 0
+clear-same judged.Clear = refl
+clear-same (judged.Bucket b captured present) = refl
+clear-same (judged.Row r p) = refl
+clear-same judged.Mark = refl
+
+abbrev preparedOf : Transaction → ℕ
+preparedOf t = preparedCount (t .number) (t .phase) (t .«writes_n»)
+
+-- what prepare tests after the phase
+abbrev prepareChecks : model.Store → ℕ → List (Bool × Refusal)
+prepareChecks s t =
+    (bucketsTaken s t (neededBuckets s (txnOf s t)) || rowsClaimed s t, Taken)
+    ∷ (not (eqb (judged.verdictNumber (judged.verdict (s .chains) (s .index) (txnOf s t))) 0), Conflict)
+    ∷ (ltb (s .sizes .versions) (s .chains .used + reserved (s .sizes) (s .chains) (s .txns) mostLive + length (versionRows (s .sizes) (s .chains) (txnOf s t .writes))), NoVersions)
+    ∷ []
+
+-- no writes reserve nothing
+pub none-reserved : (rows versions xs : List ℕ) (s : ℕ) → versionsIn rows versions xs s 0 ≡ 0
+unfolding versionsIn versionsInto pendingInto rowsListed pushAll listOf canonicalOf join
+none-reserved rows versions xs s = refl
+
+module _ (w : Words) (z : Sized w) (g : Shaped w) where
+  taken-needs : (p : ℕ) → 1 ≤ txnAt w p .number → anyTaken (w .tables .buckets) (txnAt w p .number) (listedNeeds w p) ≡ some-of (byAnother (view w .held .holder) (txnAt w p .number)) (neededBuckets (view w) (view w .txns p))
+  taken-needs p l =
+      some-same (λ b. takenBy (fields.holderOf (w .tables .buckets) b) (txnAt w p .number)) (byAnother (view w .held .holder) (txnAt w p .number)) (listedNeeds w p) (λ b m. taken-same w z g (txnAt w p .number) b (listed-in w z g p l b m))
+      ∙ some-both _ _ _ (λ b m. listed-needed w z g p l b m) (λ b m. needed-listed w z g p l b m)
+
+  claim-same : (n r : ℕ) → r < w .sizes .rows → takenBy (fields.claimOf (w .tables .rows) r) n ≡ byAnother (view w .held .claim) n r
+  unfolding byAnother
+  claim-same n r h = rw (part-field 4 1 (w .sizes .rows) (w .tables .rows) r (omega arith) h)
+
+  claimed-rows : (p : ℕ) → 1 ≤ txnAt w p .number → anyClaimed (w .tables .rows) (txnAt w p .number) (rowsWritten (w .tables .lists) (txnAt w p .slot) (txnAt w p .«writes_n»))
+      ≡ some-of (byAnother (view w .held .claim) (txnAt w p .number)) (pendingRows (view w .sizes) (view w .txns p .writes))
+  claimed-rows p l =
+      some-same (λ r. takenBy (fields.claimOf (w .tables .rows) r) (txnAt w p .number)) (byAnother (view w .held .claim) (txnAt w p .number)) (rowsWritten (w .tables .lists) (txnAt w p .slot) (txnAt w p .«writes_n»)) (λ r m. claim-same (txnAt w p .number) r (row-in w z g p l r m))
+      ∙ some-both _ _ _ (λ r m. row-pending w z g p l r m) (λ r m. pending-row w z g p r m)
+
+  reserved-one : (i : ℕ) → versionsIn (w .tables .rows) (w .tables .versions) (w .tables .lists) i (getD (othersIn (w .txns) .prepared) i 0) ≡ reservedBy (view w .sizes) (view w .chains) (view w .txns i)
+  unfolding reservedBy
+  reserved-one i = rw (List·getD-map preparedOf (w .txns) i (idleOf i)) (by (eqb (txnAt w i .number) 0) refl (eqb (rank (phaseView (txnAt w i .phase))) 4))
+    where
+      by : (b : Bool) → eqb (txnAt w i .number) 0 ≡ b → (c : Bool) → versionsIn (w .tables .rows) (w .tables .versions) (w .tables .lists) i (cond b 0 (cond c (txnAt w i .«writes_n») 0)) ≡ cond (not b && c) (length (versionRows (view w .sizes) (view w .chains) (view w .txns i .writes))) 0
+      by true e c = none-reserved (w .tables .rows) (w .tables .versions) (w .tables .lists) i
+      by false e false = none-reserved (w .tables .rows) (w .tables .versions) (w .tables .lists) i
+      by false e true = ap (λ (j : ℕ). versionsIn (w .tables .rows) (w .tables .versions) (w .tables .lists) j (txnAt w i .«writes_n»)) (sym (sized-at w z i .slot)) ∙ versions-counted w z g i (let d = eqb-false (txnAt w i .number) 0 e in omega (arith, d))
+
+  reserved-same : reservedIn (w .tables .rows) (w .tables .versions) (w .tables .lists) (othersIn (w .txns) .prepared) ≡ reserved (view w .sizes) (view w .chains) (view w .txns) mostLive
+  unfolding reservedIn reserved
+  reserved-same = omega (arith, reserved-one 0, reserved-one 1, reserved-one 2, reserved-one 3, reserved-one 4, reserved-one 5, reserved-one 6, reserved-one 7)
+
+  needed-front : (p : ℕ) → take (neededInto (w .tables .rows) (w .tables .versions) (w .tables .lists) (w .sizes .buckets) (txnAt w p .slot) (txnAt w p .«reads_n») (txnAt w p .«writes_n») (replicate 48 0) .n)
+      (neededInto (w .tables .rows) (w .tables .versions) (w .tables .lists) (w .sizes .buckets) (txnAt w p .slot) (txnAt w p .«reads_n») (txnAt w p .«writes_n») (replicate 48 0) .out) ≡ listedNeeds w p
+  unfolding neededInto
+  needed-front p = listed-all 48 (listedNeeds w p) (listed-few w p z)
+
+  -- all that is needed is taken
+  prepare-held : (p : ℕ) → 1 ≤ txnAt w p .number → heldView (rowsPart (sizesView (w .sizes)) (claimAll (w .tables .rows) (txnAt w p .number) (rowsWritten (w .tables .lists) (txnAt w p .slot) (txnAt w p .«writes_n»))))
+      (bucketsPart (sizesView (w .sizes)) (holdAll (w .tables .buckets) (txnAt w p .number) (listedNeeds w p)))
+      ≡ preparedHeld (view w) (view w .txns p)
+  prepare-held p l =
+      let n = txnAt w p .number in
+      let rs = rowsWritten (w .tables .lists) (txnAt w p .slot) (txnAt w p .«writes_n») in
+      rw (
+        hold-all (w .sizes .buckets) n (w .tables .buckets) (listedNeeds w p) (listed-in w z g p l) (z .buckets),
+        claim-all (w .sizes .rows) n (w .tables .rows) rs (λ r m. row-in w z g p l r m) (z .rows),
+        all-same (view w .held .holder) (listedNeeds w p) (neededBuckets (view w) (view w .txns p)) n (λ b m. listed-needed w z g p l b m) (λ b m. needed-listed w z g p l b m),
+        all-same (view w .held .claim) rs (pendingRows (view w .sizes) (view w .txns p .writes)) n (λ r m. row-pending w z g p l r m) (λ r m. pending-row w z g p r m),
+      )
+
+  prepare-chains : (n : ℕ) (rs : List ℕ) → chainsView (rowsPart (sizesView (w .sizes)) (claimAll (w .tables .rows) n rs)) (versionsPart (sizesView (w .sizes)) (w .tables .versions)) (w .used) ≡ view w .chains
+  prepare-chains n rs = rw (claim-other (w .sizes .rows) n (w .tables .rows) rs 0 (omega arith) (omega arith))
+
+  prepare-index : (n : ℕ) (rs bs : List ℕ) → indexView (rowsPart (sizesView (w .sizes)) (claimAll (w .tables .rows) n rs)) (bucketsPart (sizesView (w .sizes)) (holdAll (w .tables .buckets) n bs)) ≡ view w .index
+  prepare-index n rs bs = rw (claim-other (w .sizes .rows) n (w .tables .rows) rs 2 (omega arith) (omega arith), claim-other (w .sizes .rows) n (w .tables .rows) rs 3 (omega arith) (omega arith), hold-other (w .sizes .buckets) n (w .tables .buckets) bs)
+
+  prepared-at : (n : ℕ) → standing w n < mostLive → 1 ≤ txnAt w (standing w n) .number → (a b c d e : Bool)
+      → SameAt w (standing w n)
+      (inPrepared
+      (cond a (left (refusedOf (txnAt w (standing w n)) 5) (w .tables .rows) (w .tables .buckets))
+      (cond b (left (refusedOf (txnAt w (standing w n)) 7) (w .tables .rows) (w .tables .buckets))
+      (cond c (left (refusedOf (txnAt w (standing w n)) 7) (w .tables .rows) (w .tables .buckets))
+      (cond d (left (refusedOf (txnAt w (standing w n)) 14) (w .tables .rows) (w .tables .buckets))
+      (cond e (left (refusedOf (txnAt w (standing w n)) 13) (w .tables .rows) (w .tables .buckets))
+      (left (record { answer = tell.Done; txn = withPhase (txnAt w (standing w n)) phase.Prepared })
+      (claimAll (w .tables .rows) (txnAt w (standing w n) .number) (rowsWritten (w .tables .lists) (txnAt w (standing w n) .slot) (txnAt w (standing w n) .«writes_n»)))
+      (holdAll (w .tables .buckets) (txnAt w (standing w n) .number) (listedNeeds w (standing w n)))))))))
+      (w .clock) (w .used) (w .tables))
+      (carried (view w) (asked (ask.Prepare n)) (cond a (some WrongPhase) (cond (b || c) (some Taken) (cond d (some Conflict) (cond e (some NoVersions) none)))))
+  unfolding carried accepted afterRefusal
+  prepared-at n l o true b c d e = refused-same w z (standing w n) WrongPhase
+  prepared-at n l o false true c d e = refused-same w z (standing w n) Taken
+  prepared-at n l o false false true d e = refused-same w z (standing w n) Taken
+  prepared-at n l o false false false true e = refused-same w z (standing w n) Conflict
+  prepared-at n l o false false false false true = refused-same w z (standing w n) NoVersions
+  prepared-at n l o false false false false false =
+      let q = standing w n in
+      let t = txnAt w q in
+      let rs = rowsWritten (w .tables .lists) (t .slot) (t .«writes_n») in
+      record {
+        store = same-store _ _ refl refl (prepare-chains (t .number) rs) (prepare-index (t .number) rs (listedNeeds w q)) (prepare-held q o) (txns-set w z q l (w .tables .lists) (withPhase t phase.Prepared) (λ j d. refl));
+        answer = refl;
+        lent = refl;
+        sized = sized-set w z q l _ _ _ _ (sized-phase q t phase.Prepared (sized-at w z q)) (claim-length (t .number) (w .tables .rows) rs) refl (hold-length (t .number) (w .tables .buckets) (listedNeeds w q)) refl;
+      }
+
+  -- the tests after the phase
+  prepare-place : (n : ℕ) → standing w n < mostLive → 1 ≤ txnAt w (standing w n) .number
+      → SameAt w (standing w n) (inPrepared (prepareOf (w .tables .versions) (w .tables .lists) (w .sizes .buckets) (w .sizes .versions) (w .used) (othersIn (w .txns) .prepared) (txnAt w (standing w n)) (w .tables .rows) (w .tables .buckets)) (w .clock) (w .used) (w .tables))
+      (carried (view w) (asked (ask.Prepare n)) (refusal ((not (inPhase (view w) n 1), WrongPhase) ∷ prepareChecks (view w) n)))
+  unfolding prepareOf prepareWith lacks refusal
+  prepare-place n l o =
+      let q = standing w n in
+      let t = txnAt w q in
+      rw (needed-front q, taken-needs q o, claimed-rows q o, verdict-same w z g q o, clear-same (judged.verdict (view w .chains) (view w .index) (view w .txns q)), reserved-same, versions-counted w z g q o)
+      (prepared-at n l o (not (eqb (rank (phaseView (t .phase))) 1)) (some-of (byAnother (view w .held .holder) (t .number)) (neededBuckets (view w) (view w .txns q))) (some-of (byAnother (view w .held .claim) (t .number)) (pendingRows (view w .sizes) (view w .txns q .writes)))
+      (not (eqb (judged.verdictNumber (judged.verdict (view w .chains) (view w .index) (view w .txns q))) 0)) (ltb (w .sizes .versions) (w .used + reserved (view w .sizes) (view w .chains) (view w .txns) mostLive + length (versionRows (view w .sizes) (view w .chains) (view w .txns q .writes)))))
+
+  -- all that is needed is free, the verdict is clear, there are versions: all is taken
+  pub prepare-same : (n : ℕ) → Same w (ask.Prepare n)
+  unfolding checks
+  prepare-same n = by-place w z (ask.Prepare n) refl (inPhase (view w) n 1) (prepareChecks (view w) n) refl (λ l d e. prepare-place n l (live-at w n d e))

@@ -1,0 +1,82 @@
+-- Postings that follow the new keys, row after row: the model's `repost`.
+-- Assumes nothing.
+use Prim.Native.Nat.{ℕ, _*_, _≤_, _<_}
+use mathlib.Core.Path.{_≡_, refl, ap, _∙_, fun-ext}
+use mathlib.Core.Bool.{Bool, true, false, cond, _||_}
+use mathlib.Core.Logic.{inl, inr}
+use mathlib.Core.Option.{Option}
+use mathlib.Core.List.{List, [], _∷_}
+use native.Mathlib.Decide.{ℕ-discrete}
+use native.Mathlib.Omega.{arith}
+use lib.Dec.{eqb}
+use lib.ListN.{length}
+use borrow.Author.Tests.{eq-eqb, ne-eqb}
+use Rattle.base_lists.specs.Lists.{member}
+use Rattle.base_lists.specs.Table.{update, update-same, update-other}
+use Rattle.table.specs.Words.{field, setField}
+use Rattle.table.proofs.Laws.{field-length}
+use Rattle.txn.specs.View.{keyView}
+use Rattle.txn_needs.specs.Keys.{keyOf, newKeyOf}
+use Rattle.finish_publish.specs.Publish.{postedOne, postedAll}
+use Rattle.step_bridge.proofs.Tabled.{part, part-update, part-other, InRange}
+
+-- the postings of the first m rows
+abbrev pub postings : ℕ → List ℕ → ℕ → Option ℕ
+postings m rows q = keyView (field 4 2 (part 4 m rows) q) (field 4 3 (part 4 m rows) q)
+
+-- both words of a key set at one entry
+two-words : (f h : ℕ → ℕ) (r a b : ℕ) → (λ (q : ℕ). keyView (update f r a q) (update h r b q)) ≡ update (λ (q : ℕ). keyView (f q) (h q)) r (keyView a b)
+two-words f h r a b = fun-ext λ q. by q (ℕ-discrete q r)
+  where
+    by : (q : ℕ) → Dec (q ≡ r) → keyView (update f r a q) (update h r b q) ≡ update (λ (q : ℕ). keyView (f q) (h q)) r (keyView a b) q
+    by q (yes e) = rw (e, update-same f r a, update-same h r b, update-same (λ (q : ℕ). keyView (f q) (h q)) r (keyView a b))
+    by q (no d) = rw (update-other f r a q d, update-other h r b q d, update-other (λ (q : ℕ). keyView (f q) (h q)) r (keyView a b) q d)
+
+-- a key of its two words
+abbrev pub both : (ℕ → ℕ) → (ℕ → ℕ) → ℕ → Option ℕ
+both f h q = keyView (f q) (h q)
+
+pub keys-by : (f f′ h h′ : ℕ → ℕ) → f ≡ f′ → h ≡ h′ → both f h ≡ both f′ h′
+keys-by f f′ h h′ a b = ap (λ (g : ℕ → ℕ). both g h) a ∙ ap (λ (g : ℕ → ℕ). both f′ g) b
+
+module _ (xs : List ℕ) (s n m : ℕ) where
+  posted-one : (rows : List ℕ) (r : ℕ) → r < m → 4 * m ≤ length rows → postings m (postedOne xs s n rows r) ≡ update (postings m rows) r (keyOf (newKeyOf xs s n r))
+  unfolding postedOne
+  posted-one rows r h l =
+      let k = newKeyOf xs s n r in
+      keys-by _ _ _ _
+      (part-other 4 3 m (setField 4 2 rows r (k .keyed)) r (k .key) 2 (omega arith) (omega arith) (omega arith) ∙ part-update 4 2 m rows r (k .keyed) (omega arith) h l)
+      (part-update 4 3 m (setField 4 2 rows r (k .keyed)) r (k .key) (omega arith) h (rw (field-length 4 2 rows r (k .keyed)) l)
+      ∙ ap (λ (f : ℕ → ℕ). update f r (k .key)) (part-other 4 2 m rows r (k .keyed) 3 (omega arith) (omega arith) (omega arith)))
+      ∙ two-words (field 4 2 (part 4 m rows)) (field 4 3 (part 4 m rows)) r (k .keyed) (k .key)
+
+  one-length : (rows : List ℕ) (r : ℕ) → length (postedOne xs s n rows r) ≡ length rows
+  unfolding postedOne
+  one-length rows r = field-length 4 3 (setField 4 2 rows r (newKeyOf xs s n r .keyed)) r (newKeyOf xs s n r .key) ∙ field-length 4 2 rows r (newKeyOf xs s n r .keyed)
+
+  one-other : (rows : List ℕ) (r k : ℕ) → k < 2 → field 4 k (part 4 m (postedOne xs s n rows r)) ≡ field 4 k (part 4 m rows)
+  unfolding postedOne
+  one-other rows r k h = part-other 4 3 m (setField 4 2 rows r (newKeyOf xs s n r .keyed)) r (newKeyOf xs s n r .key) k (omega arith) (omega arith) (omega arith) ∙ part-other 4 2 m rows r (newKeyOf xs s n r .keyed) k (omega arith) (omega arith) (omega arith)
+
+  pub posted-all : (rs rows : List ℕ) → InRange m rs → 4 * m ≤ length rows → (q : ℕ) → postings m (postedAll xs s n rows rs) q ≡ cond (member q rs) (keyOf (newKeyOf xs s n q)) (postings m rows q)
+  unfolding postedAll member
+  posted-all [] rows h l q = refl
+  posted-all (r ∷ rs) rows h l q =
+      posted-all rs (postedOne xs s n rows r) (λ i a. h i (inr a)) (rw (one-length rows r) l) q
+      ∙ (ap (λ (f : ℕ → Option ℕ). cond (member q rs) (keyOf (newKeyOf xs s n q)) (f q)) (posted-one rows r (h r (inl refl)) l) ∙ by (ℕ-discrete q r) (member q rs))
+    where
+      by : Dec (q ≡ r) → (b : Bool) → cond b (keyOf (newKeyOf xs s n q)) (update (postings m rows) r (keyOf (newKeyOf xs s n r)) q) ≡ cond (eqb q r || b) (keyOf (newKeyOf xs s n q)) (postings m rows q)
+      by (yes e) true = rw (eq-eqb q r e)
+      by (yes e) false = rw (e, eq-eqb r r refl, update-same (postings m rows) r (keyOf (newKeyOf xs s n r)))
+      by (no d) true = rw (ne-eqb q r d)
+      by (no d) false = rw (ne-eqb q r d, update-other (postings m rows) r (keyOf (newKeyOf xs s n r)) q d)
+
+  pub posted-length : (rs rows : List ℕ) → length (postedAll xs s n rows rs) ≡ length rows
+  unfolding postedAll
+  posted-length [] rows = refl
+  posted-length (r ∷ rs) rows = posted-length rs (postedOne xs s n rows r) ∙ one-length rows r
+
+  pub posted-other : (rs rows : List ℕ) (k : ℕ) → k < 2 → field 4 k (part 4 m (postedAll xs s n rows rs)) ≡ field 4 k (part 4 m rows)
+  unfolding postedAll
+  posted-other [] rows k h = refl
+  posted-other (r ∷ rs) rows k h = posted-other rs (postedOne xs s n rows r) k h ∙ one-other rows r k h

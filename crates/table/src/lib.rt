@@ -1,0 +1,201 @@
+// The lent tables: entries of a few words each, read and written by total functions.
+ghost use mathlib.Core.Path.{_≡_};
+ghost use Prim.Native.Nat.{_≤_};
+ghost use lib.ListN.{getD, set};
+ghost use Rattle.table.specs.Words.{field, setField};
+ghost use Rattle.table.specs.Fields.{headOf, setHead, claimOf, setClaim, postedOf, setPosted, postedKeyOf, setPostedKey, xminOf, setXmin, xmaxOf, setXmax, nextOf, setNext, keyedOf, setKeyed, keyOf, setKey, payloadOf, setPayload, stampOf, setStamp, holderOf, setHolder};
+
+pub mod lists; // lists.rt: the lists of a transaction, in its slot
+
+// Words of a row's entry, of a version's and of a bucket's.
+pub const ROW_WORDS: usize = 4;
+
+pub const VERSION_WORDS: usize = 6;
+
+pub const BUCKET_WORDS: usize = 2;
+
+// The word at `at`, or 0.
+pub fn word(xs: &[u64], at: usize) -> u64
+    ensures { λ r. ⌜ r ≡ getD (now (xs .entry)) at 0 ⌝ }
+{
+    if at < xs.len() {
+        return xs[at];
+    }
+    0
+}
+
+// Stores v at `at`, if there is such a word.
+pub fn set_word(xs: &mut [u64], at: usize, v: u64)
+    ensures { λ _. ⌜ now (xs .exit) ≡ set (now (xs .entry)) at v ⌝ }
+{
+    if at < xs.len() {
+        xs[at] = v;
+    }
+}
+
+// Field k of entry i, where an entry has w words; an i past the words is tested first, so that no place wraps.
+fn field_at(xs: &[u64], w: usize, k: usize, i: usize) -> u64
+    requires { ⌜ (1 ≤ w) × (w ≤ 8) × (k ≤ 8) ⌝ }
+    ensures { λ r. ⌜ r ≡ field w k (now (xs .entry)) i ⌝ }
+{
+    if i >= xs.len() {
+        return 0;
+    }
+    word(xs, w * i + k)
+}
+
+fn set_field(xs: &mut [u64], w: usize, k: usize, i: usize, v: u64)
+    requires { ⌜ (1 ≤ w) × (w ≤ 8) × (k ≤ 8) ⌝ }
+    ensures { λ _. ⌜ now (xs .exit) ≡ setField w k (now (xs .entry)) i v ⌝ }
+{
+    if i < xs.len() {
+        set_word(xs, w * i + k, v);
+    }
+}
+
+// Rows: head, claim, posted, posted key.
+pub fn head_at(rows: &[u64], r: usize) -> u64
+    ensures { λ x. ⌜ x ≡ headOf (now (rows .entry)) r ⌝ }
+{
+    field_at(rows, ROW_WORDS, 0, r)
+}
+
+pub fn set_head(rows: &mut [u64], r: usize, x: u64)
+    ensures { λ _. ⌜ now (rows .exit) ≡ setHead (now (rows .entry)) r x ⌝ }
+{
+    set_field(rows, ROW_WORDS, 0, r, x);
+}
+
+pub fn claim_at(rows: &[u64], r: usize) -> u64
+    ensures { λ x. ⌜ x ≡ claimOf (now (rows .entry)) r ⌝ }
+{
+    field_at(rows, ROW_WORDS, 1, r)
+}
+
+pub fn set_claim(rows: &mut [u64], r: usize, x: u64)
+    ensures { λ _. ⌜ now (rows .exit) ≡ setClaim (now (rows .entry)) r x ⌝ }
+{
+    set_field(rows, ROW_WORDS, 1, r, x);
+}
+
+pub fn posted_at(rows: &[u64], r: usize) -> u64
+    ensures { λ x. ⌜ x ≡ postedOf (now (rows .entry)) r ⌝ }
+{
+    field_at(rows, ROW_WORDS, 2, r)
+}
+
+pub fn set_posted(rows: &mut [u64], r: usize, x: u64)
+    ensures { λ _. ⌜ now (rows .exit) ≡ setPosted (now (rows .entry)) r x ⌝ }
+{
+    set_field(rows, ROW_WORDS, 2, r, x);
+}
+
+pub fn posted_key_at(rows: &[u64], r: usize) -> u64
+    ensures { λ x. ⌜ x ≡ postedKeyOf (now (rows .entry)) r ⌝ }
+{
+    field_at(rows, ROW_WORDS, 3, r)
+}
+
+pub fn set_posted_key(rows: &mut [u64], r: usize, x: u64)
+    ensures { λ _. ⌜ now (rows .exit) ≡ setPostedKey (now (rows .entry)) r x ⌝ }
+{
+    set_field(rows, ROW_WORDS, 3, r, x);
+}
+
+// Versions: xmin, xmax, next, keyed, key, payload.
+pub fn xmin_at(versions: &[u64], p: usize) -> u64
+    ensures { λ x. ⌜ x ≡ xminOf (now (versions .entry)) p ⌝ }
+{
+    field_at(versions, VERSION_WORDS, 0, p)
+}
+
+pub fn set_xmin(versions: &mut [u64], p: usize, x: u64)
+    ensures { λ _. ⌜ now (versions .exit) ≡ setXmin (now (versions .entry)) p x ⌝ }
+{
+    set_field(versions, VERSION_WORDS, 0, p, x);
+}
+
+pub fn xmax_at(versions: &[u64], p: usize) -> u64
+    ensures { λ x. ⌜ x ≡ xmaxOf (now (versions .entry)) p ⌝ }
+{
+    field_at(versions, VERSION_WORDS, 1, p)
+}
+
+pub fn set_xmax(versions: &mut [u64], p: usize, x: u64)
+    ensures { λ _. ⌜ now (versions .exit) ≡ setXmax (now (versions .entry)) p x ⌝ }
+{
+    set_field(versions, VERSION_WORDS, 1, p, x);
+}
+
+pub fn next_at(versions: &[u64], p: usize) -> u64
+    ensures { λ x. ⌜ x ≡ nextOf (now (versions .entry)) p ⌝ }
+{
+    field_at(versions, VERSION_WORDS, 2, p)
+}
+
+pub fn set_next(versions: &mut [u64], p: usize, x: u64)
+    ensures { λ _. ⌜ now (versions .exit) ≡ setNext (now (versions .entry)) p x ⌝ }
+{
+    set_field(versions, VERSION_WORDS, 2, p, x);
+}
+
+pub fn keyed_at(versions: &[u64], p: usize) -> u64
+    ensures { λ x. ⌜ x ≡ keyedOf (now (versions .entry)) p ⌝ }
+{
+    field_at(versions, VERSION_WORDS, 3, p)
+}
+
+pub fn set_keyed(versions: &mut [u64], p: usize, x: u64)
+    ensures { λ _. ⌜ now (versions .exit) ≡ setKeyed (now (versions .entry)) p x ⌝ }
+{
+    set_field(versions, VERSION_WORDS, 3, p, x);
+}
+
+pub fn key_at(versions: &[u64], p: usize) -> u64
+    ensures { λ x. ⌜ x ≡ keyOf (now (versions .entry)) p ⌝ }
+{
+    field_at(versions, VERSION_WORDS, 4, p)
+}
+
+pub fn set_key(versions: &mut [u64], p: usize, x: u64)
+    ensures { λ _. ⌜ now (versions .exit) ≡ setKey (now (versions .entry)) p x ⌝ }
+{
+    set_field(versions, VERSION_WORDS, 4, p, x);
+}
+
+pub fn payload_at(versions: &[u64], p: usize) -> u64
+    ensures { λ x. ⌜ x ≡ payloadOf (now (versions .entry)) p ⌝ }
+{
+    field_at(versions, VERSION_WORDS, 5, p)
+}
+
+pub fn set_payload(versions: &mut [u64], p: usize, x: u64)
+    ensures { λ _. ⌜ now (versions .exit) ≡ setPayload (now (versions .entry)) p x ⌝ }
+{
+    set_field(versions, VERSION_WORDS, 5, p, x);
+}
+
+// Buckets: stamp, holder.
+pub fn stamp_at(buckets: &[u64], b: usize) -> u64
+    ensures { λ x. ⌜ x ≡ stampOf (now (buckets .entry)) b ⌝ }
+{
+    field_at(buckets, BUCKET_WORDS, 0, b)
+}
+
+pub fn set_stamp(buckets: &mut [u64], b: usize, x: u64)
+    ensures { λ _. ⌜ now (buckets .exit) ≡ setStamp (now (buckets .entry)) b x ⌝ }
+{
+    set_field(buckets, BUCKET_WORDS, 0, b, x);
+}
+
+pub fn holder_at(buckets: &[u64], b: usize) -> u64
+    ensures { λ x. ⌜ x ≡ holderOf (now (buckets .entry)) b ⌝ }
+{
+    field_at(buckets, BUCKET_WORDS, 1, b)
+}
+
+pub fn set_holder(buckets: &mut [u64], b: usize, x: u64)
+    ensures { λ _. ⌜ now (buckets .exit) ≡ setHolder (now (buckets .entry)) b x ⌝ }
+{
+    set_field(buckets, BUCKET_WORDS, 1, b, x);
+}

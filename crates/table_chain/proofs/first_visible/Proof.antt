@@ -1,0 +1,34 @@
+-- `table_chain::first_visible` meets its contract.
+-- Assumes nothing.
+use borrow.Author.Tests.{le-leb, lt-leb, lt-ltb, le-ltb, eq-eqb, ne-eqb}
+use mathlib.Core.Bool.{and-false}
+use Rattle.base_lists.proofs.ListLaws.{below-least}
+use Rattle.table_chain.specs.Chain.{firstVisible}
+use borrow.Author.Needs.{needs}
+use Rattle.table_chain.proofs.first_visible.Statement.{statement}
+use Rattle.table_chain.proofs.first_visible.Tie as tie
+
+returns : tie.Need-returns
+unfolding firstVisible
+returns c = rw (lt-leb _ _ (c .if1 .taken))
+
+returns-2 : tie.Need-returns-2
+unfolding firstVisible
+returns-2 c = rw (le-ltb _ _ (c .if2 .taken), and-false)
+
+least-of-requires : tie.Need-least-of-requires
+least-of-requires c κs = search needs
+
+walk-requires : tie.Need-walk-requires
+walk-requires c κs = λ n l. below-least _ _ n (rw (c .before .before .least-of .ensures) at l)
+
+returns-3 : tie.Need-returns-3
+unfolding firstVisible
+returns-3 c = rw (le-leb _ _ (c .before .before .before .before .before .before .before .if1 .left), lt-ltb _ _ (c .before .before .before .before .before .before .if2 .left), ← c .before .walk .ensures, eq-eqb _ _ (c .if3 .taken))
+
+returns-4 : tie.Need-returns-4
+unfolding firstVisible
+returns-4 c = rw (le-leb _ _ (c .before .before .before .before .before .before .before .if1 .left), lt-ltb _ _ (c .before .before .before .before .before .before .if2 .left), ← c .before .walk .ensures, ne-eqb _ _ (c .if3 .left))
+
+pub first-visible-spec : {M : Type 1} → statement M
+first-visible-spec = tie.close (tie.spec returns returns-2 least-of-requires walk-requires returns-3 returns-4)

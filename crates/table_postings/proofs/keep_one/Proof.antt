@@ -1,0 +1,29 @@
+-- `table_postings::keep_one` meets its contract.
+-- Assumes nothing.
+use borrow.Author.Tests.{not-true, not-false}
+use borrow.Author.Needs.{needs}
+use Rattle.table_postings.proofs.keep_one.Statement.{statement}
+use Rattle.table_postings.proofs.keep_one.Tie as tie
+
+posted-with-requires : tie.Need-posted-with-requires
+posted-with-requires c κs = search needs
+
+returns : tie.Need-returns
+returns c = rw (← c .before .posted-with .ensures, not-true (c .before .posted-with .result) (c .if1 .taken))
+
+put-candidate-requires : tie.Need-put-candidate-requires
+put-candidate-requires c κs = search needs
+
+add-result : tie.Need-add-result
+add-result c = search needs
+
+same-length : tie.Need-same-length
+same-length c = search needs
+
+returns-2 : tie.Need-returns-2
+returns-2 c = rw (← c .before .before .before .before .before .posted-with .ensures, not-false (c .before .before .before .before .before .posted-with .result) (c .before .before .before .before .if1 .left), c .before .before .put-candidate .ensures)
+
+pub keep-one-spec : {M : Type 1} → statement M
+keep-one-spec =
+    tie.close
+    (tie.spec posted-with-requires returns put-candidate-requires add-result same-length returns-2)

@@ -1,0 +1,63 @@
+-- `table_postings::keep_posted` meets its contract.
+-- Assumes nothing.
+use Prim.Native.Nat.{_≤_, _-_, _+_}
+use mathlib.Core.Path.{_≡_, refl, ap, _∙_}
+use native.Mathlib.Omega.{arith}
+use borrow.Author.Needs.{needs}
+use lib.ListN.{length}
+use Rattle.base_lists.specs.Lists.{pick}
+use Rattle.base_lists.proofs.ListLaws.{pick-few}
+use Rattle.table_postings.specs.Postings.{Kept, postedWith, keptIn}
+use Rattle.table_postings.proofs.Laws.{keep-turn}
+use Rattle.table_postings.proofs.keep_posted.Statement.{statement}
+use Rattle.table_postings.proofs.keep_posted.Tie as tie
+
+abbrev Inv-loop : tie.InvT-loop
+Inv-loop rows lists₀ slot row-count key most n₀ row₀ lists n row =
+    (row ≤ most)
+    × (length lists ≡ length lists₀)
+    × (n ≡ length (pick (postedWith rows key) 0 row))
+    × (lists ≡ keptIn lists₀ slot (pick (postedWith rows key) 0 row))
+
+abbrev μ-loop : tie.MeasureT-loop
+μ-loop rows lists₀ slot row-count key most n₀ row₀ lists n row = most - row
+
+clipped-requires : tie.Need-clipped-requires Inv-loop μ-loop
+clipped-requires c κs = search needs
+
+loop-holds : tie.Need-loop-holds Inv-loop μ-loop
+unfolding pick
+loop-holds c = (search needs, refl, refl, refl)
+
+keep-one-requires : tie.Need-keep-one-requires Inv-loop μ-loop
+keep-one-requires c κs = let l = c .before .before .loop in omega (arith, l .inv .2, pick-few (postedWith (c .before .before .before .before .before .before .args .rows .now) (c .before .before .before .before .before .before .args .key)) 0 (l .row))
+
+add-row : tie.Need-add-row Inv-loop μ-loop
+add-row c = search needs
+
+loop-less : tie.Need-loop-less Inv-loop μ-loop
+loop-less c = search needs
+
+loop-again : tie.Need-loop-again Inv-loop μ-loop
+loop-again c = let l = c .before .before .before .before .before .loop in let a = c .before .before .before .before .before .before .before .before .before .args in let p = pick (postedWith (a .rows .now) (a .key)) 0 in let e : _≡_ {A = Kept} (record { n = c .before .before .keep-one .result; lists = c .before .before .keep-one .last .1 .0 }) (record { n = length (p (l .row + 1)); lists = keptIn (a .lists .now) (a .slot) (p (l .row + 1)) }) = c .before .before .keep-one .ensures ∙ (rw (l .inv .2, l .inv .3) (keep-turn (a .rows .now) (a .key) (a .slot) (l .row) (a .lists .now))) in (omega arith, c .before .before .keep-one .kept .1 .0 ∙ l .inv .1, ap (λ (k : Kept). k .n) e, ap (λ (k : Kept). k .lists) e)
+
+same-length : tie.Need-same-length Inv-loop μ-loop
+same-length c = c .before .loop .inv .1
+
+returns : tie.Need-returns Inv-loop μ-loop
+returns c = let l = c .before .loop in let e : l .row ≡ c .before .before .clipped .result = omega arith in let m = e ∙ c .before .before .clipped .ensures in rw (← m) (l .inv .2, l .inv .3)
+
+pub keep-posted-spec : {M : Type 1} → statement M
+keep-posted-spec =
+    tie.close
+    (tie.spec
+    Inv-loop
+    μ-loop
+    clipped-requires
+    loop-holds
+    keep-one-requires
+    add-row
+    loop-less
+    loop-again
+    same-length
+    returns)

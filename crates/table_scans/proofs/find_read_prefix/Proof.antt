@@ -1,0 +1,61 @@
+-- `table_scans::find_read_prefix` meets its contract.
+-- Assumes nothing.
+use borrow.Author.Needs.{needs}
+use borrow.Author.Tests.{eq-eqb, ne-eqb}
+use Prim.Native.Nat.{_-_, _≤_}
+use mathlib.Core.Path.{_≡_, refl, sym, _∙_}
+use native.Mathlib.Omega.{arith}
+use lib.ListN.{drop}
+use Rattle.table.specs.Lists.{reads, readOf, readsOf}
+use Rattle.table_scans.specs.Scans.{firstFrom, firstPlace, bucketsRead}
+use Rattle.table_scans.proofs.Laws.{fields-first, fields-end}
+use Rattle.table_scans.proofs.find_read_prefix.Statement.{statement}
+use Rattle.table_scans.proofs.find_read_prefix.Tie as tie
+
+abbrev Inv-loop : tie.InvT-loop
+Inv-loop lists slot count bucket n i₀ i = (i ≤ n) × (firstPlace (bucketsRead (readsOf lists slot n)) bucket ≡ firstFrom i (drop i (bucketsRead (readsOf lists slot n))) bucket)
+
+abbrev μ-loop : tie.MeasureT-loop
+μ-loop lists slot count bucket n i₀ i = n - i
+
+clip-requires : tie.Need-clip-requires Inv-loop μ-loop
+clip-requires c κs = search needs
+
+loop-holds : tie.Need-loop-holds Inv-loop μ-loop
+loop-holds c = (omega arith, refl)
+
+read-bucket-at-requires : tie.Need-read-bucket-at-requires Inv-loop μ-loop
+read-bucket-at-requires c κs = search needs
+
+returns : tie.Need-returns Inv-loop μ-loop
+returns c = let a = c .before .before .before .before .before .before .args in
+    rw (← c .before .before .before .before .clip .ensures) (sym (c .before .before .before .loop .inv .1 ∙ (fields-first (λ r. r .bucket) readOf reads (a .lists .now) (a .slot) (c .before .before .before .before .clip .result) (c .before .before .before .loop .i) (c .before .read-bucket-at .result) (a .bucket) (c .before .read-bucket-at .ensures) (omega arith) ∙ rw (eq-eqb _ _ (c .if1 .taken)))))
+
+add-i : tie.Need-add-i Inv-loop μ-loop
+add-i c = search needs
+
+loop-less : tie.Need-loop-less Inv-loop μ-loop
+loop-less c = search needs
+
+loop-again : tie.Need-loop-again Inv-loop μ-loop
+loop-again c = let a = c .before .before .before .before .before .before .args in
+    (omega arith, c .before .before .before .loop .inv .1 ∙ (fields-first (λ r. r .bucket) readOf reads (a .lists .now) (a .slot) (c .before .before .before .before .clip .result) (c .before .before .before .loop .i) (c .before .read-bucket-at .result) (a .bucket) (c .before .read-bucket-at .ensures) (omega arith) ∙ rw (ne-eqb _ _ (c .if1 .left))))
+
+returns-2 : tie.Need-returns-2 Inv-loop μ-loop
+returns-2 c = let a = c .before .before .before .before .args in
+    rw (← c .before .before .clip .ensures) (sym (c .before .loop .inv .1 ∙ fields-end (λ r. r .bucket) readOf reads (a .lists .now) (a .slot) (c .before .before .clip .result) (c .before .loop .i) (a .bucket) (omega arith)))
+
+pub find-read-prefix-spec : {M : Type 1} → statement M
+find-read-prefix-spec =
+    tie.close
+    (tie.spec
+    Inv-loop
+    μ-loop
+    clip-requires
+    loop-holds
+    read-bucket-at-requires
+    returns
+    add-i
+    loop-less
+    loop-again
+    returns-2)

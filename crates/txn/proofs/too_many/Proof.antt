@@ -1,0 +1,20 @@
+-- `txn::too_many` meets its contract.
+-- Assumes nothing.
+use borrow.Author.Needs.{needs}
+use Rattle.txn.proofs.too_many.Statement.{statement}
+use Rattle.txn.proofs.too_many.Tie as tie
+
+enum-told : tie.Need-enum-told
+enum-told c = search needs
+
+enum-told-2 : tie.Need-enum-told-2
+enum-told-2 c = search needs
+
+returns : tie.Need-returns
+returns c = search needs
+
+returns-2 : tie.Need-returns-2
+returns-2 c = rw (c .enum-told2 .given .1)
+
+pub too-many-spec : {M : Type 1} → statement M
+too-many-spec = tie.close (tie.spec enum-told enum-told-2 returns returns-2)

@@ -1,0 +1,132 @@
+-- What the record's methods give back, and the words they leave.
+use Prim.Native.Nat.{ℕ, _+_, _%_}
+use mathlib.Core.Bool.{Bool, true, false, cond, not, _&&_}
+use mathlib.Core.List.{List, [], _∷_}
+use lib.Dec.{eqb, ltb, leb}
+use lib.ListN.{replicate, length}
+use Rattle.base_limits.specs.Limits.{mostActive, mostIndexReads, mostWrites}
+use Rattle.model.specs.Store.{rank, bucketIn, keyIn}
+use Rattle.base_protocol.specs.declared.Answer.the-variants as tell
+use Rattle.table.specs.Fields.{stampOf, holderOf, setHolder}
+use Rattle.table.specs.Lists.{reads, writes, stored}
+use Rattle.table.specs.declared.lists.Write.{Write}
+use Rattle.table_scans.specs.Scans.{readPrefix}
+use Rattle.table_scans.specs.declared.Found.{Found}
+use Rattle.table_scans.specs.declared.Found.the-variants.{At, Nothing}
+use Rattle.table_buckets.specs.Buckets.{precedes}
+use Rattle.table_postings.specs.Postings.{postedUpTo, keptIn}
+use Rattle.txn.specs.declared.Phase.{Phase}
+use Rattle.txn.specs.declared.Phase.the-variants as phase
+use Rattle.txn.specs.declared.Transaction.{Transaction}
+use Rattle.txn.specs.declared.Answered.{Answered}
+use Rattle.txn.specs.View.{phaseView}
+
+-- what stands at a free place
+abbrev pub idleOf : ℕ → Transaction
+idleOf slot = record {
+  number = 0;
+  snapshot = record { xmin = 0; xmax = 0; active = replicate mostActive 0; «active_n» = 0 };
+  marked = false;
+  phase = phase.Open;
+  slot = slot;
+  «reads_n» = 0;
+  «writes_n» = 0;
+  «records_n» = 0;
+  «candidates_n» = 0;
+}
+
+-- one part of the record anew
+abbrev pub withPhase : Transaction → Phase → Transaction
+withPhase t ph = record { number = t .number; snapshot = t .snapshot; marked = t .marked; phase = ph; slot = t .slot; «reads_n» = t .«reads_n»; «writes_n» = t .«writes_n»; «records_n» = t .«records_n»; «candidates_n» = t .«candidates_n» }
+
+abbrev pub withMark : Transaction → Transaction
+withMark t = record { number = t .number; snapshot = t .snapshot; marked = true; phase = t .phase; slot = t .slot; «reads_n» = t .«reads_n»; «writes_n» = t .«writes_n»; «records_n» = t .«records_n»; «candidates_n» = t .«candidates_n» }
+
+abbrev pub withReads : Transaction → ℕ → Transaction
+withReads t n = record { number = t .number; snapshot = t .snapshot; marked = t .marked; phase = t .phase; slot = t .slot; «reads_n» = n; «writes_n» = t .«writes_n»; «records_n» = t .«records_n»; «candidates_n» = t .«candidates_n» }
+
+abbrev pub withWrites : Transaction → ℕ → Transaction
+withWrites t n = record { number = t .number; snapshot = t .snapshot; marked = t .marked; phase = t .phase; slot = t .slot; «reads_n» = t .«reads_n»; «writes_n» = n; «records_n» = t .«records_n»; «candidates_n» = t .«candidates_n» }
+
+abbrev pub withCandidates : Transaction → ℕ → Transaction
+withCandidates t n = record { number = t .number; snapshot = t .snapshot; marked = t .marked; phase = t .phase; slot = t .slot; «reads_n» = t .«reads_n»; «writes_n» = t .«writes_n»; «records_n» = t .«records_n»; «candidates_n» = n }
+
+-- taken by another: neither free nor the own number's
+abbrev pub takenBy : ℕ → ℕ → Bool
+takenBy carried n = not (eqb carried 0) && not (eqb carried n)
+
+-- a refusal, with the record that came in
+abbrev pub refusedOf : Transaction → ℕ → Answered
+refusedOf t why = record { answer = tell.Refused why; txn = t }
+
+-- the record and the lists
+pub record WithLists : Type 0 where
+  pub txn : Transaction
+  pub lists : List ℕ
+
+-- an answer and the lists
+pub record LeftLists : Type 0 where
+  pub reply : Answered
+  pub lists : List ℕ
+
+-- an answer, buckets and lists
+pub record Left : Type 0 where
+  pub reply : Answered
+  pub buckets : List ℕ
+  pub lists : List ℕ
+
+abbrev pub left : Answered → List ℕ → List ℕ → Left
+left a buckets lists = record { reply = a; buckets = buckets; lists = lists }
+
+-- ---- capture
+
+-- a bucket without an index read would get a 17th
+abbrev pub tooMany : Found → ℕ → Bool
+tooMany (At i) n = false
+tooMany Nothing n = leb mostIndexReads n
+
+-- the first capture of a bucket adds one index read (bucket, stamp), a later one adds none; becomes Holding
+unfoldable pub holdOf : Transaction → Found → ℕ → ℕ → ℕ → List ℕ → WithLists
+holdOf t (At i) b k stamp lists = record { txn = withPhase t (phase.Holding b k); lists = lists }
+holdOf t Nothing b k stamp lists = record { txn = withReads (withPhase t (phase.Holding b k)) (t .«reads_n» + 1); lists = stored reads lists (t .slot) (t .«reads_n») (b ∷ stamp ∷ []) }
+
+abbrev pub heldLeft : ℕ → WithLists → List ℕ → Left
+heldLeft stamp h buckets = left (record { answer = tell.Stamp stamp; txn = h .txn }) buckets (h .lists)
+
+-- capture of bucket b: wrong phase, mark, held by another, stale stamp, a 17th index read; else the bucket is taken
+unfoldable pub captureAt : Transaction → ℕ → ℕ → List ℕ → List ℕ → Left
+captureAt t b k buckets lists =
+    cond (not (eqb (rank (phaseView (t .phase))) 1)) (left (refusedOf t 5) buckets lists)
+    (cond (t .marked) (left (refusedOf t 8) buckets lists)
+    (cond (takenBy (holderOf buckets b) (t .number)) (left (refusedOf t 7) buckets lists)
+    (cond (not (precedes (stampOf buckets b) (t .number))) (left (refusedOf (withMark t) 8) buckets lists)
+    (cond (tooMany (readPrefix lists (t .slot) (t .«reads_n») b) (t .«reads_n»)) (left (refusedOf t 9) buckets lists)
+    (heldLeft (stampOf buckets b) (holdOf t (readPrefix lists (t .slot) (t .«reads_n») b) b k (stampOf buckets b) lists) (setHolder buckets b (t .number)))))))
+
+abbrev pub captureOf : ℕ → Transaction → ℕ → List ℕ → List ℕ → Left
+captureOf bucketCount t k buckets lists = captureAt t (k % bucketCount) k buckets lists
+
+-- ---- put, erase: wrong phase, mark, row not below the row count, a 17th pending write; else it is appended
+unfoldable pub writeOf : ℕ → Transaction → Write → List ℕ → LeftLists
+writeOf rowCount t w lists =
+    cond (not (eqb (rank (phaseView (t .phase))) 1)) (record { reply = refusedOf t 5; lists = lists })
+    (cond (t .marked) (record { reply = refusedOf t 8; lists = lists })
+    (cond (not (ltb (w .row) rowCount)) (record { reply = refusedOf t 6; lists = lists })
+    (cond (leb mostWrites (t .«writes_n»)) (record { reply = refusedOf t 12; lists = lists })
+    (record {
+      reply = record { answer = tell.Done; txn = withWrites t (t .«writes_n» + 1) };
+      lists = stored writes lists (t .slot) (t .«writes_n») (w .row ∷ w .keyed ∷ w .key ∷ w .payload ∷ []);
+    }))))
+
+-- ---- collect
+
+-- the posted rows are kept, and the bucket is free
+abbrev pub collectedLeft : Transaction → ℕ → ℕ → List ℕ → List ℕ → List ℕ → Left
+collectedLeft t b k rs buckets lists =
+    left (record { answer = tell.Count (length rs); txn = withCandidates (withPhase t (phase.Collected k)) (length rs) }) (setHolder buckets b 0) (keptIn lists (t .slot) rs)
+
+-- wrong phase; else the posted rows are kept and the bucket is free
+unfoldable pub collectOf : List ℕ → ℕ → Transaction → List ℕ → List ℕ → Left
+collectOf rows n t buckets lists =
+    cond (not (eqb (rank (phaseView (t .phase))) 2)) (left (refusedOf t 5) buckets lists)
+    (collectedLeft t (bucketIn (phaseView (t .phase))) (keyIn (phaseView (t .phase))) (postedUpTo rows (keyIn (phaseView (t .phase))) n) buckets lists)

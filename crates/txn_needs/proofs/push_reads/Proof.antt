@@ -1,0 +1,61 @@
+-- `txn_needs::push_reads` meets its contract.
+-- Assumes nothing.
+use Prim.Native.Nat.{_≤_, _-_}
+use lib.ListN.{length, drop}
+use borrow.Author.Needs.{needs}
+use Rattle.table.specs.Lists.{reads, readOf}
+use Rattle.table.specs.declared.lists.IndexRead.{IndexRead}
+use Rattle.txn_needs.proofs.Laws.{fields-next, fields-done, push-turn, push-none}
+use mathlib.Core.Path.{_≡_, refl, sym, _∙_}
+use native.Mathlib.Omega.{arith}
+use Rattle.txn_needs.specs.Needs.{pushAll, readsNeed}
+use Rattle.txn_needs.proofs.push_reads.Statement.{statement}
+use Rattle.txn_needs.proofs.push_reads.Tie as tie
+
+abbrev Inv-loop : tie.InvT-loop
+Inv-loop lists slot count out₀ n m₀ i₀ out m i =
+    (i ≤ count)
+    × (length out ≡ length out₀)
+    × (pushAll (record { out = out₀; n = n }) (readsNeed lists slot count) ≡ pushAll (record { out = out; n = m }) (drop i (readsNeed lists slot count)))
+
+abbrev μ-loop : tie.MeasureT-loop
+μ-loop lists slot count out₀ n m₀ i₀ out m i = count - i
+
+loop-holds : tie.Need-loop-holds Inv-loop μ-loop
+loop-holds c = (search needs, refl, refl)
+
+read-bucket-at-requires : tie.Need-read-bucket-at-requires Inv-loop μ-loop
+read-bucket-at-requires c κs = search needs
+
+push-requires : tie.Need-push-requires Inv-loop μ-loop
+push-requires c κs = search needs
+
+add-i : tie.Need-add-i Inv-loop μ-loop
+add-i c = search needs
+
+loop-less : tie.Need-loop-less Inv-loop μ-loop
+loop-less c = search needs
+
+loop-again : tie.Need-loop-again Inv-loop μ-loop
+loop-again c = let l = c .before .before .before .before .before .before .loop in (omega arith, c .before .before .push .kept .0 ∙ l .inv .1, l .inv .2 ∙ push-turn (record { out = l .out; n = l .m }) _ (readsNeed (c .before .before .before .before .before .before .before .before .before .args .lists .now) (c .before .before .before .before .before .before .before .before .before .args .slot) (c .before .before .before .before .before .before .before .before .before .args .count)) (l .i) (c .before .before .before .read-bucket-at .result) (fields-next (λ (r : IndexRead). r .bucket) readOf reads (c .before .before .before .before .before .before .before .before .before .args .lists .now) (c .before .before .before .before .before .before .before .before .before .args .slot) (c .before .before .before .before .before .before .before .before .before .args .count) (l .i) (c .before .before .before .read-bucket-at .result) (omega arith) (c .before .before .before .read-bucket-at .ensures)) (c .before .before .push .ensures))
+
+same-length : tie.Need-same-length Inv-loop μ-loop
+same-length c = c .before .loop .inv .1
+
+returns : tie.Need-returns Inv-loop μ-loop
+returns c = let l = c .before .loop in sym (l .inv .2 ∙ push-none _ _ (fields-done (λ (r : IndexRead). r .bucket) readOf reads (c .before .before .before .before .args .lists .now) (c .before .before .before .before .args .slot) (c .before .before .before .before .args .count) (l .i) (omega arith)))
+
+pub push-reads-spec : {M : Type 1} → statement M
+push-reads-spec =
+    tie.close
+    (tie.spec
+    Inv-loop
+    μ-loop
+    loop-holds
+    read-bucket-at-requires
+    push-requires
+    add-i
+    loop-less
+    loop-again
+    same-length
+    returns)

@@ -1,0 +1,44 @@
+-- The old and the new key of a pending row.
+use Prim.Native.Nat.{ℕ}
+use mathlib.Core.Bool.{Bool, false, cond, not, _&&_, _||_}
+use mathlib.Core.Option.{Option}
+use mathlib.Core.List.{List}
+use lib.Dec.{eqb, leb}
+use Rattle.txn.specs.View.{keyView}
+use Rattle.table_scans.specs.Scans.{latestPending}
+use Rattle.table_scans.specs.declared.Found.{Found}
+use Rattle.table_scans.specs.declared.Found.the-variants.{At, Nothing}
+use Rattle.table.specs.Fields as fields
+use Rattle.table.specs.Lists.{writeAt}
+use Rattle.txn_needs.specs.declared.Key.{Key}
+
+-- a key as the model has it
+abbrev pub keyOf : Key → Option ℕ
+keyOf k = keyView (k .keyed) (k .key)
+
+abbrev pub noKey : Key
+noKey = record { keyed = 0; key = 0 }
+
+-- of the version at a pointer; none at 0
+unfoldable pub versionKey : List ℕ → ℕ → Key
+versionKey versions p = cond (eqb p 0) noKey (record { keyed = fields.keyedOf versions p; key = fields.keyOf versions p })
+
+-- the head version's; once installed, that of the version after the head
+unfoldable pub oldKeyOf : List ℕ → List ℕ → Bool → ℕ → Key
+oldKeyOf rows versions installed r = versionKey versions (cond installed (fields.nextOf versions (fields.headOf rows r)) (fields.headOf rows r))
+
+abbrev pub writtenAt : List ℕ → ℕ → Found → Key
+writtenAt lists slot (At i) = record { keyed = writeAt lists slot i .keyed; key = writeAt lists slot i .key }
+writtenAt lists slot Nothing = noKey
+
+-- of the row's last pending write
+unfoldable pub newKeyOf : List ℕ → ℕ → ℕ → ℕ → Key
+newKeyOf lists slot n r = writtenAt lists slot (latestPending lists slot n r)
+
+-- a pending row gets a version where its head is live or its last write is a put
+unfoldable pub getsVersionOf : List ℕ → List ℕ → List ℕ → ℕ → ℕ → ℕ → Bool
+getsVersionOf rows versions lists slot n r = not (eqb (oldKeyOf rows versions false r .keyed) 0) || not (eqb (newKeyOf lists slot n r .keyed) 0)
+
+-- a row headed by a version of this number
+unfoldable pub headedBy : List ℕ → List ℕ → ℕ → ℕ → Bool
+headedBy rows versions n r = leb 1 (fields.headOf rows r) && eqb (fields.xminOf versions (fields.headOf rows r)) n

@@ -1,0 +1,385 @@
+// Holders of buckets and claims of rows: what a transaction needs, whether another has it, taking it and freeing it.
+use txn::bucket_of;
+use txn::by_another;
+use table_scans::Found;
+use table_scans::latest_pending;
+use table::claim_at;
+use table::head_at;
+use table::holder_at;
+use table::key_at;
+use table::keyed_at;
+use table::lists::read_bucket_at;
+use table::lists::write_key_at;
+use table::lists::write_keyed_at;
+use table::lists::write_row_at;
+use table::next_at;
+use table::set_claim;
+use table::set_holder;
+use table::set_stamp;
+use table::xmin_at;
+ghost use mathlib.Core.Path.{_≡_};
+ghost use mathlib.Core.List.{[], _∷_};
+ghost use lib.ListN.{take};
+ghost use Rattle.model.specs.Store.{sameKey};
+ghost use Rattle.txn_needs.specs.Keys.{getsVersionOf, headedBy, keyOf, versionKey, oldKeyOf, newKeyOf};
+ghost use Rattle.txn_needs.specs.Needs.{pushOne, pushAll, bucketsFor, readsNeed, writeNeeds, writesNeed, rowsWritten, writeChanges, writesChange};
+ghost use Rattle.txn_needs.specs.Holders.{anyTaken, anyClaimed, holdAll, freeAll, claimAll, unclaimAll, stampAll};
+
+// A key, or none where `keyed` is 0.
+pub struct Key {
+    pub keyed: u64,
+    pub key: u64,
+}
+
+// The key of the version at a pointer; none at 0.
+pub fn key_of_version(versions: &[u64], ptr: u64) -> Key
+    ensures { λ r. ⌜ r ≡ versionKey (now (versions .entry)) ptr ⌝ }
+{
+    if ptr == 0 {
+        return Key { keyed: 0, key: 0 };
+    }
+    let keyed = keyed_at(versions, ptr as usize);
+    let key = key_at(versions, ptr as usize);
+    Key {
+        keyed: keyed,
+        key: key,
+    }
+}
+
+// The key that a row had before its pending write: the head version's; once installed, that of the version after the head.
+pub fn old_key(rows: &[u64], versions: &[u64], installed: bool, row: u64) -> Key
+    ensures { λ r. ⌜ r ≡ oldKeyOf (now (rows .entry)) (now (versions .entry)) installed row ⌝ }
+{
+    let head = head_at(rows, row as usize);
+    if installed {
+        return key_of_version(versions, next_at(versions, head as usize));
+    }
+    key_of_version(versions, head)
+}
+
+// The key of a row's last pending write; none where it has no such write.
+pub fn new_key(lists: &[u64], slot: u32, count: u32, row: u64) -> Key
+    ensures { λ r. ⌜ r ≡ newKeyOf (now (lists .entry)) slot count row ⌝ }
+{
+    let last = latest_pending(lists, slot, count, row);
+    match last {
+        Found::At(i) => {
+            let keyed = write_keyed_at(lists, slot, i);
+            let key = write_key_at(lists, slot, i);
+            Key {
+                keyed: keyed,
+                key: key,
+            }
+        }
+        Found::Nothing => Key { keyed: 0, key: 0 },
+    }
+}
+
+// Whether two keys are the same: none differs from any key.
+pub fn same_key(a: Key, b: Key) -> bool
+    ensures { λ r. ⌜ r ≡ sameKey (keyOf a) (keyOf b) ⌝ }
+{
+    if a.keyed == 0 {
+        return b.keyed == 0;
+    }
+    if b.keyed == 0 {
+        return false;
+    }
+    a.key == b.key
+}
+
+// Puts x behind the first n words of a list that has room for it, and tells how many there are then.
+pub fn push(out: &mut [u64], n: usize, x: u64) -> usize
+    ensures { λ r. ⌜ record { out = now (out .exit); n = r } ≡ pushOne (record { out = now (out .entry); n = n }) x ⌝ }
+{
+    if n < out.len() {
+        out[n] = x;
+        return n + 1;
+    }
+    n
+}
+
+// The bucket of a key; no key needs none.
+pub fn push_key(out: &mut [u64], n: usize, bucket_count: u64, key: Key) -> usize
+    ensures { λ r. ⌜ record { out = now (out .exit); n = r } ≡ pushAll (record { out = now (out .entry); n = n }) (bucketsFor «bucket_count» key) ⌝ }
+{
+    if key.keyed == 0 {
+        return n;
+    }
+    push(out, n, bucket_of(bucket_count, key.key))
+}
+
+// The buckets of the index reads.
+pub fn push_reads(lists: &[u64], slot: u32, count: u32, out: &mut [u64], n: usize) -> usize
+    ensures { λ r. ⌜ record { out = now (out .exit); n = r } ≡ pushAll (record { out = now (out .entry); n = n }) (readsNeed (now (lists .entry)) slot count) ⌝ }
+{
+    let mut m = n;
+    let mut i: u32 = 0;
+    while i < count {
+        m = push(out, m, read_bucket_at(lists, slot, i));
+        i += 1;
+    }
+    m
+}
+
+// The buckets of the old and the new key of one pending row.
+fn push_write(
+    rows: &[u64],
+    versions: &[u64],
+    lists: &[u64],
+    bucket_count: u64,
+    installed: bool,
+    slot: u32,
+    count: u32,
+    row: u64,
+    out: &mut [u64],
+    n: usize,
+) -> usize
+    ensures { λ r. ⌜ record { out = now (out .exit); n = r } ≡ pushAll (record { out = now (out .entry); n = n }) (writeNeeds (now (rows .entry)) (now (versions .entry)) (now (lists .entry)) «bucket_count» installed slot count row) ⌝ }
+{
+    let old = old_key(rows, versions, installed, row);
+    let new = new_key(lists, slot, count, row);
+    let m = push_key(out, n, bucket_count, old);
+    push_key(out, m, bucket_count, new)
+}
+
+// The buckets of the old and the new key of every pending row.
+pub fn push_writes(
+    rows: &[u64],
+    versions: &[u64],
+    lists: &[u64],
+    bucket_count: u64,
+    installed: bool,
+    slot: u32,
+    count: u32,
+    out: &mut [u64],
+    n: usize,
+) -> usize
+    ensures { λ r. ⌜ record { out = now (out .exit); n = r } ≡ pushAll (record { out = now (out .entry); n = n }) (writesNeed (now (rows .entry)) (now (versions .entry)) (now (lists .entry)) «bucket_count» installed slot count) ⌝ }
+{
+    let mut m = n;
+    let mut i: u32 = 0;
+    while i < count {
+        m = push_write(
+            rows,
+            versions,
+            lists,
+            bucket_count,
+            installed,
+            slot,
+            count,
+            write_row_at(lists, slot, i),
+            out,
+            m,
+        );
+        i += 1;
+    }
+    m
+}
+
+// Whether a row is headed by a version of this number.
+pub fn headed_by(rows: &[u64], versions: &[u64], number: u64, row: u64) -> bool
+    ensures { λ r. ⌜ r ≡ headedBy (now (rows .entry)) (now (versions .entry)) number row ⌝ }
+{
+    let head = head_at(rows, row as usize);
+    if head < 1 {
+        return false;
+    }
+    xmin_at(versions, head as usize) == number
+}
+
+// Whether a pending row gets a version: where its head is live or its last write is a put.
+pub fn gets_version(
+    rows: &[u64],
+    versions: &[u64],
+    lists: &[u64],
+    slot: u32,
+    count: u32,
+    row: u64,
+) -> bool
+    ensures { λ r. ⌜ r ≡ getsVersionOf (now (rows .entry)) (now (versions .entry)) (now (lists .entry)) slot count row ⌝ }
+{
+    let old = old_key(rows, versions, false, row);
+    if old.keyed != 0 {
+        return true;
+    }
+    let new = new_key(lists, slot, count, row);
+    new.keyed != 0
+}
+
+// The buckets of the old and the new key of one pending row, where a version was made and they differ.
+fn push_change(
+    rows: &[u64],
+    versions: &[u64],
+    lists: &[u64],
+    bucket_count: u64,
+    number: u64,
+    slot: u32,
+    count: u32,
+    row: u64,
+    out: &mut [u64],
+    n: usize,
+) -> usize
+    ensures { λ r. ⌜ record { out = now (out .exit); n = r } ≡ pushAll (record { out = now (out .entry); n = n }) (writeChanges (now (rows .entry)) (now (versions .entry)) (now (lists .entry)) «bucket_count» number slot count row) ⌝ }
+{
+    if !headed_by(rows, versions, number, row) {
+        return n;
+    }
+    let old = old_key(rows, versions, true, row);
+    let new = new_key(lists, slot, count, row);
+    if same_key(old, new) {
+        return n;
+    }
+    let m = push_key(out, n, bucket_count, old);
+    push_key(out, m, bucket_count, new)
+}
+
+// The buckets that a publish stamps: of the pending rows whose key changed.
+pub fn push_changes(
+    rows: &[u64],
+    versions: &[u64],
+    lists: &[u64],
+    bucket_count: u64,
+    number: u64,
+    slot: u32,
+    count: u32,
+    out: &mut [u64],
+    n: usize,
+) -> usize
+    ensures { λ r. ⌜ record { out = now (out .exit); n = r } ≡ pushAll (record { out = now (out .entry); n = n }) (writesChange (now (rows .entry)) (now (versions .entry)) (now (lists .entry)) «bucket_count» number slot count) ⌝ }
+{
+    let mut m = n;
+    let mut i: u32 = 0;
+    while i < count {
+        m = push_change(
+            rows,
+            versions,
+            lists,
+            bucket_count,
+            number,
+            slot,
+            count,
+            write_row_at(lists, slot, i),
+            out,
+            m,
+        );
+        i += 1;
+    }
+    m
+}
+
+// Whether one of the first n buckets of a list is held by another.
+pub fn any_taken(buckets: &[u64], list: &[u64], n: usize, number: u64) -> bool
+    ensures { λ r. ⌜ r ≡ anyTaken (now (buckets .entry)) number (take n (now (list .entry))) ⌝ }
+{
+    let mut i = 0;
+    while i < list.len() {
+        if n <= i {
+            return false;
+        }
+        if by_another(holder_at(buckets, list[i] as usize), number) {
+            return true;
+        }
+        i += 1;
+    }
+    false
+}
+
+// Whether a pending row is claimed by another.
+pub fn any_claimed(rows: &[u64], lists: &[u64], slot: u32, count: u32, number: u64) -> bool
+    ensures { λ r. ⌜ r ≡ anyClaimed (now (rows .entry)) number (rowsWritten (now (lists .entry)) slot count) ⌝ }
+{
+    let mut i: u32 = 0;
+    while i < count {
+        if by_another(
+            claim_at(rows, write_row_at(lists, slot, i) as usize),
+            number,
+        ) {
+            return true;
+        }
+        i += 1;
+    }
+    false
+}
+
+// The first n buckets of a list get a holder.
+pub fn hold_all(buckets: &mut [u64], list: &[u64], n: usize, number: u64)
+    ensures { λ _. ⌜ now (buckets .exit) ≡ holdAll (now (buckets .entry)) number (take n (now (list .entry))) ⌝ }
+{
+    let mut i = 0;
+    while i < list.len() {
+        if n <= i {
+            return;
+        }
+        set_holder(buckets, list[i] as usize, number);
+        i += 1;
+    }
+}
+
+// One bucket is freed where it carries the number.
+fn free(buckets: &mut [u64], bucket: u64, number: u64)
+    ensures { λ _. ⌜ now (buckets .exit) ≡ freeAll (now (buckets .entry)) number (bucket ∷ []) ⌝ }
+{
+    if holder_at(buckets, bucket as usize) == number {
+        set_holder(buckets, bucket as usize, 0);
+    }
+}
+
+// Frees those of the first n buckets of a list that carry the number.
+pub fn release_all(buckets: &mut [u64], list: &[u64], n: usize, number: u64)
+    ensures { λ _. ⌜ now (buckets .exit) ≡ freeAll (now (buckets .entry)) number (take n (now (list .entry))) ⌝ }
+{
+    let mut i = 0;
+    while i < list.len() {
+        if n <= i {
+            return;
+        }
+        free(buckets, list[i], number);
+        i += 1;
+    }
+}
+
+// The first n buckets of a list get a stamp.
+pub fn stamp_all(buckets: &mut [u64], list: &[u64], n: usize, stamp: u64)
+    ensures { λ _. ⌜ now (buckets .exit) ≡ stampAll (now (buckets .entry)) stamp (take n (now (list .entry))) ⌝ }
+{
+    let mut i = 0;
+    while i < list.len() {
+        if n <= i {
+            return;
+        }
+        set_stamp(buckets, list[i] as usize, stamp);
+        i += 1;
+    }
+}
+
+// Every pending row gets a claim.
+pub fn claim_all(rows: &mut [u64], lists: &[u64], slot: u32, count: u32, number: u64)
+    ensures { λ _. ⌜ now (rows .exit) ≡ claimAll (now (rows .entry)) number (rowsWritten (now (lists .entry)) slot count) ⌝ }
+{
+    let mut i: u32 = 0;
+    while i < count {
+        set_claim(rows, write_row_at(lists, slot, i) as usize, number);
+        i += 1;
+    }
+}
+
+// One row's claim is freed where it carries the number.
+fn unclaim(rows: &mut [u64], row: u64, number: u64)
+    ensures { λ _. ⌜ now (rows .exit) ≡ unclaimAll (now (rows .entry)) number (row ∷ []) ⌝ }
+{
+    if claim_at(rows, row as usize) == number {
+        set_claim(rows, row as usize, 0);
+    }
+}
+
+// Frees the claims of those pending rows that carry the number.
+pub fn unclaim_all(rows: &mut [u64], lists: &[u64], slot: u32, count: u32, number: u64)
+    ensures { λ _. ⌜ now (rows .exit) ≡ unclaimAll (now (rows .entry)) number (rowsWritten (now (lists .entry)) slot count) ⌝ }
+{
+    let mut i: u32 = 0;
+    while i < count {
+        unclaim(rows, write_row_at(lists, slot, i), number);
+        i += 1;
+    }
+}

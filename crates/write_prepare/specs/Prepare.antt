@@ -1,0 +1,92 @@
+-- What validate and prepare answer and leave.
+use Prim.Native.Nat.{ℕ, _+_, min}
+use mathlib.Core.Bool.{Bool, true, false, cond, not}
+use mathlib.Core.List.{List, _++_}
+use lib.Dec.{eqb, ltb}
+use lib.ListN.{getD, replicate}
+use Rattle.base_limits.specs.Limits.{mostIndexReads, mostWrites}
+use Rattle.model.specs.Store.{rank}
+use Rattle.base_protocol.specs.declared.Answer.the-variants as tell
+use Rattle.base_protocol.specs.declared.Verdict.{Verdict}
+use Rattle.base_protocol.specs.declared.Verdict.the-variants as verdict
+use Rattle.txn.specs.View.{phaseView}
+use Rattle.txn.specs.Methods.{withPhase, refusedOf}
+use Rattle.txn.specs.declared.Phase.the-variants as phase
+use Rattle.txn.specs.declared.Transaction.{Transaction}
+use Rattle.txn.specs.declared.Answered.{Answered}
+use Rattle.txn_needs.specs.Needs.{Listed, pushAll, listedIn, front, readsNeed, rowsWritten, writesNeed}
+use Rattle.txn_needs.specs.Holders.{anyTaken, anyClaimed, holdAll, claimAll}
+use Rattle.finish_install.specs.Install.{versionsInto}
+use Rattle.write_verdict.specs.Judged.{verdictOf}
+
+-- words for the buckets of all index reads and of the old and the new keys of all pending writes
+abbrev pub mostNeeded : ℕ
+mostNeeded = mostIndexReads + mostWrites + mostWrites
+
+-- a bucket of an index read is held by another
+unfoldable pub readsTakenIn : List ℕ → List ℕ → ℕ → ℕ → ℕ → Bool
+readsTakenIn buckets lists slot reads number = anyTaken buckets number (front (listedIn mostNeeded (readsNeed lists slot reads)))
+
+-- validate: wrong phase, a needed bucket held by another; else the verdict
+unfoldable pub validateOf : List ℕ → List ℕ → List ℕ → Transaction → Answered
+validateOf versions buckets lists t =
+    cond (not (eqb (rank (phaseView (t .phase))) 1)) (refusedOf t 5)
+    (cond (readsTakenIn buckets lists (t .slot) (t .«reads_n») (t .number)) (refusedOf t 7)
+    (record { answer = tell.Judged (verdictOf versions buckets lists t); txn = t }))
+
+-- no conflict
+abbrev pub isClear : Verdict → Bool
+isClear verdict.Clear = true
+isClear (verdict.Bucket b captured present) = false
+isClear (verdict.Row r p) = false
+isClear verdict.Mark = false
+
+-- how many distinct rows of the pending writes of a slot get a version; at most sixteen
+unfoldable pub versionsIn : List ℕ → List ℕ → List ℕ → ℕ → ℕ → ℕ
+versionsIn rows versions lists slot n = min (versionsInto rows versions lists slot n (replicate mostWrites 0) .n) mostWrites
+
+-- of each slot, of its first pending writes, as many as are said
+unfoldable pub reservedIn : List ℕ → List ℕ → List ℕ → List ℕ → ℕ
+reservedIn rows versions lists prepared =
+    versionsIn rows versions lists 0 (getD prepared 0 0)
+    + versionsIn rows versions lists 1 (getD prepared 1 0)
+    + versionsIn rows versions lists 2 (getD prepared 2 0)
+    + versionsIn rows versions lists 3 (getD prepared 3 0)
+    + versionsIn rows versions lists 4 (getD prepared 4 0)
+    + versionsIn rows versions lists 5 (getD prepared 5 0)
+    + versionsIn rows versions lists 6 (getD prepared 6 0)
+    + versionsIn rows versions lists 7 (getD prepared 7 0)
+
+-- three numbers together are above a limit
+abbrev pub exceeds : ℕ → ℕ → ℕ → ℕ → Bool
+exceeds used reserved own limit = ltb limit (used + reserved + own)
+
+unfoldable pub lacks : List ℕ → List ℕ → List ℕ → List ℕ → ℕ → ℕ → ℕ → ℕ → Bool
+lacks rows versions lists prepared slot n used limit = exceeds used (reservedIn rows versions lists prepared) (versionsIn rows versions lists slot n) limit
+
+-- the buckets that prepare needs, listed
+unfoldable pub neededInto : List ℕ → List ℕ → List ℕ → ℕ → ℕ → ℕ → ℕ → List ℕ → Listed
+neededInto rows versions lists count slot reads writes out = pushAll (record { out = out; n = 0 }) (readsNeed lists slot reads ++ writesNeed rows versions lists count false slot writes)
+
+-- an answer, rows and buckets
+pub record Left : Type 0 where
+  pub reply : Answered
+  pub rows : List ℕ
+  pub buckets : List ℕ
+
+abbrev pub left : Answered → List ℕ → List ℕ → Left
+left a rows buckets = record { reply = a; rows = rows; buckets = buckets }
+
+-- prepare, with the needed buckets listed: wrong phase; a bucket held or a row claimed by another; a conflict; too few versions; else all is taken
+unfoldable pub prepareWith : List ℕ → List ℕ → ℕ → ℕ → List ℕ → Transaction → List ℕ → List ℕ → Listed → Left
+prepareWith versions lists limit used prepared t rows buckets needed =
+    cond (anyTaken buckets (t .number) (front needed)) (left (refusedOf t 7) rows buckets)
+    (cond (anyClaimed rows (t .number) (rowsWritten lists (t .slot) (t .«writes_n»))) (left (refusedOf t 7) rows buckets)
+    (cond (not (isClear (verdictOf versions buckets lists t))) (left (refusedOf t 14) rows buckets)
+    (cond (lacks rows versions lists prepared (t .slot) (t .«writes_n») used limit) (left (refusedOf t 13) rows buckets)
+    (left (record { answer = tell.Done; txn = withPhase t phase.Prepared }) (claimAll rows (t .number) (rowsWritten lists (t .slot) (t .«writes_n»))) (holdAll buckets (t .number) (front needed))))))
+
+unfoldable pub prepareOf : List ℕ → List ℕ → ℕ → ℕ → ℕ → List ℕ → Transaction → List ℕ → List ℕ → Left
+prepareOf versions lists count limit used prepared t rows buckets =
+    cond (not (eqb (rank (phaseView (t .phase))) 1)) (left (refusedOf t 5) rows buckets)
+    (prepareWith versions lists limit used prepared t rows buckets (neededInto rows versions lists count (t .slot) (t .«reads_n») (t .«writes_n») (replicate mostNeeded 0)))

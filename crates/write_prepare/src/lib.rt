@@ -1,0 +1,216 @@
+// Validate and prepare: the verdict once nobody else has what the transaction needs; then it takes it all.
+use txn_needs::any_claimed;
+use txn_needs::any_taken;
+use txn_needs::claim_all;
+use txn_needs::hold_all;
+use txn_needs::push_reads;
+use txn_needs::push_writes;
+use finish_install::MOST_PENDING;
+use finish_install::version_rows;
+use base_limits::MOST_INDEX_READS;
+use base_limits::MOST_LIVE;
+use base_limits::MOST_WRITES;
+use base_protocol::Answer;
+use base_protocol::CONFLICT;
+use base_protocol::NO_VERSIONS;
+use base_protocol::TAKEN;
+use base_protocol::Verdict;
+use base_protocol::WRONG_PHASE;
+use txn::Answered;
+use txn::OPEN;
+use txn::Phase;
+use txn::Transaction;
+use txn::phase_rank;
+use txn::refused;
+use write_verdict::verdict;
+ghost use mathlib.Core.Path.{_≡_};
+ghost use Prim.Native.Nat.{_≤_};
+ghost use Rattle.base_limits.specs.Limits.{mostWrites};
+ghost use Rattle.write_prepare.specs.Prepare.{readsTakenIn, validateOf, isClear, versionsIn, reservedIn, exceeds, lacks, neededInto, prepareOf};
+
+// Words for the buckets of all index reads and of the old and the new keys of all pending writes.
+pub const MOST_NEEDED: usize = (MOST_INDEX_READS + MOST_WRITES + MOST_WRITES) as usize;
+
+// Whether a bucket of an index read is held by another.
+fn reads_taken(buckets: &[u64], lists: &[u64], slot: u32, reads_n: u32, number: u64) -> bool
+    ensures { λ r. ⌜ r ≡ readsTakenIn (now (buckets .entry)) (now (lists .entry)) slot «reads_n» number ⌝ }
+{
+    let mut list = [0u64; MOST_NEEDED];
+    let n = push_reads(lists, slot, reads_n, &mut list, 0);
+    any_taken(buckets, &list, n, number)
+}
+
+// Validate (Open): the verdict; changes nothing.
+pub fn validate(versions: &[u64], buckets: &[u64], lists: &[u64], t: Transaction) -> Answered
+    ensures { λ r. ⌜ r ≡ validateOf (now (versions .entry)) (now (buckets .entry)) (now (lists .entry)) t ⌝ }
+{
+    let phase = t.phase;
+    if phase_rank(phase) != OPEN {
+        return refused(t, WRONG_PHASE);
+    }
+    if reads_taken(buckets, lists, t.slot, t.reads_n, t.number) {
+        return refused(t, TAKEN);
+    }
+    Answered {
+        answer: Answer::Judged(verdict(versions, buckets, lists, t)),
+        txn: t,
+    }
+}
+
+// Whether a verdict is that there is no conflict.
+fn is_clear(v: Verdict) -> bool
+    ensures { λ r. ⌜ r ≡ isClear v ⌝ }
+{
+    match v {
+        Verdict::Clear => true,
+        Verdict::Bucket {
+            bucket: _,
+            captured: _,
+            present: _,
+        } => false,
+        Verdict::Row { row: _, ptr: _ } => false,
+        Verdict::Mark => false,
+    }
+}
+
+// How many distinct rows of the pending writes of a slot get a version.
+fn count_versions(rows: &[u64], versions: &[u64], lists: &[u64], slot: u32, count: u32) -> u64
+    ensures { λ r. ⌜ (r ≡ versionsIn (now (rows .entry)) (now (versions .entry)) (now (lists .entry)) slot count) × (r ≤ mostWrites) ⌝ }
+{
+    let mut list = [0u64; MOST_PENDING];
+    let n = version_rows(rows, versions, lists, slot, count, &mut list);
+    if n < MOST_PENDING {
+        return n as u64;
+    }
+    MOST_PENDING as u64
+}
+
+// The versions that Prepared transactions have reserved: of each slot the distinct rows that get one, of its first pending writes, as many as `prepared` says.
+pub fn reserved(rows: &[u64], versions: &[u64], lists: &[u64], prepared: [u32; MOST_LIVE]) -> u64
+    ensures { λ r. ⌜ r ≡ reservedIn (now (rows .entry)) (now (versions .entry)) (now (lists .entry)) prepared ⌝ }
+{
+    count_versions(rows, versions, lists, 0, prepared[0])
+        + count_versions(rows, versions, lists, 1, prepared[1])
+        + count_versions(rows, versions, lists, 2, prepared[2])
+        + count_versions(rows, versions, lists, 3, prepared[3])
+        + count_versions(rows, versions, lists, 4, prepared[4])
+        + count_versions(rows, versions, lists, 5, prepared[5])
+        + count_versions(rows, versions, lists, 6, prepared[6])
+        + count_versions(rows, versions, lists, 7, prepared[7])
+}
+
+// Whether three numbers together are above a limit.
+fn exceed(used: u64, reserved: u64, own: u64, limit: u64) -> bool
+    ensures { λ r. ⌜ r ≡ exceeds used reserved own limit ⌝ }
+{
+    if limit < used {
+        return true;
+    }
+    if limit - used < reserved {
+        return true;
+    }
+    limit - used - reserved < own
+}
+
+// Whether there are too few versions: used, reserved by others, and the own rows that get one are above the limit.
+fn no_versions(
+    rows: &[u64],
+    versions: &[u64],
+    lists: &[u64],
+    prepared: [u32; MOST_LIVE],
+    slot: u32,
+    count: u32,
+    used: u64,
+    version_count: u64,
+) -> bool
+    ensures { λ r. ⌜ r ≡ lacks (now (rows .entry)) (now (versions .entry)) (now (lists .entry)) prepared slot count used «version_count» ⌝ }
+{
+    let others = reserved(rows, versions, lists, prepared);
+    let own = count_versions(rows, versions, lists, slot, count);
+    exceed(used, others, own, version_count)
+}
+
+// The buckets that prepare needs: of the index reads, and of the old and the new key of every pending row.
+fn push_needed(
+    rows: &[u64],
+    versions: &[u64],
+    lists: &[u64],
+    bucket_count: u64,
+    slot: u32,
+    reads_n: u32,
+    writes_n: u32,
+    out: &mut [u64],
+) -> usize
+    ensures { λ r. ⌜ record { out = now (out .exit); n = r } ≡ neededInto (now (rows .entry)) (now (versions .entry)) (now (lists .entry)) «bucket_count» slot «reads_n» «writes_n» (now (out .entry)) ⌝ }
+{
+    let read = push_reads(lists, slot, reads_n, out, 0);
+    push_writes(
+        rows,
+        versions,
+        lists,
+        bucket_count,
+        false,
+        slot,
+        writes_n,
+        out,
+        read,
+    )
+}
+
+// Prepare (Open): takes every bucket it needs and claims every pending row.
+pub fn prepare(
+    rows: &mut [u64],
+    versions: &[u64],
+    buckets: &mut [u64],
+    lists: &[u64],
+    bucket_count: u64,
+    version_count: u64,
+    used: u64,
+    prepared: [u32; MOST_LIVE],
+    t: Transaction,
+) -> Answered
+    ensures { λ r. ⌜ record { reply = r; rows = now (rows .exit); buckets = now (buckets .exit) } ≡ prepareOf (now (versions .entry)) (now (lists .entry)) «bucket_count» «version_count» used prepared t (now (rows .entry)) (now (buckets .entry)) ⌝ }
+{
+    let phase = t.phase;
+    if phase_rank(phase) != OPEN {
+        return refused(t, WRONG_PHASE);
+    }
+    let mut list = [0u64; MOST_NEEDED];
+    let n = push_needed(
+        rows,
+        versions,
+        lists,
+        bucket_count,
+        t.slot,
+        t.reads_n,
+        t.writes_n,
+        &mut list,
+    );
+    if any_taken(buckets, &list, n, t.number) {
+        return refused(t, TAKEN);
+    }
+    if any_claimed(rows, lists, t.slot, t.writes_n, t.number) {
+        return refused(t, TAKEN);
+    }
+    if !is_clear(verdict(versions, buckets, lists, t)) {
+        return refused(t, CONFLICT);
+    }
+    if no_versions(
+        rows,
+        versions,
+        lists,
+        prepared,
+        t.slot,
+        t.writes_n,
+        used,
+        version_count,
+    ) {
+        return refused(t, NO_VERSIONS);
+    }
+    hold_all(buckets, &list, n, t.number);
+    claim_all(rows, lists, t.slot, t.writes_n, t.number);
+    Answered {
+        answer: Answer::Done,
+        txn: t.with_phase(Phase::Prepared),
+    }
+}
