@@ -196,10 +196,10 @@ pub another : (f : ℕ → ℕ) (n t j : ℕ) → n ≡ t → Test (byAnother f 
 unfolding byAnother
 another f n t j e = rw e (both (opposite (equal (f j) 0)) (opposite (equal (f j) t)))
 
-pub bucket-taken : (s : Store) (t : ℕ) (bs : List ℕ) → Lives s t → Test (bucketsTaken s t bs) (BucketTaken s t bs) (BucketsFree s t bs)
+pub bucket-taken : (s : Store) (t : ℕ) (bs : List ℕ) → Lives s t → Test (bucketsTaken s (txnOf s t) bs) (BucketTaken s t bs) (BucketsFree s t bs)
 bucket-taken s t bs l = any _ bs (λ b. another (s .held .holder) (txnOf s t .number) t b (lives-number s t l))
 
-pub row-taken : (s : Store) (t : ℕ) → Lives s t → Test (rowsClaimed s t) (RowTaken s t) (RowsFree s t)
+pub row-taken : (s : Store) (t : ℕ) → Lives s t → Test (rowsClaimed s (txnOf s t)) (RowTaken s t) (RowsFree s t)
 row-taken s t l = any _ (pendingRows (s .sizes) (txnOf s t .writes)) (λ r. another (s .held .claim) (txnOf s t .number) t r (lives-number s t l))
 
 -- a stamp that is not below the number

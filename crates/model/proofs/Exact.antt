@@ -11,10 +11,10 @@ use Rattle.base_limits.specs.Limits.{mostRows, mostLive, mostRecords, mostWrite
 use Rattle.base_lists.specs.Lists.{all-of}
 use Rattle.model.specs.Store.{Sizes, Store}
 use Rattle.model.specs.Steps.{foundRows, recordsAfter, readBuckets, neededBuckets}
-use Rattle.model.specs.Refusals.{Refusal, Stale, WrongShape, NoSuch, WrongPhase, NoRow, Marked, ManyWrites, refusalNumber, Step, begin, capture, collect, rows, put, erase, prepare, install, end, publish, validate, abort, txnOf, liveCount, found, writeChecks, checks, refusal}
+use Rattle.model.specs.Refusals.{Refusal, Stale, WrongShape, NoSuch, WrongPhase, NoRow, Marked, ManyWrites, refusalNumber, Step, begin, capture, collect, rows, put, erase, prepare, install, end, publish, validate, abort, txnOf, liveCount, versionsAfter, found, writeChecks, checks, refusal}
 use Rattle.model.specs.Shape.{rightShape}
 use Rattle.model.specs.Machine.{Refused, actor, isStale, gives, carried, step, stepIn, canOpen}
-use Rattle.model.specs.Given.{number, Lives, RightPhase, bucketFor, verdictOf, versionsAfter, openNumber, given, named, writing, Given, GivenOpen, StaleStamp}
+use Rattle.model.specs.Given.{number, Lives, RightPhase, bucketFor, verdictOf, openNumber, given, named, writing, Given, GivenOpen, StaleStamp}
 use Rattle.model.proofs.Move.{never-stale}
 use Rattle.model.proofs.Unrefused.{refuses, accepted-answers}
 use Rattle.model.proofs.FirstTest.{Test, itself, opposite, either, less, at-most, equal, code}
@@ -38,7 +38,7 @@ module _ (n : ℕ) where
       → code ((not (rightShape s), WrongShape) ∷ found s (actor a) phase more) ≡ n ↔ named s a n P
   named-lines s a phase more p later = line _ WrongShape _ (shape-test s) (λ sh. line _ NoSuch _ (lives-test s (actor a)) (λ l. line _ WrongPhase more (opposite p) (λ ph. later l)))
 
-  write-lines : (s : Store) (t r : ℕ) → code (writeChecks s t r) ≡ n ↔ writing s t r n
+  write-lines : (s : Store) (t r : ℕ) → code (writeChecks s (txnOf s t) r) ≡ n ↔ writing s t r n
   write-lines s t r = line _ Marked _ (itself (txnOf s t .marked)) (λ m. line _ NoRow _ (opposite (less r (s .sizes .rows))) (λ i. line _ ManyWrites [] (at-most mostWrites (length (txnOf s t .writes))) (λ few. no-line)))
 
 -- each step gives n exactly where its table does
@@ -53,7 +53,7 @@ given-exactly s (rows t room) n = rw (number-is s (rows t room)) (named-lines n 
 given-exactly s (put t r k payload) n = rw (number-is s (put t r k payload)) (named-lines n s (put t r k payload) _ _ (in-phase s t 1) (λ l. write-lines n s t r))
 given-exactly s (erase t r) n = rw (number-is s (erase t r)) (named-lines n s (erase t r) _ _ (in-phase s t 1) (λ l. write-lines n s t r))
 given-exactly s (prepare t) n = rw (number-is s (prepare t)) (named-lines n s (prepare t) _ _ (in-phase s t 1) (λ l.
-    line n _ _ _ (either (bucket-taken s t (neededBuckets s (txnOf s t)) l) (row-taken s t l)) (λ f. line n _ _ _ (opposite (equal (verdictOf s t) 0)) (λ v. line n _ _ _ (less (s .sizes .versions) (versionsAfter s t)) (λ o. no-line n)))))
+    line n _ _ _ (either (bucket-taken s t (neededBuckets s (txnOf s t)) l) (row-taken s t l)) (λ f. line n _ _ _ (opposite (equal (verdictOf s t) 0)) (λ v. line n _ _ _ (less (s .sizes .versions) (versionsAfter s (txnOf s t))) (λ o. no-line n)))))
 given-exactly s (install t) n = rw (number-is s (install t)) (named-lines n s (install t) _ _ (in-phase s t 4) (λ l. no-line n))
 given-exactly s (end t) n = rw (number-is s (end t)) (named-lines n s (end t) _ _ (in-phase s t 5) (λ l. no-line n))
 given-exactly s (publish t) n = rw (number-is s (publish t)) (named-lines n s (publish t) _ _ (in-phase s t 6) (λ l. no-line n))

@@ -16,8 +16,8 @@ use Rattle.base_lists.proofs.ListLaws.{and-l, and-r, or-l, or-r, first-holds, f
 use Rattle.model.specs.Store.{Ended, Write, Txn, Store, rank, bucketOf}
 use Rattle.model.specs.Seeing.{live, Live}
 use Rattle.model.specs.Verdict.{verdictNumber, verdict}
-use Rattle.model.specs.Steps.{becomes, begun, stale, hasRead, captured, collected, recordsAfter, readDone, written, pendingRows, versionRows, neededBuckets, prepared, installed, ended, published}
-use Rattle.model.specs.Refusals.{Refusal, Step, begin, capture, collect, rows, put, erase, prepare, install, end, publish, validate, abort, placeOf, txnOf, liveCount, byAnother, reserved, writeChecks, found, inPhase, checks, refusal}
+use Rattle.model.specs.Steps.{becomes, begun, stale, hasRead, captured, collected, recordsAfter, readDone, written, pendingRows, neededBuckets, prepared, installed, ended, published}
+use Rattle.model.specs.Refusals.{Refusal, Step, begin, capture, collect, rows, put, erase, prepare, install, end, publish, validate, abort, placeOf, txnOf, liveCount, byAnother, versionsAfter, writeChecks, found, inPhase, checks, refusal}
 use Rattle.model.specs.Shape.{rightShape}
 use Rattle.model.specs.Machine.{at, accepted, actor, isStale, afterRefusal, carried, stepIn, step, run}
 
@@ -43,7 +43,7 @@ pub record CanPrepare (s : Store) (i : ℕ) : Type 0 where
   pub buckets-free : some-of (byAnother (s .held .holder) (s .txns i .number)) (neededBuckets s (s .txns i)) ≡ false
   pub rows-free : some-of (byAnother (s .held .claim) (s .txns i .number)) (pendingRows (s .sizes) (s .txns i .writes)) ≡ false
   pub clear : verdictNumber (verdict (s .chains) (s .index) (s .txns i)) ≡ 0
-  pub room : s .chains .used + reserved (s .sizes) (s .chains) (s .txns) mostLive + length (versionRows (s .sizes) (s .chains) (s .txns i .writes)) ≤ s .sizes .versions
+  pub room : versionsAfter s (s .txns i) ≤ s .sizes .versions
 
 -- a constructor for each outcome of a step that changes the store; i is the place of the one who acts
 pub data Move (s : Store) : ℕ → Store → Type 0 where
@@ -169,7 +169,7 @@ rows-move s t room = plain-move s (rows t room) refl λ e.
     did-rows (at s t) (f .alive) (eqb-true _ _ (f .phase-is)) (ltb-false _ _ (b .0))
 
 -- put and erase have the same tests
-write-move : (s : Store) (t : ℕ) (w : Write) → refusal (found s t (inPhase s t 1) (writeChecks s t (w .row))) ≡ none → Move s (at s t) (written s (at s t) w)
+write-move : (s : Store) (t : ℕ) (w : Write) → refusal (found s t (inPhase s t 1) (writeChecks s (txnOf s t) (w .row))) ≡ none → Move s (at s t) (written s (at s t) w)
 write-move s t w e =
     let f = finds s t _ _ e in
     let a = passes _ _ _ (f .rest) in

@@ -10,10 +10,10 @@ use Rattle.base_limits.specs.Limits.{mostRows, mostVersions, mostBuckets, mostL
 use Rattle.base_lists.specs.Lists.{all-of, Among}
 use Rattle.model.specs.Store.{Sizes, Store}
 use Rattle.model.specs.Steps.{foundRows, recordsAfter, readBuckets, neededBuckets}
-use Rattle.model.specs.Refusals.{Step, begin, capture, collect, rows, put, erase, prepare, install, end, publish, validate, abort, txnOf, liveCount, checks}
+use Rattle.model.specs.Refusals.{Step, begin, capture, collect, rows, put, erase, prepare, install, end, publish, validate, abort, txnOf, liveCount, versionsAfter, checks}
 use Rattle.model.specs.Shape.{rightShape}
 use Rattle.model.specs.Machine.{actor, canOpen}
-use Rattle.model.specs.Given.{_and_, number, Shaped, Lives, Names, RightPhase, Ready, ByAnother, Free, BucketTaken, BucketsFree, RowTaken, RowsFree, bucketFor, stampFor, Seventeenth, RoomForRead, verdictOf, versionsAfter, Outside, openNumber}
+use Rattle.model.specs.Given.{_and_, number, Shaped, Lives, Names, RightPhase, Ready, ByAnother, Free, BucketTaken, BucketsFree, RowTaken, RowsFree, bucketFor, stampFor, Seventeenth, RoomForRead, verdictOf, Outside, openNumber}
 use Rattle.model.proofs.FirstTest.{given-among, itself, opposite, either, less, at-most, equal, stop, skip, stop-or, pass}
 use Rattle.model.proofs.Conditions.{all-tests, number-is, shape-test, lives-number, past, ready-only, cannot-open, unknown, wrong-phase, no-sixteen, in-phase, early, another, bucket-taken, row-taken, stale-test, read-test}
 
@@ -168,13 +168,13 @@ pub prepare-14 : (s : Store) (t : ℕ) → number s (prepare t) ≡ 14 ↔ Ready
 unfolding checks all-of
 prepare-14 s t = rw (number-is s (prepare t)) (past 14 s (prepare t) _ _ (omega arith) (in-phase s t 1) (λ l. skip 14 _ _ _ (either (bucket-taken s t (neededBuckets s (txnOf s t)) l) (row-taken s t l)) (omega arith) (λ f. stop 14 _ _ _ (opposite (equal (verdictOf s t) 0)) (omega arith) refl)))
 
-pub prepare-13 : (s : Store) (t : ℕ) → number s (prepare t) ≡ 13 ↔ Ready s (prepare t) and (BucketsFree s t (neededBuckets s (txnOf s t)) × RowsFree s t) and (verdictOf s t ≡ 0) and (s .sizes .versions < versionsAfter s t)
+pub prepare-13 : (s : Store) (t : ℕ) → number s (prepare t) ≡ 13 ↔ Ready s (prepare t) and (BucketsFree s t (neededBuckets s (txnOf s t)) × RowsFree s t) and (verdictOf s t ≡ 0) and (s .sizes .versions < versionsAfter s (txnOf s t))
 unfolding checks all-of
-prepare-13 s t = rw (number-is s (prepare t)) (past 13 s (prepare t) _ _ (omega arith) (in-phase s t 1) (λ l. skip 13 _ _ _ (either (bucket-taken s t (neededBuckets s (txnOf s t)) l) (row-taken s t l)) (omega arith) (λ f. skip 13 _ _ _ (opposite (equal (verdictOf s t) 0)) (omega arith) (λ v. stop 13 _ _ _ (less (s .sizes .versions) (versionsAfter s t)) (omega arith) refl))))
+prepare-13 s t = rw (number-is s (prepare t)) (past 13 s (prepare t) _ _ (omega arith) (in-phase s t 1) (λ l. skip 13 _ _ _ (either (bucket-taken s t (neededBuckets s (txnOf s t)) l) (row-taken s t l)) (omega arith) (λ f. skip 13 _ _ _ (opposite (equal (verdictOf s t) 0)) (omega arith) (λ v. stop 13 _ _ _ (less (s .sizes .versions) (versionsAfter s (txnOf s t))) (omega arith) refl))))
 
-pub prepare-0 : (s : Store) (t : ℕ) → number s (prepare t) ≡ 0 ↔ Ready s (prepare t) and (BucketsFree s t (neededBuckets s (txnOf s t)) × RowsFree s t) and (verdictOf s t ≡ 0) and (versionsAfter s t ≤ s .sizes .versions)
+pub prepare-0 : (s : Store) (t : ℕ) → number s (prepare t) ≡ 0 ↔ Ready s (prepare t) and (BucketsFree s t (neededBuckets s (txnOf s t)) × RowsFree s t) and (verdictOf s t ≡ 0) and (versionsAfter s (txnOf s t) ≤ s .sizes .versions)
 unfolding checks all-of
-prepare-0 s t = rw (number-is s (prepare t)) (past 0 s (prepare t) _ _ (omega arith) (in-phase s t 1) (λ l. skip 0 _ _ _ (either (bucket-taken s t (neededBuckets s (txnOf s t)) l) (row-taken s t l)) (omega arith) (λ f. skip 0 _ _ _ (opposite (equal (verdictOf s t) 0)) (omega arith) (λ v. pass _ _ (less (s .sizes .versions) (versionsAfter s t)) (omega arith)))))
+prepare-0 s t = rw (number-is s (prepare t)) (past 0 s (prepare t) _ _ (omega arith) (in-phase s t 1) (λ l. skip 0 _ _ _ (either (bucket-taken s t (neededBuckets s (txnOf s t)) l) (row-taken s t l)) (omega arith) (λ f. skip 0 _ _ _ (opposite (equal (verdictOf s t) 0)) (omega arith) (λ v. pass _ _ (less (s .sizes .versions) (versionsAfter s (txnOf s t))) (omega arith)))))
 
 -- validate: 7 where a bucket of an index read is another's
 pub validate-7 : (s : Store) (t : ℕ) → number s (validate t) ≡ 7 ↔ Ready s (validate t) and BucketTaken s t (readBuckets (txnOf s t))

@@ -15,7 +15,7 @@ use Rattle.base_lists.specs.Table.{update, update-elim}
 use Rattle.model.specs.Store.{Sizes, Chains, Prepared, Installed, Txn, Store, noTxn, fresh, rank}
 use Rattle.model.specs.Seeing.{keyAt, lastWrite, live, Live}
 use Rattle.model.specs.Steps.{withPhase, newTxn, oldKey, newKey, versionRows, prepared, push, writtenPayload, pushAll, installed}
-use Rattle.model.specs.Refusals.{liveCount, reservedBy, reserved}
+use Rattle.model.specs.Refusals.{liveCount, reservedBy, reserved, versionsAfter}
 use Rattle.model.specs.Holding.{Writes}
 use Rattle.model.proofs.Move.{live-test, Move, stay, did-begin, did-mark, did-capture, did-collect, did-rows, did-write, did-prepare, did-install, did-end, did-publish, did-abort}
 use Rattle.model.proofs.Chained.{Chained}
@@ -91,7 +91,7 @@ module _ (s : Store) (i : ℕ) (n : Numbers (s .clock) (s .txns)) (g : RoomAt s)
   room-free : (clock′ : ℕ) → clock′ ≤ suc (s .clock) → Room (s .sizes) clock′ (s .chains) (update (s .txns) i noTxn)
   room-free clock′ h = room-set _ _ _ (s .chains) (s .txns) i noTxn here (omega (arith, ap one (live-test (s .txns i) a))) (omega (arith, reserves-none (s .sizes) (s .chains) noTxn (λ e. omega arith))) g
 
-  room-prepare : rank (s .txns i .phase) ≡ 1 → s .chains .used + reserved (s .sizes) (s .chains) (s .txns) mostLive + length (versionRows (s .sizes) (s .chains) (s .txns i .writes)) ≤ s .sizes .versions → RoomAt (prepared s i)
+  room-prepare : rank (s .txns i .phase) ≡ 1 → versionsAfter s (s .txns i) ≤ s .sizes .versions → RoomAt (prepared s i)
   room-prepare r h = let x = withPhase (s .txns i) Prepared in record {
     numbers-left = omega (arith, g .numbers-left, live-set (s .txns) i x here);
     versions-left = omega (arith, reserved-set (s .sizes) (s .chains) (s .txns) i x mostLive here, reserves (s .sizes) (s .chains) x a refl, reserves-none (s .sizes) (s .chains) (s .txns i) (λ e. omega arith));

@@ -9,8 +9,8 @@ use Rattle.base_limits.specs.Limits.{mostRows, mostVersions, mostBuckets, mostL
 use Rattle.base_lists.specs.Lists.{Among}
 use Rattle.model.specs.Store.{Sizes, Store, rank, keyIn, bucketOf}
 use Rattle.model.specs.Verdict.{verdict, verdictNumber}
-use Rattle.model.specs.Steps.{hasRead, postedRows, foundRows, recordsAfter, pendingRows, versionRows, readBuckets, neededBuckets}
-use Rattle.model.specs.Refusals.{WrongSize, refusalNumber, Step, begin, capture, collect, rows, put, erase, prepare, install, end, publish, validate, abort, txnOf, liveCount, reserved}
+use Rattle.model.specs.Steps.{hasRead, postedRows, foundRows, recordsAfter, pendingRows, readBuckets, neededBuckets}
+use Rattle.model.specs.Refusals.{WrongSize, refusalNumber, Step, begin, capture, collect, rows, put, erase, prepare, install, end, publish, validate, abort, txnOf, liveCount, versionsAfter}
 use Rattle.model.specs.Shape.{rightShape}
 use Rattle.model.specs.Machine.{Answer, Done, Number, Stamp, Count, Rows, Judged, answerNumber, actor, step, canOpen}
 
@@ -103,12 +103,9 @@ Seventeenth s t k = (hasRead (txnOf s t .reads) (bucketFor s k) ≡ false) × (m
 abbrev pub RoomForRead : Store → ℕ → ℕ → Type 0
 RoomForRead s t k = (hasRead (txnOf s t .reads) (bucketFor s k) ≡ true) ⊎ (length (txnOf s t .reads) < mostIndexReads)
 
--- the verdict's number; versions used, reserved by others Prepared, and one for each own distinct pending row that gets one
+-- the verdict's number
 abbrev pub verdictOf : Store → ℕ → ℕ
 verdictOf s t = verdictNumber (verdict (s .chains) (s .index) (txnOf s t))
-
-abbrev pub versionsAfter : Store → ℕ → ℕ
-versionsAfter s t = s .chains .used + reserved (s .sizes) (s .chains) (s .txns) mostLive + length (versionRows (s .sizes) (s .chains) (txnOf s t .writes))
 
 -- open: a size outside its range
 abbrev pub Outside : ℕ → ℕ → Type 0
@@ -149,7 +146,7 @@ Given s (erase t r) n = named s (erase t r) n (writing s t r n)
 Given s (prepare t) n = named s (prepare t) n
     (given 7 (BucketTaken s t (neededBuckets s (txnOf s t)) ⊎ RowTaken s t) n
     (given 14 (verdictOf s t ≢ 0) n
-    (given 13 (s .sizes .versions < versionsAfter s t) n
+    (given 13 (s .sizes .versions < versionsAfter s (txnOf s t)) n
     (n ≡ 0))))
 Given s (install t) n = named s (install t) n (n ≡ 0)
 Given s (end t) n = named s (end t) n (n ≡ 0)

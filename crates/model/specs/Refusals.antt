@@ -73,9 +73,9 @@ unfoldable pub reserved : Sizes → Chains → (ℕ → Txn) → ℕ → ℕ
 reserved z c txns zero = 0
 reserved z c txns (suc n) = reserved z c txns n + reservedBy z c (txns n)
 
--- put, erase: not marked, a row below the row count, and not a 17th pending write
-abbrev pub writeChecks : Store → ℕ → ℕ → List (Bool × Refusal)
-writeChecks s t r = (txnOf s t .marked, Marked) ∷ (not (ltb r (s .sizes .rows)), NoRow) ∷ (leb mostWrites (length (txnOf s t .writes)), ManyWrites) ∷ []
+-- the versions after a prepare: used, reserved by others Prepared, and one for each own distinct pending row that gets one
+abbrev pub versionsAfter : Store → Txn → ℕ
+versionsAfter s x = s .chains .used + reserved (s .sizes) (s .chains) (s .txns) mostLive + length (versionRows (s .sizes) (s .chains) (x .writes))
 
 -- 4, and then 5 where the phase is not the one that the step needs
 abbrev pub found : Store → ℕ → Bool → List (Bool × Refusal) → List (Bool × Refusal)
@@ -85,12 +85,44 @@ abbrev pub inPhase : Store → ℕ → ℕ → Bool
 inPhase s t n = eqb (rank (txnOf s t .phase)) n
 
 -- a needed bucket is held by another
-abbrev pub bucketsTaken : Store → ℕ → List ℕ → Bool
-bucketsTaken s t bs = some-of (byAnother (s .held .holder) (txnOf s t .number)) bs
+abbrev pub bucketsTaken : Store → Txn → List ℕ → Bool
+bucketsTaken s x bs = some-of (byAnother (s .held .holder) (x .number)) bs
 
 -- a pending row is claimed by another
-abbrev pub rowsClaimed : Store → ℕ → Bool
-rowsClaimed s t = some-of (byAnother (s .held .claim) (txnOf s t .number)) (pendingRows (s .sizes) (txnOf s t .writes))
+abbrev pub rowsClaimed : Store → Txn → Bool
+rowsClaimed s x = some-of (byAnother (s .held .claim) (x .number)) (pendingRows (s .sizes) (x .writes))
+
+-- capture: not marked, a bucket that is free, a stamp below the number, and not a 17th index read
+abbrev pub captureChecks : Store → Txn → ℕ → List (Bool × Refusal)
+captureChecks s x k =
+    (x .marked, Marked)
+    ∷ (byAnother (s .held .holder) (x .number) (bucketOf (s .sizes) k), Taken)
+    ∷ (not (ltb (s .index .stamp (bucketOf (s .sizes) k)) (x .number)), Stale)
+    ∷ (not (hasRead (x .reads) (bucketOf (s .sizes) k)) && leb mostIndexReads (length (x .reads)), ManyReads)
+    ∷ []
+
+-- rows: a lent list that the matches fit in, and not a 65th read record
+abbrev pub rowsChecks : Store → Txn → ℕ → List (Bool × Refusal)
+rowsChecks s x room =
+    (ltb (min room mostRows) (length (foundRows s x)), NoRoom)
+    ∷ (ltb mostRecords (length (recordsAfter s x)), ManyRecords)
+    ∷ []
+
+-- put, erase: not marked, a row below the row count, and not a 17th pending write
+abbrev pub writeChecks : Store → Txn → ℕ → List (Bool × Refusal)
+writeChecks s x r = (x .marked, Marked) ∷ (not (ltb r (s .sizes .rows)), NoRow) ∷ (leb mostWrites (length (x .writes)), ManyWrites) ∷ []
+
+-- prepare: the needed buckets and the pending rows free, a verdict of 0, and versions enough
+abbrev pub prepareChecks : Store → Txn → List (Bool × Refusal)
+prepareChecks s x =
+    (bucketsTaken s x (neededBuckets s x) || rowsClaimed s x, Taken)
+    ∷ (not (eqb (verdictNumber (verdict (s .chains) (s .index) x)) 0), Conflict)
+    ∷ (ltb (s .sizes .versions) (versionsAfter s x), NoVersions)
+    ∷ []
+
+-- validate: the buckets of its index reads free
+abbrev pub validateChecks : Store → Txn → List (Bool × Refusal)
+validateChecks s x = (bucketsTaken s x (readBuckets x), Taken) ∷ []
 
 -- the tests of each step in the order of document 01, each with the refusal that it gives
 unfoldable pub checks : Store → Step → List (Bool × Refusal)
@@ -98,28 +130,16 @@ checks s begin =
     (leb mostLive (liveCount (s .txns)), Full)
     ∷ (ltb lastNumber (s .clock + liveCount (s .txns) + 2), NoNumbers)
     ∷ []
-checks s (capture t k) = found s t (inPhase s t 1)
-    ((txnOf s t .marked, Marked)
-    ∷ (byAnother (s .held .holder) (txnOf s t .number) (bucketOf (s .sizes) k), Taken)
-    ∷ (not (ltb (s .index .stamp (bucketOf (s .sizes) k)) (txnOf s t .number)), Stale)
-    ∷ (not (hasRead (txnOf s t .reads) (bucketOf (s .sizes) k)) && leb mostIndexReads (length (txnOf s t .reads)), ManyReads)
-    ∷ [])
+checks s (capture t k) = found s t (inPhase s t 1) (captureChecks s (txnOf s t) k)
 checks s (collect t) = found s t (inPhase s t 2) []
-checks s (rows t room) = found s t (inPhase s t 3)
-    ((ltb (min room mostRows) (length (foundRows s (txnOf s t))), NoRoom)
-    ∷ (ltb mostRecords (length (recordsAfter s (txnOf s t))), ManyRecords)
-    ∷ [])
-checks s (put t r k payload) = found s t (inPhase s t 1) (writeChecks s t r)
-checks s (erase t r) = found s t (inPhase s t 1) (writeChecks s t r)
-checks s (prepare t) = found s t (inPhase s t 1)
-    ((bucketsTaken s t (neededBuckets s (txnOf s t)) || rowsClaimed s t, Taken)
-    ∷ (not (eqb (verdictNumber (verdict (s .chains) (s .index) (txnOf s t))) 0), Conflict)
-    ∷ (ltb (s .sizes .versions) (s .chains .used + reserved (s .sizes) (s .chains) (s .txns) mostLive + length (versionRows (s .sizes) (s .chains) (txnOf s t .writes))), NoVersions)
-    ∷ [])
+checks s (rows t room) = found s t (inPhase s t 3) (rowsChecks s (txnOf s t) room)
+checks s (put t r k payload) = found s t (inPhase s t 1) (writeChecks s (txnOf s t) r)
+checks s (erase t r) = found s t (inPhase s t 1) (writeChecks s (txnOf s t) r)
+checks s (prepare t) = found s t (inPhase s t 1) (prepareChecks s (txnOf s t))
 checks s (install t) = found s t (inPhase s t 4) []
 checks s (end t) = found s t (inPhase s t 5) []
 checks s (publish t) = found s t (inPhase s t 6) []
-checks s (validate t) = found s t (inPhase s t 1) ((bucketsTaken s t (readBuckets (txnOf s t)), Taken) ∷ [])
+checks s (validate t) = found s t (inPhase s t 1) (validateChecks s (txnOf s t))
 checks s (abort t) = found s t (ltb (rank (txnOf s t .phase)) 5) []
 
 -- the first refusal whose test holds

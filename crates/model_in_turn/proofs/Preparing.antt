@@ -15,7 +15,7 @@ use Rattle.model.specs.Store.{Index, Open, Prepared, IndexRead, ReadRecord, Txn
 use Rattle.model.specs.Seeing.{live, active, activeNumbers}
 use Rattle.model.specs.Verdict.{Clear, verdictNumber, verdict}
 use Rattle.model.specs.Steps.{newTxn, begun, versionRows, prepared}
-use Rattle.model.specs.Refusals.{begin, prepare, placeOf, txnOf, liveCount, reservedBy, reserved}
+use Rattle.model.specs.Refusals.{begin, prepare, placeOf, txnOf, liveCount, reservedBy, reserved, versionsAfter}
 use Rattle.model.specs.Machine.{at, accepted, step}
 use Rattle.model.specs.Causes.{by-none}
 use Rattle.model.specs.Given.{number}
@@ -56,7 +56,7 @@ module _ (s : Store) (q : Quiet s) (x : Local) (t : Store) (a : Alone s x t) whe
   unfolding accepted
   prepare-acts p room = record { done = ok; reads-are = ap (λ v. returned t (s .clock) (v .answer)) does; next = rw store-is after }
     where
-      versions : t .chains .used + reserved (t .sizes) (t .chains) (t .txns) mostLive + length (versionRows (t .sizes) (t .chains) (txnOf t (s .clock) .writes)) ≤ t .sizes .versions
+      versions : versionsAfter t (txnOf t (s .clock)) ≤ t .sizes .versions
       versions = rw (txn-is s q x t a, nothing-reserved (ap rank p), a .writes-are, a .sizes-are, a .chains-are) (omega (arith, room))
 
       ok : number t (prepare (s .clock)) ≡ 0

@@ -18,7 +18,7 @@ use Rattle.model.specs.Store as model
 use Rattle.model.specs.Seeing.{versionOf, pending, matches}
 use Rattle.model.specs.Seeing as seeing
 use Rattle.model.specs.Steps.{foundRows, recorded, recording, recordAll, recordsAfter, readTxn}
-use Rattle.model.specs.Refusals.{Refusal, WrongPhase, NoRoom, ManyRecords, refusalNumber, refusal}
+use Rattle.model.specs.Refusals.{Refusal, WrongPhase, NoRoom, ManyRecords, refusalNumber, rowsChecks, refusal}
 use Rattle.model.specs.Machine as machine
 use Rattle.model.specs.Machine.{lentAfter}
 use Rattle.model.proofs.SeeingLaws.{keyAt-pos, match-version, version-in, found-which}
@@ -78,14 +78,6 @@ one-record versions all new done known r th q same false pend seen skip add =
     by : (m : Bool) → recordView (recordFor versions r (q .ptr)) ≡ q → all (cond m done (done ++ (q ∷ []))) ≡ done ++ map recordView (cond m (new known) (recordFor versions r (q .ptr) ∷ new (q .ptr ∷ known)))
     by true e = skip
     by false e = add ∙ (append-assoc done (q ∷ []) (map recordView (new (q .ptr ∷ known))) ∙ rw e)
-
--- the tests of the step in their order, as the model has them once the transaction is found
-abbrev pub rowsChecks : Store → Txn → ℕ → List (Bool × Refusal)
-rowsChecks s x room =
-    (not (eqb (rank (x .phase)) 3), WrongPhase)
-    ∷ (ltb (min room mostRows) (length (foundRows s x)), NoRoom)
-    ∷ (ltb mostRecords (length (recordsAfter s x)), ManyRecords)
-    ∷ []
 
 -- what an accepted step leaves is what the model's does: the answer, the transaction, the lent list; every other transaction is as it was
 pub record ReadAs (s : Store) (lists found : List ℕ) (t : Transaction) (w : LeftRows) : Type 0 where
@@ -202,7 +194,7 @@ module _ (s : Store) (rows versions lists : List ℕ) (used : ℕ) (t : Transact
     by-tests false false false ok = ok refl
 
     -- the step: where the model refuses it, the words answer its number and are as they were; else they leave what the model does
-    pub rows-model : RowsAs s lists found t (refusal (rowsChecks s txn room)) (rowsOf rows versions lists found (s .sizes .rows) used room t)
+    pub rows-model : RowsAs s lists found t (refusal ((not (eqb (rank (txn .phase)) 3), WrongPhase) ∷ rowsChecks s txn room)) (rowsOf rows versions lists found (s .sizes .rows) used room t)
     unfolding rowsOf readingOf refusal
     rows-model =
         rw (room-same room (length found) lent, count-same)

@@ -17,7 +17,7 @@ use Rattle.base_lists.specs.Lists.{member, some-of}
 use Rattle.model.specs.Store as model
 use Rattle.model.specs.Store.{bucketOf}
 use Rattle.model.specs.Steps.{hasRead, addRead}
-use Rattle.model.specs.Refusals.{Refusal, WrongPhase, Marked, Taken, Stale, ManyReads, byAnother, checks, refusal, inPhase, txnOf}
+use Rattle.model.specs.Refusals.{WrongPhase, Marked, Taken, Stale, ManyReads, byAnother, captureChecks, checks, refusal, inPhase, txnOf}
 use Rattle.model.specs.Machine.{accepted, afterRefusal, carried}
 use Rattle.model.proofs.Ranges.{good-sized, bucket-in}
 use Rattle.base_protocol.specs.declared.Step.the-variants as ask
@@ -84,15 +84,6 @@ read-view xs p t z l h i ph b st =
       other-list lists.recordOf lists.reads lists.records xs (t .slot) (t .«reads_n») (t .«records_n») (b ∷ st ∷ []) refl i (z .records) (inl (omega arith)),
       other-list lists.candidateOf lists.reads lists.candidates xs (t .slot) (t .«reads_n») (t .«candidates_n») (b ∷ st ∷ []) refl i (z .candidates) (inl (omega arith)),
     )
-
--- what capture tests after the phase
-abbrev captureChecks : model.Store → ℕ → ℕ → List (Bool × Refusal)
-captureChecks s t k =
-    (txnOf s t .marked, Marked)
-    ∷ (byAnother (s .held .holder) (txnOf s t .number) (bucketOf (s .sizes) k), Taken)
-    ∷ (not (ltb (s .index .stamp (bucketOf (s .sizes) k)) (txnOf s t .number)), Stale)
-    ∷ (not (hasRead (txnOf s t .reads) (bucketOf (s .sizes) k)) && leb mostIndexReads (length (txnOf s t .reads)), ManyReads)
-    ∷ []
 
 -- a bucket in range gets a holder: the model's tables
 module _ (w : Words) (z : Sized w) (b v : ℕ) (h : b < w .sizes .buckets) where
@@ -173,7 +164,7 @@ module _ (w : Words) (z : Sized w) (g : Shaped w) (n k : ℕ) (l : standing w n 
   captured-at f st q r false false false false false h = held-at f st q r h
 
   captured-place : SameAt w (standing w n) (inBuckets (captureAt (txnAt w (standing w n)) (bucketOf (view w .sizes) k) k (w .tables .buckets) (w .tables .lists)) (w .clock) (w .used) (w .tables))
-      (carried (view w) (asked (ask.Capture n k)) (refusal ((not (inPhase (view w) n 1), WrongPhase) ∷ (captureChecks (view w) n k))))
+      (carried (view w) (asked (ask.Capture n k)) (refusal ((not (inPhase (view w) n 1), WrongPhase) ∷ captureChecks (view w) (txnOf (view w) n) k)))
   unfolding captureAt refusal
   captured-place =
       let q = standing w n in
@@ -189,4 +180,4 @@ module _ (w : Words) (z : Sized w) (g : Shaped w) (n k : ℕ) (l : standing w n 
 -- the key's bucket is taken
 pub capture-same : (w : Words) → Sized w → Shaped w → (n k : ℕ) → Same w (ask.Capture n k)
 unfolding checks bucketOf
-capture-same w z g n k = by-place w z (ask.Capture n k) refl (inPhase (view w) n 1) (captureChecks (view w) n k) refl (λ l d e. captured-place w z g n k l)
+capture-same w z g n k = by-place w z (ask.Capture n k) refl (inPhase (view w) n 1) (captureChecks (view w) (txnOf (view w) n) k) refl (λ l d e. captured-place w z g n k l)

@@ -5,7 +5,6 @@ use mathlib.Core.Path.{_≡_, refl, sym, ap, _∙_}
 use mathlib.Core.Bool.{Bool, true, false, cond, not}
 use mathlib.Core.Option.{none, some}
 use mathlib.Core.Logic.{_≢_}
-use mathlib.Core.List.{[], _∷_}
 use native.Mathlib.Decide.{decLt}
 use native.Mathlib.Omega.{arith}
 use lib.Dec.{ltb}
@@ -14,7 +13,7 @@ use Rattle.base_limits.specs.Limits.{mostLive, mostRows, mostRecords}
 use Rattle.base_lists.specs.Table.{update}
 use Rattle.model.specs.Store as model
 use Rattle.model.specs.Steps.{foundRows, recordsAfter}
-use Rattle.model.specs.Refusals.{WrongPhase, NoRoom, ManyRecords, checks, refusal, inPhase, txnOf}
+use Rattle.model.specs.Refusals.{WrongPhase, NoRoom, ManyRecords, rowsChecks, checks, refusal, inPhase, txnOf}
 use Rattle.model.specs.Machine.{accepted, afterRefusal, carried}
 use Rattle.model.proofs.Ranges.{good-sized}
 use Rattle.base_protocol.specs.declared.Step.the-variants as ask
@@ -86,6 +85,6 @@ module _ (w : Words) (z : Sized w) (g : Shaped w) where
   unfolding checks refusal
   rows-same n room h =
       let x = txnOf (view w) n in
-      by-place w z (ask.Rows n room) refl (inPhase (view w) n 3) ((ltb (min room mostRows) (length (foundRows (view w) x)), NoRoom) ∷ (ltb mostRecords (length (recordsAfter (view w) x)), ManyRecords) ∷ []) refl
+      by-place w z (ask.Rows n room) refl (inPhase (view w) n 3) (rowsChecks (view w) x room) refl
       (λ l d e. found-at n room l _ (not (inPhase (view w) n 3)) (ltb (min room mostRows) (length (foundRows (view w) x))) (ltb mostRecords (length (recordsAfter (view w) x)))
       (rows-model (view w) (w .tables .rows) (w .tables .versions) (w .tables .lists) (w .used) (txnAt w (standing w n)) chains-shown (good-sized (view w .sizes) (g .sizes) .rows-most) (lists-stand (standing w n) l) (w .tables .found) room h))

@@ -4,7 +4,7 @@ use Prim.Native.Nat.{ℕ, suc, _≤_, _<_}
 use mathlib.Core.Path.{_≡_, refl, ap, _∙_}
 use mathlib.Core.Bool.{Bool, true, false, cond, not}
 use mathlib.Core.Option.{none, some}
-use mathlib.Core.List.{List, [], _∷_, map-map}
+use mathlib.Core.List.{List, map-map}
 use native.Mathlib.Omega.{arith}
 use lib.Dec.{eqb}
 use lib.ListN.{length, length-map}
@@ -13,7 +13,7 @@ use Rattle.base_lists.proofs.ListLaws.{among-map, map-among}
 use Rattle.model.specs.Store as model
 use Rattle.model.specs.Steps.{readBuckets}
 use Rattle.model.specs.Verdict as judged
-use Rattle.model.specs.Refusals.{WrongPhase, Taken, byAnother, checks, refusal, inPhase, bucketsTaken, txnOf}
+use Rattle.model.specs.Refusals.{WrongPhase, Taken, byAnother, validateChecks, checks, refusal, inPhase, txnOf}
 use Rattle.model.specs.Machine.{accepted, afterRefusal, carried}
 use Rattle.base_protocol.specs.declared.Step.the-variants as ask
 use Rattle.base_protocol.specs.declared.Answer.the-variants as tell
@@ -89,7 +89,7 @@ module _ (w : Words) (z : Sized w) (g : Shaped w) where
   -- validate changes nothing
   pub validate-same : (n : ℕ) → Same w (ask.Validate n)
   unfolding checks refusal validateOf
-  validate-same n = by-place w z (ask.Validate n) refl (inPhase (view w) n 1) ((bucketsTaken (view w) n (readBuckets (txnOf (view w) n)), Taken) ∷ []) refl
+  validate-same n = by-place w z (ask.Validate n) refl (inPhase (view w) n 1) (validateChecks (view w) (txnOf (view w) n)) refl
       (λ l d e.
       let a = live-at w n d e in
       rw (reads-taken (standing w n) a)

@@ -1,10 +1,10 @@
 -- Prepare over the words is the model's.
 -- Assumes nothing.
-use Prim.Native.Nat.{ℕ, _+_, _≤_, _<_}
+use Prim.Native.Nat.{ℕ, _≤_, _<_}
 use mathlib.Core.Path.{_≡_, refl, sym, ap, _∙_}
 use mathlib.Core.Bool.{Bool, true, false, cond, not, _&&_, _||_}
 use mathlib.Core.Option.{none, some}
-use mathlib.Core.List.{List, [], _∷_}
+use mathlib.Core.List.{List, _∷_}
 use native.Mathlib.Omega.{arith}
 use lib.Dec.{eqb, ltb}
 use lib.ListN.{length, take, getD, replicate, List·getD-map}
@@ -12,11 +12,10 @@ use borrow.Author.Tests.{eqb-false}
 use Rattle.base_limits.specs.Limits.{mostLive}
 use Rattle.base_lists.specs.Lists.{some-of, Among, join}
 use Rattle.base_lists.proofs.ListLaws.{same-test, some-which, which-some}
-use Rattle.model.specs.Store as model
 use Rattle.model.specs.Store.{rank}
 use Rattle.model.specs.Verdict as judged
 use Rattle.model.specs.Steps.{pendingRows, neededBuckets, preparedHeld, versionRows}
-use Rattle.model.specs.Refusals.{Refusal, WrongPhase, Taken, Conflict, NoVersions, byAnother, reservedBy, reserved, bucketsTaken, rowsClaimed, checks, refusal, inPhase, txnOf}
+use Rattle.model.specs.Refusals.{WrongPhase, Taken, Conflict, NoVersions, byAnother, reservedBy, reserved, versionsAfter, prepareChecks, checks, refusal, inPhase, txnOf}
 use Rattle.model.specs.Machine.{accepted, afterRefusal, carried}
 use Rattle.base_protocol.specs.declared.Step.the-variants as ask
 use Rattle.base_protocol.specs.declared.Answer.the-variants as tell
@@ -62,14 +61,6 @@ clear-same judged.Mark = refl
 
 abbrev preparedOf : Transaction → ℕ
 preparedOf t = preparedCount (t .number) (t .phase) (t .«writes_n»)
-
--- what prepare tests after the phase
-abbrev prepareChecks : model.Store → ℕ → List (Bool × Refusal)
-prepareChecks s t =
-    (bucketsTaken s t (neededBuckets s (txnOf s t)) || rowsClaimed s t, Taken)
-    ∷ (not (eqb (judged.verdictNumber (judged.verdict (s .chains) (s .index) (txnOf s t))) 0), Conflict)
-    ∷ (ltb (s .sizes .versions) (s .chains .used + reserved (s .sizes) (s .chains) (s .txns) mostLive + length (versionRows (s .sizes) (s .chains) (txnOf s t .writes))), NoVersions)
-    ∷ []
 
 -- no writes reserve nothing
 pub none-reserved : (rows versions xs : List ℕ) (s : ℕ) → versionsIn rows versions xs s 0 ≡ 0
@@ -163,16 +154,16 @@ module _ (w : Words) (z : Sized w) (g : Shaped w) where
   -- the tests after the phase
   prepare-place : (n : ℕ) → standing w n < mostLive → 1 ≤ txnAt w (standing w n) .number
       → SameAt w (standing w n) (inPrepared (prepareOf (w .tables .versions) (w .tables .lists) (w .sizes .buckets) (w .sizes .versions) (w .used) (othersIn (w .txns) .prepared) (txnAt w (standing w n)) (w .tables .rows) (w .tables .buckets)) (w .clock) (w .used) (w .tables))
-      (carried (view w) (asked (ask.Prepare n)) (refusal ((not (inPhase (view w) n 1), WrongPhase) ∷ prepareChecks (view w) n)))
+      (carried (view w) (asked (ask.Prepare n)) (refusal ((not (inPhase (view w) n 1), WrongPhase) ∷ prepareChecks (view w) (txnOf (view w) n))))
   unfolding prepareOf prepareWith lacks refusal
   prepare-place n l o =
       let q = standing w n in
       let t = txnAt w q in
       rw (needed-front q, taken-needs q o, claimed-rows q o, verdict-same w z g q o, clear-same (judged.verdict (view w .chains) (view w .index) (view w .txns q)), reserved-same, versions-counted w z g q o)
       (prepared-at n l o (not (eqb (rank (phaseView (t .phase))) 1)) (some-of (byAnother (view w .held .holder) (t .number)) (neededBuckets (view w) (view w .txns q))) (some-of (byAnother (view w .held .claim) (t .number)) (pendingRows (view w .sizes) (view w .txns q .writes)))
-      (not (eqb (judged.verdictNumber (judged.verdict (view w .chains) (view w .index) (view w .txns q))) 0)) (ltb (w .sizes .versions) (w .used + reserved (view w .sizes) (view w .chains) (view w .txns) mostLive + length (versionRows (view w .sizes) (view w .chains) (view w .txns q .writes)))))
+      (not (eqb (judged.verdictNumber (judged.verdict (view w .chains) (view w .index) (view w .txns q))) 0)) (ltb (w .sizes .versions) (versionsAfter (view w) (view w .txns q))))
 
   -- all that is needed is free, the verdict is clear, there are versions: all is taken
   pub prepare-same : (n : ℕ) → Same w (ask.Prepare n)
   unfolding checks
-  prepare-same n = by-place w z (ask.Prepare n) refl (inPhase (view w) n 1) (prepareChecks (view w) n) refl (λ l d e. prepare-place n l (live-at w n d e))
+  prepare-same n = by-place w z (ask.Prepare n) refl (inPhase (view w) n 1) (prepareChecks (view w) (txnOf (view w) n)) refl (λ l d e. prepare-place n l (live-at w n d e))

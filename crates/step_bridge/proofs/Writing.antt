@@ -15,7 +15,7 @@ use Rattle.base_limits.specs.Limits.{mostLive, mostWrites}
 use Rattle.base_lists.specs.Table.{update}
 use Rattle.model.specs.Store as model
 use Rattle.model.specs.Steps as does
-use Rattle.model.specs.Refusals.{Step as Asked, WrongPhase, Marked, NoRow, ManyWrites, checks, refusal, inPhase, writeChecks}
+use Rattle.model.specs.Refusals.{Step as Asked, WrongPhase, Marked, NoRow, ManyWrites, checks, refusal, inPhase, txnOf, writeChecks}
 use Rattle.model.specs.Machine.{gives, accepted, afterRefusal, carried}
 use Rattle.model.specs.Machine as machine
 use Rattle.base_protocol.specs.declared.Step.the-variants as ask
@@ -109,12 +109,12 @@ end-same w z n = by-place w z (ask.End n) refl (inPhase (view w) n 5) [] refl (�
 -- a pending write is appended
 pub put-same : (w : Words) → Sized w → (n r k payload : ℕ) → Same w (ask.Put n r k payload)
 unfolding checks accepted writeOf refusal
-put-same w z n r k payload = by-place w z (ask.Put n r k payload) refl (inPhase (view w) n 1) (writeChecks (view w) n r) refl
+put-same w z n r k payload = by-place w z (ask.Put n r k payload) refl (inPhase (view w) n 1) (writeChecks (view w) (txnOf (view w) n) r) refl
     (λ l d e. rw (writes-length (w .tables .lists) (txnAt w (standing w n)))
     (written-at w z (standing w n) l (record { row = r; keyed = 1; key = k; payload = payload }) (asked (ask.Put n r k payload)) refl (not (eqb (model.rank (phaseView (txnAt w (standing w n) .phase))) 1)) (txnAt w (standing w n) .marked) (not (ltb r (w .sizes .rows))) (leb mostWrites (txnAt w (standing w n) .«writes_n»)) refl))
 
 pub erase-same : (w : Words) → Sized w → (n r : ℕ) → Same w (ask.Erase n r)
 unfolding checks accepted writeOf refusal
-erase-same w z n r = by-place w z (ask.Erase n r) refl (inPhase (view w) n 1) (writeChecks (view w) n r) refl
+erase-same w z n r = by-place w z (ask.Erase n r) refl (inPhase (view w) n 1) (writeChecks (view w) (txnOf (view w) n) r) refl
     (λ l d e. rw (writes-length (w .tables .lists) (txnAt w (standing w n)))
     (written-at w z (standing w n) l (record { row = r; keyed = 0; key = 0; payload = 0 }) (asked (ask.Erase n r)) refl (not (eqb (model.rank (phaseView (txnAt w (standing w n) .phase))) 1)) (txnAt w (standing w n) .marked) (not (ltb r (w .sizes .rows))) (leb mostWrites (txnAt w (standing w n) .«writes_n»)) refl))
