@@ -4,6 +4,7 @@ use mathlib.Core.Bool.{Bool, cond, not, _&&_}
 use mathlib.Core.List.{List, [], _++_}
 use lib.Dec.{eqb}
 use lib.ListN.{drop, getD, set, replicate}
+use Rattle.model.specs.Refusals.{WrongSize, WrongShape, refusalNumber}
 use Rattle.model.specs.Machine.{canOpen}
 use Rattle.base_protocol.specs.declared.Step.{Step}
 use Rattle.base_protocol.specs.declared.Answer.{Answer}
@@ -74,7 +75,7 @@ wordsTurned w s = record {
 
 -- 16 where the shape is wrong, with all as found; else the step
 unfoldable pub turnOf : Words → Step → Left
-turnOf w s = cond (shapeOf w) (record { answer = turnedBy w s .stepped .answer; words = wordsTurned w s }) (record { answer = tell.Refused 16; words = w })
+turnOf w s = cond (shapeOf w) (record { answer = turnedBy w s .stepped .answer; words = wordsTurned w s }) (record { answer = tell.Refused (refusalNumber WrongShape); words = w })
 
 -- the record goes back to its place, and clock and last used pointer are taken over
 abbrev pub placedOf : Machine → ℕ → Stepped → Turned
@@ -99,6 +100,6 @@ refusedOpen why rows versions buckets lists = record { answer = tell.Refused why
 -- 1 where a size is outside its range or the clock is 0, 16 where a lent table is shorter than its size; else a fresh store
 unfoldable pub openOf : List ℕ → List ℕ → List ℕ → List ℕ → Sizes → ℕ → Left
 openOf rows versions buckets lists z clock =
-    cond (not (canOpen (sizesView z) clock)) (refusedOpen 1 rows versions buckets lists)
-    (cond (not (tablesLent rows versions buckets lists z)) (refusedOpen 16 rows versions buckets lists)
+    cond (not (canOpen (sizesView z) clock)) (refusedOpen (refusalNumber WrongSize) rows versions buckets lists)
+    (cond (not (tablesLent rows versions buckets lists z)) (refusedOpen (refusalNumber WrongShape) rows versions buckets lists)
     (record { answer = tell.Done; words = wordsOf (cleared (rowWords * z .rows) rows) (cleared (versionWords * suc (z .versions)) versions) (cleared (bucketWords * z .buckets) buckets) lists [] (freshOf z clock) }))

@@ -13,7 +13,7 @@ use lib.Seq.{set-getD}
 use borrow.Author.Tests.{eqb-true, eqb-false, ltb-false, not-false}
 use Rattle.base_limits.specs.Limits.{mostWrites, mostRecords}
 use Rattle.base_lists.proofs.ListLaws.{or-l, or-r}
-use Rattle.model.specs.Store.{rank, keyIn}
+use Rattle.model.specs.Store.{rank, phaseOpen, phaseHolding, phaseCollected, phasePrepared, phaseInstalled, phaseEnded, keyIn}
 use Rattle.model.specs.Machine.{canOpen}
 use Rattle.base_protocol.specs.declared.Step.{Step}
 use Rattle.base_protocol.specs.declared.Step.the-variants as ask
@@ -156,7 +156,7 @@ module _ (z : Sizes) (t : Transaction) (clock used : ℕ) (b : Tables) where
   capture-kept : (i k : ℕ) → i ≡ k % z .buckets → t .number ≢ 0 → KeptBy (ask.Capture (t .number) k) (inBuckets (captureAt t i k (b .buckets) (b .lists)) clock used b)
   unfolding captureAt
   capture-kept i k d l =
-      guard (wrongPhase t 1) (λ e. rw e (inl refl))
+      guard (wrongPhase t phaseOpen) (λ e. rw e (inl refl))
       (λ e. rw e (guard (t .marked) (λ m. rw m (inl refl))
       (λ m. rw m (guard (takenBy (holderOf (b .buckets) i) (t .number)) (λ e. rw e (inl refl))
       (λ e. rw e (guard (precedes (stampOf (b .buckets) i) (t .number))
@@ -165,40 +165,40 @@ module _ (z : Sizes) (t : Transaction) (clock used : ℕ) (b : Tables) where
 
   collect-kept : (o : Others) (n : ℕ) → KeptBy (ask.Collect n) (doneBy z o t clock used (ask.Collect n) b)
   unfolding collectOf
-  collect-kept o n = guard (wrongPhase t 2) (λ e. rw e (inl refl)) (λ e. rw e refl)
+  collect-kept o n = guard (wrongPhase t phaseHolding) (λ e. rw e (inl refl)) (λ e. rw e refl)
 
   write-kept : (s : Step) (w : Write) → Kept s (writeOf (z .rows) t w (b .lists) .reply .txn .number ≡ t .number) (inLists (writeOf (z .rows) t w (b .lists)) clock used b)
   unfolding writeOf
   write-kept s w =
-      guard (wrongPhase t 1) (λ e. rw e (inl refl))
+      guard (wrongPhase t phaseOpen) (λ e. rw e (inl refl))
       (λ e. rw e (guard (t .marked) (λ m. rw m (inl refl))
       (λ m. rw m (guard (not (ltb (w .row) (z .rows))) (λ e. rw e (inl refl))
       (λ e. rw e (guard (leb mostWrites (t .«writes_n»)) (λ e. rw e (inl refl)) (λ e. rw e refl)))))))
 
   install-kept : (o : Others) (n : ℕ) → KeptBy (ask.Install n) (doneBy z o t clock used (ask.Install n) b)
   unfolding installOf
-  install-kept o n = guard (wrongPhase t 4) (λ e. rw e (inl refl)) (λ e. rw e refl)
+  install-kept o n = guard (wrongPhase t phasePrepared) (λ e. rw e (inl refl)) (λ e. rw e refl)
 
   end-kept : (o : Others) (n : ℕ) → KeptBy (ask.End n) (doneBy z o t clock used (ask.End n) b)
   unfolding endOf
-  end-kept o n = guard (wrongPhase t 5) (λ e. rw e (inl refl)) (λ e. rw e refl)
+  end-kept o n = guard (wrongPhase t phaseInstalled) (λ e. rw e (inl refl)) (λ e. rw e refl)
 
   publish-kept : (o : Others) (n : ℕ) → KeptBy (ask.Publish n) (doneBy z o t clock used (ask.Publish n) b)
   unfolding publishStep publishOf
-  publish-kept o n = guard (wrongPhase t 6) (λ e. rw e (inl refl)) (λ e. rw e tt)
+  publish-kept o n = guard (wrongPhase t phaseEnded) (λ e. rw e (inl refl)) (λ e. rw e tt)
 
   abort-kept : (o : Others) (n : ℕ) → KeptBy (ask.Abort n) (doneBy z o t clock used (ask.Abort n) b)
   unfolding abortOf
-  abort-kept o n = guard (leb 5 (rank (phaseView (t .phase)))) (λ e. rw e (inl refl)) (λ e. rw e tt)
+  abort-kept o n = guard (leb phaseInstalled (rank (phaseView (t .phase)))) (λ e. rw e (inl refl)) (λ e. rw e tt)
 
   validate-kept : (o : Others) (n : ℕ) → KeptBy (ask.Validate n) (doneBy z o t clock used (ask.Validate n) b)
   unfolding validateOf
-  validate-kept o n = guard (wrongPhase t 1) (λ e. rw e (inl refl)) (λ e. rw e (guard (readsTakenIn (b .buckets) (b .lists) (t .slot) (t .«reads_n») (t .number)) (λ e. rw e (inl refl)) (λ e. rw e refl)))
+  validate-kept o n = guard (wrongPhase t phaseOpen) (λ e. rw e (inl refl)) (λ e. rw e (guard (readsTakenIn (b .buckets) (b .lists) (t .slot) (t .«reads_n») (t .number)) (λ e. rw e (inl refl)) (λ e. rw e refl)))
 
   prepare-kept : (o : Others) (n : ℕ) → KeptBy (ask.Prepare n) (doneBy z o t clock used (ask.Prepare n) b)
   unfolding prepareOf prepareWith
   prepare-kept o n =
-      guard (wrongPhase t 1) (λ e. rw e (inl refl))
+      guard (wrongPhase t phaseOpen) (λ e. rw e (inl refl))
       (λ e. rw e (guard (anyTaken (b .buckets) (t .number) (front (neededInto (b .rows) (b .versions) (b .lists) (z .buckets) (t .slot) (t .«reads_n») (t .«writes_n») (replicate mostNeeded 0)))) (λ e. rw e (inl refl))
       (λ e. rw e (guard (anyClaimed (b .rows) (t .number) (rowsWritten (b .lists) (t .slot) (t .«writes_n»))) (λ e. rw e (inl refl))
       (λ e. rw e (guard (isClear (verdictOf (b .versions) (b .buckets) (b .lists) t))
@@ -214,7 +214,7 @@ module _ (z : Sizes) (t : Transaction) (clock used : ℕ) (b : Tables) where
   unfolding rowsOf readingOf
   rows-kept o n room =
       let l = look (b .rows) (b .versions) (b .lists) used t (keyIn (phaseView (t .phase))) in
-      guard (wrongPhase t 3) (λ e. rw e (inl refl))
+      guard (wrongPhase t phaseCollected) (λ e. rw e (inl refl))
       (λ e. rw e (answer-kept (ask.Rows n room) room (matchedRows l (z .rows)) (newRecords l (knownPointers (b .lists) (t .slot) (t .«records_n»)) (matchedRows l (z .rows)))))
 
   -- the record that came in is the one that the step names

@@ -12,9 +12,9 @@ use borrow.Author.Tests.{ne-eqb}
 use Rattle.base_limits.specs.Limits.{mostLive}
 use Rattle.base_lists.specs.Table.{update}
 use Rattle.model.specs.Store as model
-use Rattle.model.specs.Store.{rank}
+use Rattle.model.specs.Store.{rank, phaseInstalled, phaseEnded}
 use Rattle.model.specs.Steps.{release, freed}
-use Rattle.model.specs.Refusals.{WrongPhase, checks, refusal, inPhase, txnOf}
+use Rattle.model.specs.Refusals.{refusalNumber, WrongPhase, checks, refusal, inPhase, txnOf}
 use Rattle.model.specs.Machine.{gives, lentAfter, accepted, afterRefusal, carried}
 use Rattle.model.specs.Machine as machine
 use Rattle.model.specs.Shape.{rightShape}
@@ -107,7 +107,7 @@ module _ (w : Words) (z : Sized w) (g : Shaped w) (n : ℕ) where
       → SameAt w (standing w n)
       (sweptMoved (w .sizes) (txnAt w (standing w n) .number)
       (inAborted
-      (cond b (record { reply = refusedOf (txnAt w (standing w n)) 5; rows = w .tables .rows; buckets = w .tables .buckets })
+      (cond b (record { reply = refusedOf (txnAt w (standing w n)) (refusalNumber WrongPhase); rows = w .tables .rows; buckets = w .tables .buckets })
       (record {
         reply = record { answer = tell.Done; txn = idleOf (txnAt w (standing w n) .slot) };
         rows = unclaimAll (w .tables .rows) (txnAt w (standing w n) .number) (rowsWritten (w .tables .lists) (txnAt w (standing w n) .slot) (txnAt w (standing w n) .«writes_n»));
@@ -116,7 +116,7 @@ module _ (w : Words) (z : Sized w) (g : Shaped w) (n : ℕ) where
       (w .clock) (w .used) (w .tables)))
       (carried (view w) (asked (ask.Abort n)) (cond b (some WrongPhase) none))
   unfolding carried accepted afterRefusal
-  aborted-at l a true = rw (number-unswept w (standing w n) (tell.Refused 5)) (refused-same w z (standing w n) WrongPhase)
+  aborted-at l a true = rw (number-unswept w (standing w n) (tell.Refused (refusalNumber WrongPhase))) (refused-same w z (standing w n) WrongPhase)
   aborted-at l a false =
       let q = standing w n in
       let v = txnAt w q .number in
@@ -127,24 +127,24 @@ module _ (w : Words) (z : Sized w) (g : Shaped w) (n : ℕ) where
 
   abort-turned : SameAs w (ask.Abort n) (turnedBy w (ask.Abort n))
   unfolding checks refusal abortOf
-  abort-turned = by-place-as w z (ask.Abort n) refl (sweptMoved (w .sizes) (asker w (ask.Abort n) .number)) (asker-unswept w z (ask.Abort n)) (ltb (rank (txnOf (view w) n .phase)) 5) [] refl
+  abort-turned = by-place-as w z (ask.Abort n) refl (sweptMoved (w .sizes) (asker w (ask.Abort n) .number)) (asker-unswept w z (ask.Abort n)) (ltb (rank (txnOf (view w) n .phase)) phaseInstalled) [] refl
       (λ l d e at.
       let q = standing w n in
-      asker-same w z (ask.Abort n) q at l _ _ (rw (freed-buckets w q z, ← late-test (rank (phaseView (txnAt w q .phase)))) (aborted-at l (live-at w n d e) (leb 5 (rank (phaseView (txnAt w q .phase)))))))
+      asker-same w z (ask.Abort n) q at l _ _ (rw (freed-buckets w q z, ← late-test (rank (phaseView (txnAt w q .phase)))) (aborted-at l (live-at w n d e) (leb phaseInstalled (rank (phaseView (txnAt w q .phase)))))))
 
   -- publish
-  published-at : standing w n < mostLive → 1 ≤ txnAt w (standing w n) .number → (b : Bool) → not (eqb (rank (phaseView (txnAt w (standing w n) .phase))) 6) ≡ b
+  published-at : standing w n < mostLive → 1 ≤ txnAt w (standing w n) .number → (b : Bool) → not (eqb (rank (phaseView (txnAt w (standing w n) .phase))) phaseEnded) ≡ b
       → SameAt w (standing w n)
       (sweptMoved (w .sizes) (txnAt w (standing w n) .number)
       (inPublished
       (publishedFrom
-      (cond b (record { reply = refusedOf (txnAt w (standing w n)) 5; rows = w .tables .rows; buckets = w .tables .buckets })
+      (cond b (record { reply = refusedOf (txnAt w (standing w n)) (refusalNumber WrongPhase); rows = w .tables .rows; buckets = w .tables .buckets })
       (record { reply = record { answer = tell.Stamp (w .clock); txn = idleOf (txnAt w (standing w n) .slot) }; rows = rowsAfter w (standing w n); buckets = bucketsAfter w (standing w n) }))
       (w .clock) (w .used))
       (w .tables)))
       (carried (view w) (asked (ask.Publish n)) (cond b (some WrongPhase) none))
   unfolding carried accepted afterRefusal
-  published-at l a true e = rw (number-unswept w (standing w n) (tell.Refused 5)) (refused-same w z (standing w n) WrongPhase)
+  published-at l a true e = rw (number-unswept w (standing w n) (tell.Refused (refusalNumber WrongPhase))) (refused-same w z (standing w n) WrongPhase)
   published-at l a false e =
       let q = standing w n in
       swept-at w z q l a _ _ (tell.Stamp (w .clock)) (machine.Stamp (w .clock)) (oneMore (w .clock)) (suc (w .clock)) _ _ _ (one-up (w .clock) (clock-below w g q l a)) (publish-chains w z q) (publish-index w z g q a)
@@ -152,10 +152,10 @@ module _ (w : Words) (z : Sized w) (g : Shaped w) (n : ℕ) where
 
   publish-turned : SameAs w (ask.Publish n) (turnedBy w (ask.Publish n))
   unfolding checks refusal publishStep publishOf
-  publish-turned = by-place-as w z (ask.Publish n) refl (sweptMoved (w .sizes) (asker w (ask.Publish n) .number)) (asker-unswept w z (ask.Publish n)) (inPhase (view w) n 6) [] refl
+  publish-turned = by-place-as w z (ask.Publish n) refl (sweptMoved (w .sizes) (asker w (ask.Publish n) .number)) (asker-unswept w z (ask.Publish n)) (inPhase (view w) n phaseEnded) [] refl
       (λ l d e at.
       let q = standing w n in
-      asker-same w z (ask.Publish n) q at l _ _ (rw (stamped-is w z q, freed-is w z q (stamped w q)) (published-at l (live-at w n d e) (not (eqb (rank (phaseView (txnAt w q .phase))) 6)) refl)))
+      asker-same w z (ask.Publish n) q at l _ _ (rw (stamped-is w z q, freed-is w z q (stamped w q)) (published-at l (live-at w n d e) (not (eqb (rank (phaseView (txnAt w q .phase))) phaseEnded)) refl)))
 
 -- a step that ends no record is not swept
 turned-same : (w : Words) (s : Step) → ends s ≡ false → Same w s → SameAs w s (turnedBy w s)

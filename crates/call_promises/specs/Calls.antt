@@ -5,7 +5,7 @@ use mathlib.Core.Bool.{true, false, _&&_}
 use mathlib.Core.List.{List, [], _∷_, map}
 use lib.ListN.{length}
 use Rattle.base_limits.specs.Limits.{mostLive, mostActive}
-use Rattle.model.specs.Refusals.{Step as Asked}
+use Rattle.model.specs.Refusals.{WrongShape, refusalNumber, Step as Asked}
 use Rattle.model.specs.Shape.{rightShape}
 use Rattle.model.specs.Machine.{lentAfter, step}
 use Rattle.base_protocol.specs.declared.Step.{Step}
@@ -76,7 +76,7 @@ pub record CalledAs (w : Words) (c : Call) : Type 0 where
 -- a call on any words: the model's step where the tables and the records fit; 16, and all words as found, where the shape is wrong
 pub record AnyCall (w : Words) (c : Call) : Type 0 where
   pub fitting : tablesFit w ≡ true → CalledAs w c
-  pub wrong : shapeOf w ≡ false → called w c ≡ record { answer = tell.Refused 16; words = lending w (c .lent) }
+  pub wrong : shapeOf w ≡ false → called w c ≡ record { answer = tell.Refused (refusalNumber WrongShape); words = lending w (c .lent) }
   -- the shape is the model's, with what only the words can get wrong
   pub shape : shapeOf w ≡ (tablesFit w && rightShape (view w))
   pub typed : Typed (called w c .words)

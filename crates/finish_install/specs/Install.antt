@@ -6,7 +6,8 @@ use lib.Dec.{eqb, ltb}
 use lib.ListN.{take, replicate}
 use Rattle.base_limits.specs.Limits.{mostBuckets, mostWrites, lastNumber}
 use Rattle.base_lists.specs.Lists.{join}
-use Rattle.model.specs.Store.{rank}
+use Rattle.model.specs.Store.{rank, phasePrepared}
+use Rattle.model.specs.Refusals.{WrongPhase, refusalNumber}
 use Rattle.base_protocol.specs.declared.Answer.the-variants as tell
 use Rattle.table.specs.Fields.{headOf, setHead, setXmin, setXmax, setNext, setKeyed, setKey, setPayload}
 use Rattle.table.specs.Lists.{writeAt}
@@ -100,6 +101,6 @@ installed t c = record { reply = record { answer = tell.Done; txn = withPhase t 
 -- wrong phase; else each of those rows gets its version
 unfoldable pub installOf : List ℕ → Transaction → Chains → Left
 installOf lists t c =
-    cond (not (eqb (rank (phaseView (t .phase))) 4))
-    (record { reply = record { answer = tell.Refused 5; txn = t; used = c .used }; rows = c .rows; versions = c .versions })
+    cond (not (eqb (rank (phaseView (t .phase))) phasePrepared))
+    (record { reply = record { answer = tell.Refused (refusalNumber WrongPhase); txn = t; used = c .used }; rows = c .rows; versions = c .versions })
     (installed t (pushedRows lists (t .slot) (t .«writes_n») (t .number) c (front (toInstall lists t c))))

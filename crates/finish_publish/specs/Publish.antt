@@ -4,7 +4,8 @@ use mathlib.Core.Bool.{Bool, true, false, cond, not}
 use mathlib.Core.List.{List, [], _∷_, _++_}
 use lib.Dec.{eqb, leb}
 use Rattle.base_limits.specs.Limits.{mostIndexReads, mostWrites}
-use Rattle.model.specs.Store.{rank, bucketIn}
+use Rattle.model.specs.Store.{rank, phaseInstalled, phaseEnded, bucketIn}
+use Rattle.model.specs.Refusals.{WrongPhase, refusalNumber}
 use Rattle.base_protocol.specs.declared.Answer.the-variants as tell
 use Rattle.table.specs.Fields.{setPosted, setPostedKey}
 use Rattle.txn.specs.View.{phaseView}
@@ -18,7 +19,7 @@ use Rattle.txn_needs.specs.Holders.{freeAll, stampAll, unclaimAll}
 
 -- end: wrong phase; else Ended
 unfoldable pub endOf : Transaction → Answered
-endOf t = cond (not (eqb (rank (phaseView (t .phase))) 5)) (refusedOf t 5) (record { answer = tell.Done; txn = withPhase t phase.Ended })
+endOf t = cond (not (eqb (rank (phaseView (t .phase))) phaseInstalled)) (refusedOf t (refusalNumber WrongPhase)) (record { answer = tell.Done; txn = withPhase t phase.Ended })
 
 -- the posting of one row, and of every pending one, follows its new key
 unfoldable pub postedOne : List ℕ → ℕ → ℕ → List ℕ → ℕ → List ℕ
@@ -52,7 +53,7 @@ pub record Left : Type 0 where
 -- publish: wrong phase; else changed buckets are stamped, buckets freed, postings moved, claims freed, and the record ends
 unfoldable pub publishOf : List ℕ → List ℕ → ℕ → ℕ → Transaction → List ℕ → List ℕ → Left
 publishOf versions lists count clock t rows buckets =
-    cond (not (eqb (rank (phaseView (t .phase))) 6)) (record { reply = refusedOf t 5; rows = rows; buckets = buckets })
+    cond (not (eqb (rank (phaseView (t .phase))) phaseEnded)) (record { reply = refusedOf t (refusalNumber WrongPhase); rows = rows; buckets = buckets })
     (record {
       reply = record { answer = tell.Stamp clock; txn = idleOf (t .slot) };
       rows = unclaimAll (postedAll lists (t .slot) (t .«writes_n») rows (rowsWritten lists (t .slot) (t .«writes_n»))) (t .number) (rowsWritten lists (t .slot) (t .«writes_n»));
@@ -62,7 +63,7 @@ publishOf versions lists count clock t rows buckets =
 -- abort: wrong phase; else buckets and claims are freed, and the record ends
 unfoldable pub abortOf : List ℕ → List ℕ → ℕ → Transaction → List ℕ → List ℕ → Left
 abortOf versions lists count t rows buckets =
-    cond (leb 5 (rank (phaseView (t .phase)))) (record { reply = refusedOf t 5; rows = rows; buckets = buckets })
+    cond (leb phaseInstalled (rank (phaseView (t .phase)))) (record { reply = refusedOf t (refusalNumber WrongPhase); rows = rows; buckets = buckets })
     (record {
       reply = record { answer = tell.Done; txn = idleOf (t .slot) };
       rows = unclaimAll rows (t .number) (rowsWritten lists (t .slot) (t .«writes_n»));

@@ -9,7 +9,7 @@ use Rattle.base_limits.specs.Limits.{lastNumber}
 use Rattle.base_lists.specs.Lists.{member, join, Among}
 use Rattle.base_lists.specs.Table.{update, updateAll, update-elim}
 use Rattle.base_lists.proofs.ListLaws.{pick-among}
-use Rattle.model.specs.Store.{Sizes, Chains, Prepared, Installed, Ended, Txn, Store, noTxn, fresh, rank}
+use Rattle.model.specs.Store.{Sizes, Chains, Prepared, Installed, Ended, Txn, Store, noTxn, fresh, rank, phaseOpen, phasePrepared, phaseInstalled}
 use Rattle.model.specs.Seeing.{keyAt}
 use Rattle.model.specs.Steps.{newTxn, withPhase, pendingRows, oldKey, versionRows, madeRows, prepared, pushAll, installed, changedBuckets}
 use Rattle.model.specs.Refusals.{Step, prepare, install, publish, txnOf}
@@ -59,10 +59,10 @@ module _ (x : Txn) (rs : List ℕ) (c₁ c c′ : Chains) (gr : Grown x rs c c�
 -- what stays of a prepare by x₁ that saw the versions c₁; x is the transaction now, and c the versions
 record Keeps (c₁ : Chains) (x₁ : Txn) (z : Sizes) (c : Chains) (x : Txn) : Type 0 where
   writes-are : x .writes ≡ x₁ .writes
-  late : 4 ≤ rank (x .phase)
-  waits : rank (x .phase) ≡ 4 → (r : ℕ) → Writes z x₁ r → SameHead c₁ c r
-  over : 5 ≤ rank (x .phase) → (r : ℕ) → Gets z c₁ x₁ r → OverHead c₁ (x₁ .number) c r
-  stays : 5 ≤ rank (x .phase) → (r : ℕ) → Writes z x₁ r → (Gets z c₁ x₁ r → ⊥) → SameHead c₁ c r
+  late : phasePrepared ≤ rank (x .phase)
+  waits : rank (x .phase) ≡ phasePrepared → (r : ℕ) → Writes z x₁ r → SameHead c₁ c r
+  over : phaseInstalled ≤ rank (x .phase) → (r : ℕ) → Gets z c₁ x₁ r → OverHead c₁ (x₁ .number) c r
+  stays : phaseInstalled ≤ rank (x .phase) → (r : ℕ) → Writes z x₁ r → (Gets z c₁ x₁ r → ⊥) → SameHead c₁ c r
 
 -- of the transaction of that number, as long as it lives; no other gets its number
 record KeepsAt (c₁ : Chains) (x₁ : Txn) (s : Store) : Type 0 where
@@ -72,11 +72,11 @@ record KeepsAt (c₁ : Chains) (x₁ : Txn) (s : Store) : Type 0 where
 
 module _ (c₁ : Chains) (x₁ : Txn) where
   -- the rows that get a version are those that prepare saw
-  gets-as-seen : (z : Sizes) (c : Chains) (x : Txn) → Keeps c₁ x₁ z c x → rank (x .phase) ≡ 4 → versionRows z c (x .writes) ≡ versionRows z c₁ (x₁ .writes)
+  gets-as-seen : (z : Sizes) (c : Chains) (x : Txn) → Keeps c₁ x₁ z c x → rank (x .phase) ≡ phasePrepared → versionRows z c (x .writes) ≡ versionRows z c₁ (x₁ .writes)
   gets-as-seen z c x k a = ap (versionRows z c) (k .writes-are) ∙ versionRows-same z c₁ c x₁ (λ r w. k .waits a r w .key-is)
 
   -- and those that got one
-  made-as-seen : (z : Sizes) (c : Chains) (x : Txn) → Keeps c₁ x₁ z c x → ((r : ℕ) → 1 ≤ c₁ .head r → c₁ .xmin (c₁ .head r) ≢ x₁ .number) → 5 ≤ rank (x .phase) → madeRows z c (x₁ .number) (x₁ .writes) ≡ versionRows z c₁ (x₁ .writes)
+  made-as-seen : (z : Sizes) (c : Chains) (x : Txn) → Keeps c₁ x₁ z c x → ((r : ℕ) → 1 ≤ c₁ .head r → c₁ .xmin (c₁ .head r) ≢ x₁ .number) → phaseInstalled ≤ rank (x .phase) → madeRows z c (x₁ .number) (x₁ .writes) ≡ versionRows z c₁ (x₁ .writes)
   unfolding madeRows versionRows
   made-as-seen z c x k none-own a = pick-among _ _ 0 (z .rows) forth back
     where
@@ -94,15 +94,15 @@ module _ (c₁ : Chains) (x₁ : Txn) where
   keeps-other s i x w e j = update-elim (λ y. y .number ≡ x₁ .number → Keeps c₁ x₁ (s .sizes) (s .chains) y) (s .txns) i x j (λ d p. absurd (e p)) (λ d p. w .here j p)
 
   -- one goes on that is not yet Prepared, so it is another
-  keeps-early : (s : Store) (i : ℕ) (x : Txn) → KeepsAt c₁ x₁ s → x .number ≡ s .txns i .number → rank (s .txns i .phase) < 4 → (j : ℕ) → update (s .txns) i x j .number ≡ x₁ .number → Keeps c₁ x₁ (s .sizes) (s .chains) (update (s .txns) i x j)
+  keeps-early : (s : Store) (i : ℕ) (x : Txn) → KeepsAt c₁ x₁ s → x .number ≡ s .txns i .number → rank (s .txns i .phase) < phasePrepared → (j : ℕ) → update (s .txns) i x j .number ≡ x₁ .number → Keeps c₁ x₁ (s .sizes) (s .chains) (update (s .txns) i x j)
   keeps-early s i x w e a = keeps-other s i x w (λ p. omega (arith, w .here i (sym e ∙ p) .late))
 
-  keeps-end : (s : Store) (i : ℕ) → KeepsAt c₁ x₁ s → rank (s .txns i .phase) ≡ 5 → let x = withPhase (s .txns i) Ended in (j : ℕ) → update (s .txns) i x j .number ≡ x₁ .number → Keeps c₁ x₁ (s .sizes) (s .chains) (update (s .txns) i x j)
+  keeps-end : (s : Store) (i : ℕ) → KeepsAt c₁ x₁ s → rank (s .txns i .phase) ≡ phaseInstalled → let x = withPhase (s .txns i) Ended in (j : ℕ) → update (s .txns) i x j .number ≡ x₁ .number → Keeps c₁ x₁ (s .sizes) (s .chains) (update (s .txns) i x j)
   keeps-end s i w a j = update-elim (λ y. y .number ≡ x₁ .number → Keeps c₁ x₁ (s .sizes) (s .chains) y) (s .txns) i (withPhase (s .txns i) Ended) j
       (λ d p. let k = w .here i p in record { writes-are = k .writes-are; late = omega arith; waits = λ b. absurd (omega arith); over = λ b. k .over (omega arith); stays = λ b. k .stays (omega arith) })
       (λ d p. w .here j p)
 
-  module _ (s : Store) (i : ℕ) (g : Good s) (a : rank (s .txns i .phase) ≡ 4) where
+  module _ (s : Store) (i : ℕ) (g : Good s) (a : rank (s .txns i .phase) ≡ phasePrepared) where
     gr : Grown (s .txns i) (versionRows (s .sizes) (s .chains) (s .txns i .writes)) (s .chains) (installed s i .chains)
     gr = installs s i (g .chained)
 
@@ -162,7 +162,7 @@ module _ (c₁ : Chains) (x₁ : Txn) where
   keeps-run : (s : Store) → Good s → KeepsAt c₁ x₁ s → (more : List Step) → KeepsAt c₁ x₁ (run s more)
   keeps-run s g w more = run-inv (λ v. Good v × KeepsAt c₁ x₁ v) (λ v v′ i p m. (good-move v v′ (p .0) m, keeps-move v v′ (p .0) (p .1) m)) s more (g, w) .1
 
-module _ (s₁ : Store) (t : ℕ) (g : Good s₁) (l : Lives s₁ t) (a : rank (txnOf s₁ t .phase) ≡ 1) where
+module _ (s₁ : Store) (t : ℕ) (g : Good s₁) (l : Lives s₁ t) (a : rank (txnOf s₁ t .phase) ≡ phaseOpen) where
   numbered : txnOf s₁ t .number ≡ t
   numbered = lives-number s₁ t l
 

@@ -8,7 +8,7 @@ use Prim.Native.Nat.{ℕ, _≤_, _<_}
 use native.Mathlib.Omega.{arith}
 use Rattle.base_lists.specs.Lists.{Among}
 use Rattle.base_lists.proofs.ListLaws.{among-cases, join-which, which-pick}
-use Rattle.model.specs.Store.{Chains, Snapshot, Holding, Store, rank, sameKey, bucketOf}
+use Rattle.model.specs.Store.{Chains, Snapshot, Holding, Store, rank, phaseInstalled, sameKey, bucketOf}
 use Rattle.model.specs.Seeing.{seen, versionOf, keyAt, Live}
 use Rattle.model.specs.Steps.{postedRows, keyBefore, newKey, keyBuckets, changedBuckets, madeRows}
 use Rattle.model.specs.Holding.{Wants, needs, Made}
@@ -59,7 +59,7 @@ module _ (s : Store) (n : Numbers (s .clock) (s .txns)) (h : HoldersAt s) (w : W
             carries,
       )
 
-  pub untold : ToldAt s → (i k : ℕ) → Live (s .txns i) → rank (s .txns i .phase) < 5 → s .index .stamp (bucketOf (s .sizes) k) < s .txns i .number
+  pub untold : ToldAt s → (i k : ℕ) → Live (s .txns i) → rank (s .txns i .phase) < phaseInstalled → s .index .stamp (bucketOf (s .sizes) k) < s .txns i .number
       → (s .held .holder (bucketOf (s .sizes) k) ≡ 0) ⊎ (s .held .holder (bucketOf (s .sizes) k) ≡ s .txns i .number) → NoTurn (s .chains) (s .txns i .snapshot) k
   untold told i k l a below whose q turn carries unseen = ⊎-elim (λ o. maker (o .0) (o .1) (o .2) whose) (λ t. omega (arith, t k carries)) (told q i turn l unseen)
     where
@@ -81,7 +81,7 @@ module _ (s : Store) (n : Numbers (s .clock) (s .txns)) (h : HoldersAt s) (w : W
       head-key : keyAt (s .chains) (s .chains .head r) ≡ some k
       head-key = key-up (s .chains) (s .txns i .snapshot) k (untold told i k l (omega (arith, ap rank ph)) below (inr mine)) (s .chains .head r) _ (version-finds (s .chains) (s .txns i .snapshot) ch r) e
 
-      posted : (s .index .posted r ≡ keyAt (s .chains) (s .chains .head r)) ⊎ ((j : ℕ) × Live (s .txns j) × (5 ≤ rank (s .txns j .phase)) × Made (s .sizes) (s .chains) (s .txns j) r) → s .index .posted r ≡ some k
+      posted : (s .index .posted r ≡ keyAt (s .chains) (s .chains .head r)) ⊎ ((j : ℕ) × Live (s .txns j) × (phaseInstalled ≤ rank (s .txns j .phase)) × Made (s .sizes) (s .chains) (s .txns j) r) → s .index .posted r ≡ some k
       posted (inl f) = f ∙ head-key
       posted (inr o) =
           let v = needs-new (s .sizes) (s .index .posted) (s .txns (o .0)) r k (made-writes (s .sizes) (s .chains) (s .txns (o .0)) r (o .3)) (sym (w .mine (o .0) r (o .1) (o .2) (o .3) .key-is) ∙ head-key) in
@@ -95,7 +95,7 @@ module _ (s : Store) (n : Numbers (s .clock) (s .txns)) (h : HoldersAt s) (w : W
   key-which (some k) b (inl e) = (k, refl, e)
   key-which (some k) b (inr m) = absurd m
 
-  pub changed-wants : (i b : ℕ) → Live (s .txns i) → 5 ≤ rank (s .txns i .phase) → Among b (changedBuckets s (s .txns i)) → Wants (s .sizes) (s .index .posted) (s .txns i) b
+  pub changed-wants : (i b : ℕ) → Live (s .txns i) → phaseInstalled ≤ rank (s .txns i .phase) → Among b (changedBuckets s (s .txns i)) → Wants (s .sizes) (s .index .posted) (s .txns i) b
   unfolding changedBuckets
   changed-wants i b l a m =
       let o = join-which (λ q. cond (sameKey (keyBefore (s .chains) q) (newKey (s .txns i) q)) [] (keyBuckets (s .sizes) (keyBefore (s .chains) q) ++ keyBuckets (s .sizes) (newKey (s .txns i) q))) (madeRows (s .sizes) (s .chains) (s .txns i .number) (s .txns i .writes)) b m in

@@ -14,7 +14,7 @@ use Rattle.base_limits.specs.Limits.{mostRows, mostVersions, mostBuckets, mostL
 use Rattle.base_lists.specs.Lists.{first, every, all-of}
 use Rattle.base_lists.specs.Table.{cond-elim}
 use Rattle.base_lists.proofs.ListLaws.{and-l, and-r, or-cases, is-false, or-r}
-use Rattle.model.specs.Store.{Sizes, Store, rank}
+use Rattle.model.specs.Store.{Sizes, Store, rank, phaseInstalled}
 use Rattle.model.specs.Steps.{hasRead, pendingRows}
 use Rattle.model.specs.Refusals.{Refusal, WrongSize, NoNumbers, Full, NoSuch, WrongPhase, NoRow, Taken, Stale, Marked, ManyReads, NoRoom, ManyRecords, ManyWrites, NoVersions, Conflict, Malformed, WrongShape, refusalNumber, Step, begin, capture, collect, rows, put, erase, prepare, install, end, publish, validate, abort, placeOf, txnOf, byAnother, found, bucketsTaken, rowsClaimed, checks, refusal}
 use Rattle.model.specs.Shape.{within, goodSizes, distinctNumbers, rightShape}
@@ -188,8 +188,8 @@ past n s a phase more d p later =
 pub in-phase : (s : Store) (t n : ℕ) → Test (eqb (rank (txnOf s t .phase)) n) (rank (txnOf s t .phase) ≡ n) (rank (txnOf s t .phase) ≢ n)
 in-phase s t n = equal (rank (txnOf s t .phase)) n
 
-pub early : (s : Store) (t : ℕ) → Test (ltb (rank (txnOf s t .phase)) 5) (rank (txnOf s t .phase) < 5) (rank (txnOf s t .phase) < 5 → ⊥)
-early s t = let e = less (rank (txnOf s t .phase)) 5 in record { holds = e .holds; fails = λ f l. omega (arith, e .fails f); if-yes = e .if-yes; if-no = λ h. is-false _ (λ f. h (e .holds f)) }
+pub early : (s : Store) (t : ℕ) → Test (ltb (rank (txnOf s t .phase)) phaseInstalled) (rank (txnOf s t .phase) < phaseInstalled) (rank (txnOf s t .phase) < phaseInstalled → ⊥)
+early s t = let e = less (rank (txnOf s t .phase)) phaseInstalled in record { holds = e .holds; fails = λ f l. omega (arith, e .fails f); if-yes = e .if-yes; if-no = λ h. is-false _ (λ f. h (e .holds f)) }
 
 -- held, or claimed, by another than the one who acts
 pub another : (f : ℕ → ℕ) (n t j : ℕ) → n ≡ t → Test (byAnother f n j) (ByAnother f t j) (Free f t j)

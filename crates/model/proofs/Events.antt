@@ -13,7 +13,7 @@ use Rattle.base_limits.specs.Limits.{lastNumber}
 use Rattle.base_lists.specs.Lists.{member, join, Among, Rising}
 use Rattle.base_lists.specs.Table.{update, updateAll, update-same, update-other}
 use Rattle.base_lists.proofs.ListLaws.{and-l, and-r, and-both, same-test, member-among, among-member, pick-which, which-pick, rising-above, pick-rising}
-use Rattle.model.specs.Store.{Sizes, Txn, Store, fresh, rank, sameKey}
+use Rattle.model.specs.Store.{Sizes, Txn, Store, fresh, rank, phaseEnded, sameKey}
 use Rattle.model.specs.Steps.{postedRows, pendingRows, keyBefore, newKey, keyBuckets, repost, changedBuckets, published, madeRows}
 use Rattle.model.specs.Refusals.{Step, begin, capture, collect, rows, put, erase, prepare, install, end, publish, validate, abort, txnOf}
 use Rattle.model.specs.Machine.{at, accepted, step, run, canOpen}
@@ -154,7 +154,7 @@ unfolding run
 sizes-kept s a = sizes-run s (a ∷ [])
 
 -- a publish that is accepted
-module _ (s : Store) (i : ℕ) (es : List Event) (g : Good s) (l : Live (s .txns i)) (a : rank (s .txns i .phase) ≡ 6) (h : Recorded s es) where
+module _ (s : Store) (i : ℕ) (es : List Event) (g : Good s) (l : Live (s .txns i)) (a : rank (s .txns i .phase) ≡ phaseEnded) (h : Recorded s es) where
   abbrev rs : List ℕ
   rs = madeRows (s .sizes) (s .chains) (s .txns i .number) (s .txns i .writes)
 

@@ -9,7 +9,7 @@ use native.Mathlib.Omega.{arith}
 use lib.ListN.{length}
 use Rattle.base_limits.specs.Limits.{mostRows, mostLive, mostRecords, mostWrites, lastNumber}
 use Rattle.base_lists.specs.Lists.{all-of}
-use Rattle.model.specs.Store.{Sizes, Store}
+use Rattle.model.specs.Store.{Sizes, Store, phaseOpen, phaseHolding, phaseCollected, phasePrepared, phaseInstalled, phaseEnded}
 use Rattle.model.specs.Steps.{foundRows, recordsAfter, readBuckets, neededBuckets}
 use Rattle.model.specs.Refusals.{Refusal, Stale, WrongShape, NoSuch, WrongPhase, NoRow, Marked, ManyWrites, refusalNumber, Step, begin, capture, collect, rows, put, erase, prepare, install, end, publish, validate, abort, txnOf, liveCount, versionsAfter, found, writeChecks, checks, refusal}
 use Rattle.model.specs.Shape.{rightShape}
@@ -45,19 +45,19 @@ module _ (n : ℕ) where
 pub given-exactly : (s : Store) (a : Step) (n : ℕ) → number s a ≡ n ↔ Given s a n
 unfolding checks
 given-exactly s begin n = rw (number-is s begin) (line n _ _ _ (shape-test s) (λ sh. line n _ _ _ (at-most mostLive (liveCount (s .txns))) (λ few. line n _ _ _ (less lastNumber (s .clock + liveCount (s .txns) + 2)) (λ left. no-line n))))
-given-exactly s (capture t k) n = rw (number-is s (capture t k)) (named-lines n s (capture t k) _ _ (in-phase s t 1) (λ l.
+given-exactly s (capture t k) n = rw (number-is s (capture t k)) (named-lines n s (capture t k) _ _ (in-phase s t phaseOpen) (λ l.
     line n _ _ _ (itself (txnOf s t .marked)) (λ m. line n _ _ _ (another (s .held .holder) (txnOf s t .number) t (bucketFor s k) (lives-number s t l)) (λ f. line n _ _ _ (stale-test s t k l) (λ d. line n _ _ _ (read-test s t k) (λ o. no-line n))))))
-given-exactly s (collect t) n = rw (number-is s (collect t)) (named-lines n s (collect t) _ _ (in-phase s t 2) (λ l. no-line n))
-given-exactly s (rows t room) n = rw (number-is s (rows t room)) (named-lines n s (rows t room) _ _ (in-phase s t 3) (λ l.
+given-exactly s (collect t) n = rw (number-is s (collect t)) (named-lines n s (collect t) _ _ (in-phase s t phaseHolding) (λ l. no-line n))
+given-exactly s (rows t room) n = rw (number-is s (rows t room)) (named-lines n s (rows t room) _ _ (in-phase s t phaseCollected) (λ l.
     line n _ _ _ (less (min room mostRows) (length (foundRows s (txnOf s t)))) (λ f. line n _ _ _ (less mostRecords (length (recordsAfter s (txnOf s t)))) (λ o. no-line n))))
-given-exactly s (put t r k payload) n = rw (number-is s (put t r k payload)) (named-lines n s (put t r k payload) _ _ (in-phase s t 1) (λ l. write-lines n s t r))
-given-exactly s (erase t r) n = rw (number-is s (erase t r)) (named-lines n s (erase t r) _ _ (in-phase s t 1) (λ l. write-lines n s t r))
-given-exactly s (prepare t) n = rw (number-is s (prepare t)) (named-lines n s (prepare t) _ _ (in-phase s t 1) (λ l.
+given-exactly s (put t r k payload) n = rw (number-is s (put t r k payload)) (named-lines n s (put t r k payload) _ _ (in-phase s t phaseOpen) (λ l. write-lines n s t r))
+given-exactly s (erase t r) n = rw (number-is s (erase t r)) (named-lines n s (erase t r) _ _ (in-phase s t phaseOpen) (λ l. write-lines n s t r))
+given-exactly s (prepare t) n = rw (number-is s (prepare t)) (named-lines n s (prepare t) _ _ (in-phase s t phaseOpen) (λ l.
     line n _ _ _ (either (bucket-taken s t (neededBuckets s (txnOf s t)) l) (row-taken s t l)) (λ f. line n _ _ _ (opposite (equal (verdictOf s t) 0)) (λ v. line n _ _ _ (less (s .sizes .versions) (versionsAfter s (txnOf s t))) (λ o. no-line n)))))
-given-exactly s (install t) n = rw (number-is s (install t)) (named-lines n s (install t) _ _ (in-phase s t 4) (λ l. no-line n))
-given-exactly s (end t) n = rw (number-is s (end t)) (named-lines n s (end t) _ _ (in-phase s t 5) (λ l. no-line n))
-given-exactly s (publish t) n = rw (number-is s (publish t)) (named-lines n s (publish t) _ _ (in-phase s t 6) (λ l. no-line n))
-given-exactly s (validate t) n = rw (number-is s (validate t)) (named-lines n s (validate t) _ _ (in-phase s t 1) (λ l. line n _ _ _ (bucket-taken s t (readBuckets (txnOf s t)) l) (λ f. no-line n)))
+given-exactly s (install t) n = rw (number-is s (install t)) (named-lines n s (install t) _ _ (in-phase s t phasePrepared) (λ l. no-line n))
+given-exactly s (end t) n = rw (number-is s (end t)) (named-lines n s (end t) _ _ (in-phase s t phaseInstalled) (λ l. no-line n))
+given-exactly s (publish t) n = rw (number-is s (publish t)) (named-lines n s (publish t) _ _ (in-phase s t phaseEnded) (λ l. no-line n))
+given-exactly s (validate t) n = rw (number-is s (validate t)) (named-lines n s (validate t) _ _ (in-phase s t phaseOpen) (λ l. line n _ _ _ (bucket-taken s t (readBuckets (txnOf s t)) l) (λ f. no-line n)))
 given-exactly s (abort t) n = rw (number-is s (abort t)) (named-lines n s (abort t) _ _ (early s t) (λ l. no-line n))
 
 -- and so does open, which has one line

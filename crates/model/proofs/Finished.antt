@@ -12,7 +12,7 @@ use Rattle.base_limits.specs.Limits.{mostLive, mostRecords}
 use Rattle.base_lists.specs.Lists.{member, pick, first, Among, Rising}
 use Rattle.base_lists.specs.Table.{update-same, update-field}
 use Rattle.base_lists.proofs.ListLaws.{and-r, or-left, or-right, same-test, among-member, pick-rising, pick-same}
-use Rattle.model.specs.Store.{Chains, Snapshot, ReadRecord, Txn, Store, rank, keyIn}
+use Rattle.model.specs.Store.{Chains, Snapshot, ReadRecord, Txn, Store, rank, phaseCollected, keyIn}
 use Rattle.model.specs.Seeing.{versionOf, pending, matches, recordOf, Live}
 use Rattle.model.specs.Steps.{foundRows, recordsAfter, readTxn, readDone}
 use Rattle.model.specs.Refusals.{rows, placeOf, txnOf, checks}
@@ -42,7 +42,7 @@ one-row c v g q r e z = chains-apart c g q r (versionOf c v r)
     (rw e at (finds-chain c v q (c .head q) (versionOf c v q) (version-finds c v g q) (heads refl) (λ f. z (sym e ∙ f))))
     (finds-chain c v r (c .head r) (versionOf c v r) (version-finds c v g r) (heads refl) z) z
 
-module _ (s : Store) (g : Good s) (i : ℕ) (l : Live (s .txns i)) (a : rank (s .txns i .phase) ≡ 3) where
+module _ (s : Store) (g : Good s) (i : ℕ) (l : Live (s .txns i)) (a : rank (s .txns i .phase) ≡ phaseCollected) where
   -- the transaction, and its key
   abbrev x : Txn
   x = s .txns i
@@ -72,7 +72,7 @@ module _ (s : Store) (g : Good s) (i : ℕ) (l : Live (s .txns i)) (a : rank (s 
 pub record RowsDone (s : Store) (t room : ℕ) (rs : List ℕ) : Type 0 where
   pub alive : Live (txnOf s t)
   pub number-is : txnOf s t .number ≡ t
-  pub collected : rank (txnOf s t .phase) ≡ 3
+  pub collected : rank (txnOf s t .phase) ≡ phaseCollected
   pub few : length (recordsAfter s (txnOf s t)) ≤ mostRecords
   pub answer-is : rs ≡ foundRows s (txnOf s t)
   pub store-is : step s (rows t room) .store ≡ readDone s (at s t)

@@ -9,7 +9,7 @@ use native.Mathlib.Omega.{arith}
 use Rattle.base_lists.specs.Lists.{member, Among}
 use Rattle.base_lists.specs.Table.{update, update-elim, cond-elim}
 use Rattle.base_lists.proofs.ListLaws.{among-left, among-right, none-each, which-join, join-same, member-among, among-member}
-use Rattle.model.specs.Store.{Sizes, Held, Phase, Prepared, Installed, Ended, Txn, Store, noTxn, fresh, rank, bucketIn, keyIn, bucketOf}
+use Rattle.model.specs.Store.{Sizes, Held, Phase, Prepared, Installed, Ended, Txn, Store, noTxn, fresh, rank, phaseOpen, phaseHolding, phasePrepared, phaseEnded, bucketIn, keyIn, bucketOf}
 use Rattle.model.specs.Seeing.{Live}
 use Rattle.model.specs.Steps.{withPhase, capturedTxn, captured, collectedTxn, collected, pendingRows, oldKey, newKey, keyBuckets, readBuckets, neededBuckets, prepared, repost, freed, published}
 use Rattle.model.specs.Holding.{Writes, needs, Wants, Claims}
@@ -26,19 +26,19 @@ pub record Holders (z : Sizes) (h : Held) (posted : ℕ → Option ℕ) (t : ℕ
 abbrev pub HoldersAt : Store → Type 0
 HoldersAt s = Holders (s .sizes) (s .held) (s .index .posted) (s .txns)
 
-pub wants-busy : (z : Sizes) (posted : ℕ → Option ℕ) (y : Txn) (b : ℕ) → Wants z posted y b → 2 ≤ rank (y .phase)
+pub wants-busy : (z : Sizes) (posted : ℕ → Option ℕ) (y : Txn) (b : ℕ) → Wants z posted y b → phaseHolding ≤ rank (y .phase)
 wants-busy z posted y b (inl w) = omega (arith, ap rank (w .1))
 wants-busy z posted y b (inr w) = omega (arith, w .0)
 
-pub claims-busy : (z : Sizes) (y : Txn) (r : ℕ) → Claims z y r → 2 ≤ rank (y .phase)
+pub claims-busy : (z : Sizes) (y : Txn) (r : ℕ) → Claims z y r → phaseHolding ≤ rank (y .phase)
 claims-busy z y r w = omega (arith, w .0)
 
 -- who is neither Holding nor past prepare wants nothing
-wants-none : (z : Sizes) (posted : ℕ → Option ℕ) (y : Txn) → rank (y .phase) ≢ 2 → rank (y .phase) < 4 → (b : ℕ) → Wants z posted y b → ⊥
+wants-none : (z : Sizes) (posted : ℕ → Option ℕ) (y : Txn) → rank (y .phase) ≢ phaseHolding → rank (y .phase) < phasePrepared → (b : ℕ) → Wants z posted y b → ⊥
 wants-none z posted y d l b (inl w) = d (ap rank (w .1))
 wants-none z posted y d l b (inr w) = omega (arith, w .0)
 
-claims-none : (z : Sizes) (y : Txn) → rank (y .phase) < 4 → (r : ℕ) → Claims z y r → ⊥
+claims-none : (z : Sizes) (y : Txn) → rank (y .phase) < phasePrepared → (r : ℕ) → Claims z y r → ⊥
 claims-none z y l r w = omega (arith, w .0)
 
 -- what is needed for a row
@@ -57,7 +57,7 @@ needs-posted : (z : Sizes) (po po′ : ℕ → Option ℕ) (x : Txn) → ((r : �
 unfolding needs
 needs-posted z po po′ x h = ap (λ bs. readBuckets x ++ bs) (join-same (λ r. keyBuckets z (po r) ++ keyBuckets z (newKey x r)) (λ r. keyBuckets z (po′ r) ++ keyBuckets z (newKey x r)) (pendingRows z (x .writes)) (λ r m. rw (h r m)))
 
-wants-posted : (z : Sizes) (po po′ : ℕ → Option ℕ) (y : Txn) (b : ℕ) → (4 ≤ rank (y .phase) → needs z po y ≡ needs z po′ y) → Wants z po y b → Wants z po′ y b
+wants-posted : (z : Sizes) (po po′ : ℕ → Option ℕ) (y : Txn) (b : ℕ) → (phasePrepared ≤ rank (y .phase) → needs z po y ≡ needs z po′ y) → Wants z po y b → Wants z po′ y b
 wants-posted z po po′ y b h (inl w) = inl w
 wants-posted z po po′ y b h (inr w) = inr (w .0, rw (h (w .0)) at (w .1))
 
@@ -80,14 +80,14 @@ module _ (s : Store) (i : ℕ) (n : Numbers (s .clock) (s .txns)) (g : HoldersAt
   pub one-bucket : (j k b : ℕ) → W (s .txns j) b → W (s .txns k) b → j ≡ k
   one-bucket j k b v w = one-wanter W (wants-busy _ _) (s .held .holder) (s .clock) (s .txns) n (g .buckets) j k b v w
 
-  holders-quiet : (x : Txn) → rank (s .txns i .phase) ≢ 2 → rank (s .txns i .phase) < 4 → rank (x .phase) ≢ 2 → rank (x .phase) < 4 → Holders (s .sizes) (s .held) (s .index .posted) (update (s .txns) i x)
+  holders-quiet : (x : Txn) → rank (s .txns i .phase) ≢ phaseHolding → rank (s .txns i .phase) < phasePrepared → rank (x .phase) ≢ phaseHolding → rank (x .phase) < phasePrepared → Holders (s .sizes) (s .held) (s .index .posted) (update (s .txns) i x)
   holders-quiet x a b c d = record {
     buckets = owned-quiet W (wants-busy _ _) (s .held .holder) (s .clock) (s .txns) n (g .buckets) i x (wants-none _ _ _ a b) (wants-none _ _ _ c d);
     claims = owned-quiet (Claims (s .sizes)) (claims-busy _) (s .held .claim) (s .clock) (s .txns) n (g .claims) i x (claims-none (s .sizes) (s .txns i) b) (claims-none (s .sizes) x d);
   }
 
   -- past prepare nothing is taken or freed until the record ends
-  holders-late : (ph : Phase) → 4 ≤ rank (s .txns i .phase) → 4 ≤ rank ph → Holders (s .sizes) (s .held) (s .index .posted) (update (s .txns) i (withPhase (s .txns i) ph))
+  holders-late : (ph : Phase) → phasePrepared ≤ rank (s .txns i .phase) → phasePrepared ≤ rank ph → Holders (s .sizes) (s .held) (s .index .posted) (update (s .txns) i (withPhase (s .txns i) ph))
   unfolding needs readBuckets
   holders-late ph a b = record {
     buckets = owned-same W (wants-busy _ _) (s .held .holder) (s .clock) (s .txns) n (g .buckets) i (withPhase (s .txns i) ph) refl
@@ -96,7 +96,7 @@ module _ (s : Store) (i : ℕ) (n : Numbers (s .clock) (s .txns)) (g : HoldersAt
     claims = owned-same (Claims (s .sizes)) (claims-busy _) (s .held .claim) (s .clock) (s .txns) n (g .claims) i (withPhase (s .txns i) ph) refl (λ r w. (a, w .1)) (λ r w. (b, w .1));
   }
 
-  holders-capture : (k : ℕ) → Live (s .txns i) → rank (s .txns i .phase) ≡ 1 → CanCapture s i k → HoldersAt (captured s i k)
+  holders-capture : (k : ℕ) → Live (s .txns i) → rank (s .txns i .phase) ≡ phaseOpen → CanCapture s i k → HoldersAt (captured s i k)
   holders-capture k l r c = record {
     buckets = owned-one W (wants-busy _ _) (s .held .holder) (s .clock) (s .txns) n (g .buckets) i (capturedTxn s (s .txns i) k) (bucketOf (s .sizes) k) refl
         (wants-none _ _ _ (λ e. omega arith) (omega arith))
@@ -106,7 +106,7 @@ module _ (s : Store) (i : ℕ) (n : Numbers (s .clock) (s .txns)) (g : HoldersAt
     claims = owned-quiet (Claims (s .sizes)) (claims-busy _) (s .held .claim) (s .clock) (s .txns) n (g .claims) i (capturedTxn s (s .txns i) k) (claims-none (s .sizes) (s .txns i) (omega arith)) (claims-none (s .sizes) (capturedTxn s (s .txns i) k) (omega arith));
   }
 
-  holders-collect : rank (s .txns i .phase) ≡ 2 → HoldersAt (collected s i)
+  holders-collect : rank (s .txns i .phase) ≡ phaseHolding → HoldersAt (collected s i)
   holders-collect r = let e = holding-is (s .txns i .phase) r in record {
     buckets = owned-drop W (wants-busy _ _) (s .held .holder) (s .clock) (s .txns) n (g .buckets) i _ (bucketIn (s .txns i .phase)) (inl (keyIn (s .txns i .phase), e))
         (λ b w. ⊎-elim (λ v. let f = v .1 in cc) (λ v. absurd (omega (arith, v .0))) w)
@@ -115,7 +115,7 @@ module _ (s : Store) (i : ℕ) (n : Numbers (s .clock) (s .txns)) (g : HoldersAt
   }
 
   -- the posted key of a pending row is the old one at prepare
-  holders-prepare : Live (s .txns i) → rank (s .txns i .phase) ≡ 1 → CanPrepare s i → ((r : ℕ) → Writes (s .sizes) (s .txns i) r → s .index .posted r ≡ oldKey (s .chains) r) → HoldersAt (prepared s i)
+  holders-prepare : Live (s .txns i) → rank (s .txns i .phase) ≡ phaseOpen → CanPrepare s i → ((r : ℕ) → Writes (s .sizes) (s .txns i) r → s .index .posted r ≡ oldKey (s .chains) r) → HoldersAt (prepared s i)
   unfolding needs readBuckets
   holders-prepare l r c h =
       let e = needed-needs s (s .txns i) h in
@@ -139,15 +139,15 @@ module _ (s : Store) (i : ℕ) (n : Numbers (s .clock) (s .txns)) (g : HoldersAt
   }
 
   -- the rows of another that is past `prepare` stay posted as they are
-  pub posted-kept : 4 ≤ rank (s .txns i .phase) → (j r : ℕ) → j ≢ i → 4 ≤ rank (s .txns j .phase) → Writes (s .sizes) (s .txns j) r → published s i .index .posted r ≡ s .index .posted r
+  pub posted-kept : phasePrepared ≤ rank (s .txns i .phase) → (j r : ℕ) → j ≢ i → phasePrepared ≤ rank (s .txns j .phase) → Writes (s .sizes) (s .txns j) r → published s i .index .posted r ≡ s .index .posted r
   posted-kept a j r d b w = repost-elim (λ o. o ≡ s .index .posted r) (s .txns i) (pendingRows (s .sizes) (s .txns i .writes)) (s .index .posted) r (λ m. absurd (d (one-claim j i r (b, w) (a, m)))) (λ m. refl)
 
-  late-needs : rank (s .txns i .phase) ≡ 6 → (j : ℕ) → 4 ≤ rank (published s i .txns j .phase) → needs (s .sizes) (s .index .posted) (published s i .txns j) ≡ needs (s .sizes) (published s i .index .posted) (published s i .txns j)
-  late-needs a j = update-elim (λ y. 4 ≤ rank (y .phase) → needs (s .sizes) (s .index .posted) y ≡ needs (s .sizes) (published s i .index .posted) y) (s .txns) i noTxn j
+  late-needs : rank (s .txns i .phase) ≡ phaseEnded → (j : ℕ) → phasePrepared ≤ rank (published s i .txns j .phase) → needs (s .sizes) (s .index .posted) (published s i .txns j) ≡ needs (s .sizes) (published s i .index .posted) (published s i .txns j)
+  late-needs a j = update-elim (λ y. phasePrepared ≤ rank (y .phase) → needs (s .sizes) (s .index .posted) y ≡ needs (s .sizes) (published s i .index .posted) y) (s .txns) i noTxn j
       (λ e h. absurd (omega arith))
       (λ d h. needs-posted (s .sizes) (s .index .posted) (published s i .index .posted) (s .txns j) (λ r w. sym (posted-kept (omega arith) j r d h w)))
 
-  holders-publish : Live (s .txns i) → rank (s .txns i .phase) ≡ 6 → HoldersAt (published s i)
+  holders-publish : Live (s .txns i) → rank (s .txns i .phase) ≡ phaseEnded → HoldersAt (published s i)
   holders-publish l a = let f = holders-free l in record {
     buckets = owned-wants W (Wants (s .sizes) (published s i .index .posted)) (freed (s .held) (s .txns i .number) .holder) (published s i .txns)
         (λ j b w. wants-posted (s .sizes) (s .index .posted) (published s i .index .posted) (published s i .txns j) b (late-needs a j) w)
@@ -156,7 +156,7 @@ module _ (s : Store) (i : ℕ) (n : Numbers (s .clock) (s .txns)) (g : HoldersAt
     claims = f .claims;
   }
 
-pub holders-move : (s s′ : Store) {a : ℕ} → Numbers (s .clock) (s .txns) → HoldersAt s → ((i r : ℕ) → Live (s .txns i) → rank (s .txns i .phase) ≡ 1 → CanPrepare s i → Writes (s .sizes) (s .txns i) r → s .index .posted r ≡ oldKey (s .chains) r)
+pub holders-move : (s s′ : Store) {a : ℕ} → Numbers (s .clock) (s .txns) → HoldersAt s → ((i r : ℕ) → Live (s .txns i) → rank (s .txns i .phase) ≡ phaseOpen → CanPrepare s i → Writes (s .sizes) (s .txns i) r → s .index .posted r ≡ oldKey (s .chains) r)
     → Move s a s′ → HoldersAt s′
 holders-move s s′ n g h (stay i) = g
 holders-move s s′ n g h (did-begin i a b c d) = holders-quiet s i n g _ (λ e. omega (arith, n .idle i b)) (omega (arith, n .idle i b)) (λ e. omega arith) (omega arith)

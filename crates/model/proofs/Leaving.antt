@@ -11,7 +11,7 @@ use borrow.Author.Tests.{eq-eqb, ne-eqb, leb-true}
 use Rattle.base_lists.specs.Lists.{least, every, Among, Rising}
 use Rattle.base_lists.specs.Table.{update, updateAll, update-same, update-other, cond-elim}
 use Rattle.base_lists.proofs.ListLaws.{and-l, and-r, is-false, among-left, among-right, among-cases, join-which, which-join, among-member, not-member, least-own, least-each, pick-rising, pick-which}
-use Rattle.model.specs.Store.{Sizes, Open, Write, Txn, Store, rank, bucketIn, sameKey, bucketOf}
+use Rattle.model.specs.Store.{Sizes, Open, Write, Txn, Store, rank, phaseOpen, bucketIn, sameKey, bucketOf}
 use Rattle.model.specs.Seeing.{pending, writtenKey, activeNumbers}
 use Rattle.model.specs.Steps.{withPhase, newTxn, hasRead, addRead, capturedTxn, writtenTxn, pendingRows, keyBefore, newKey, versionRows, madeRows, keyBuckets, neededBuckets, preparedHeld, repost, changedBuckets, publishedIndex, release, freed}
 use Rattle.model.specs.Refusals.{Step, begin, capture, collect, rows, put, erase, prepare, install, end, publish, validate, abort, txnOf}
@@ -217,7 +217,7 @@ adds s t k = (
 )
 
 -- put, erase and validate leave the phase, which is Open
-still-open : (s : Store) (a : Step) (x : Txn) → withPhase x Open ≡ askerAfter s a (txnOf s (actor a)) → rank (x .phase) ≡ 1 → x ≡ askerAfter s a (txnOf s (actor a))
+still-open : (s : Store) (a : Step) (x : Txn) → withPhase x Open ≡ askerAfter s a (txnOf s (actor a)) → rank (x .phase) ≡ phaseOpen → x ≡ askerAfter s a (txnOf s (actor a))
 still-open s a x same e = ap (withPhase x) (open-is (x .phase) e) ∙ same
 
 pub leaves : (s : Store) (a : Step) → number s a ≡ 0 → Leaves s a (step s a .store)

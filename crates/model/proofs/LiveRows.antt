@@ -11,7 +11,7 @@ use Rattle.base_limits.specs.Limits.{mostLive}
 use Rattle.base_lists.specs.Lists.{member}
 use Rattle.base_lists.specs.Table.{update, update-same, update-other, update-elim, update-field}
 use Rattle.base_lists.proofs.ListLaws.{member-among, among-member, map-pick}
-use Rattle.model.specs.Store.{Installed, Ended, Txn, Store, rank}
+use Rattle.model.specs.Store.{Installed, Ended, Txn, Store, rank, phasePrepared, phaseInstalled, phaseEnded}
 use Rattle.model.specs.Seeing.{seen, versionOf, keyAt, lastWrite, Live, active, activeNumbers, snapshotNow}
 use Rattle.model.specs.Steps.{withPhase, becomes, markedTxn, newKey, madeRows, writtenPayload, installed}
 use Rattle.model.specs.Contents.{content, contentOf, liveRow}
@@ -33,7 +33,7 @@ use Rattle.model.proofs.Outcomes.{refused-store, done-does}
 
 -- who made version p has installed and not ended
 abbrev pub Hidden : Store → ℕ → Type 0
-Hidden s p = (j : ℕ) × Live (s .txns j) × (rank (s .txns j .phase) ≡ 5) × (s .chains .xmin p ≡ s .txns j .number)
+Hidden s p = (j : ℕ) × Live (s .txns j) × (rank (s .txns j .phase) ≡ phaseInstalled) × (s .chains .xmin p ≡ s .txns j .number)
 
 -- these versions, and no others, are not seen by a snapshot taken now
 module _ (s : Store) (g : Good s) (p : ℕ) (l : 1 ≤ p) (u : p ≤ s .chains .used) where
@@ -69,7 +69,7 @@ alike s s′ g g′ e r to from = ap (λ c. content (keyAt c (versionOf c (snaps
     same = finds-one (s .chains) (snapshotNow s′) (s .chains .head r) _ _ (version-finds (s .chains) (snapshotNow s′) (g .chained) r) (finds-alike (s .chains) (snapshotNow s) (snapshotNow s′) r eyes (s .chains .head r) _ (heads refl) (version-finds (s .chains) (snapshotNow s) (g .chained) r))
 
 -- one place changes, and neither before nor after is Installed
-module _ (s s′ : Store) (i : ℕ) (x : Txn) (t-is : s′ .txns ≡ update (s .txns) i x) (c-is : s′ .chains ≡ s .chains) (old : Live (s .txns i) → rank (s .txns i .phase) ≢ 5) (new : rank (x .phase) ≢ 5) where
+module _ (s s′ : Store) (i : ℕ) (x : Txn) (t-is : s′ .txns ≡ update (s .txns) i x) (c-is : s′ .chains ≡ s .chains) (old : Live (s .txns i) → rank (s .txns i .phase) ≢ phaseInstalled) (new : rank (x .phase) ≢ phaseInstalled) where
   hidden-to : (p : ℕ) → Hidden s p → Hidden s′ p
   hidden-to p h = rw (t-is, c-is) (h .0, rw other (h .1), rw other (h .2), rw other (h .3))
     where
@@ -79,14 +79,14 @@ module _ (s s′ : Store) (i : ℕ) (x : Txn) (t-is : s′ .txns ≡ update (s .
   hidden-from : (p : ℕ) → Hidden s′ p → Hidden s p
   hidden-from p h = go (h .0) (rw t-is at (h .1)) (rw t-is at (h .2)) (rw (t-is, c-is) at (h .3))
     where
-      go : (j : ℕ) → Live (update (s .txns) i x j) → rank (update (s .txns) i x j .phase) ≡ 5 → s .chains .xmin p ≡ update (s .txns) i x j .number → Hidden s p
-      go j = update-elim (λ y. Live y → rank (y .phase) ≡ 5 → s .chains .xmin p ≡ y .number → Hidden s p) (s .txns) i x j (λ e a b d. absurd (new b)) (λ e a b d. (j, a, b, d))
+      go : (j : ℕ) → Live (update (s .txns) i x j) → rank (update (s .txns) i x j .phase) ≡ phaseInstalled → s .chains .xmin p ≡ update (s .txns) i x j .number → Hidden s p
+      go j = update-elim (λ y. Live y → rank (y .phase) ≡ phaseInstalled → s .chains .xmin p ≡ y .number → Hidden s p) (s .txns) i x j (λ e a b d. absurd (new b)) (λ e a b d. (j, a, b, d))
 
   pub live-set : Good s → Good s′ → (r : ℕ) → liveRow s′ r ≡ liveRow s r
   live-set g g′ r = alike s s′ g g′ c-is r (λ p l u n. hidden-to p) (λ p l u n. hidden-from p)
 
 -- install: its versions are hidden
-module _ (s : Store) (i : ℕ) (g : Good s) (g′ : Good (installed s i)) (l : Live (s .txns i)) (a : rank (s .txns i .phase) ≡ 4) where
+module _ (s : Store) (i : ℕ) (g : Good s) (g′ : Good (installed s i)) (l : Live (s .txns i)) (a : rank (s .txns i .phase) ≡ phasePrepared) where
   now-installed : snapshotNow (installed s i) ≡ snapshotNow s
   unfolding snapshotNow activeNumbers
   now-installed = rw same
@@ -112,7 +112,7 @@ head-shown s g r open-head = finds-head (s .chains) (snapshotNow s) (g .chained)
     sees l false e = absurd (open-head l (unseen-hidden s g (s .chains .head r) l (g .chained .heads-in r) e))
 
 -- a row that an Installed transaction has written is shown as it was before
-module _ (s : Store) (i : ℕ) (g : Good s) (l : Live (s .txns i)) (a : rank (s .txns i .phase) ≡ 5) (r : ℕ) where
+module _ (s : Store) (i : ℕ) (g : Good s) (l : Live (s .txns i)) (a : rank (s .txns i .phase) ≡ phaseInstalled) (r : ℕ) where
   -- its head
   abbrev h : ℕ
   h = s .chains .head r
@@ -156,12 +156,12 @@ module _ (s : Store) (i : ℕ) (g : Good s) (l : Live (s .txns i)) (a : rank (s 
       (made-or-none w)
 
 -- end: its versions are shown from then on
-module _ (s : Store) (i : ℕ) (g : Good s) (g′ : Good (becomes s i Ended)) (l : Live (s .txns i)) (a : rank (s .txns i .phase) ≡ 5) where
-  ended-from : (p : ℕ) → Hidden (becomes s i Ended) p → (j : ℕ) × (j ≢ i) × Live (s .txns j) × (rank (s .txns j .phase) ≡ 5) × (s .chains .xmin p ≡ s .txns j .number)
+module _ (s : Store) (i : ℕ) (g : Good s) (g′ : Good (becomes s i Ended)) (l : Live (s .txns i)) (a : rank (s .txns i .phase) ≡ phaseInstalled) where
+  ended-from : (p : ℕ) → Hidden (becomes s i Ended) p → (j : ℕ) × (j ≢ i) × Live (s .txns j) × (rank (s .txns j .phase) ≡ phaseInstalled) × (s .chains .xmin p ≡ s .txns j .number)
   ended-from p h = go (h .0) (h .1) (h .2) (h .3)
     where
-      go : (j : ℕ) → Live (becomes s i Ended .txns j) → rank (becomes s i Ended .txns j .phase) ≡ 5 → s .chains .xmin p ≡ becomes s i Ended .txns j .number → (k : ℕ) × (k ≢ i) × Live (s .txns k) × (rank (s .txns k .phase) ≡ 5) × (s .chains .xmin p ≡ s .txns k .number)
-      go j = update-elim (λ y. Live y → rank (y .phase) ≡ 5 → s .chains .xmin p ≡ y .number → (k : ℕ) × (k ≢ i) × Live (s .txns k) × (rank (s .txns k .phase) ≡ 5) × (s .chains .xmin p ≡ s .txns k .number)) (s .txns) i (withPhase (s .txns i) Ended) j
+      go : (j : ℕ) → Live (becomes s i Ended .txns j) → rank (becomes s i Ended .txns j .phase) ≡ phaseInstalled → s .chains .xmin p ≡ becomes s i Ended .txns j .number → (k : ℕ) × (k ≢ i) × Live (s .txns k) × (rank (s .txns k .phase) ≡ phaseInstalled) × (s .chains .xmin p ≡ s .txns k .number)
+      go j = update-elim (λ y. Live y → rank (y .phase) ≡ phaseInstalled → s .chains .xmin p ≡ y .number → (k : ℕ) × (k ≢ i) × Live (s .txns k) × (rank (s .txns k .phase) ≡ phaseInstalled) × (s .chains .xmin p ≡ s .txns k .number)) (s .txns) i (withPhase (s .txns i) Ended) j
           (λ e v b d. absurd (omega arith))
           (λ e v b d. (j, e, v, b, d))
 
@@ -203,7 +203,7 @@ module _ (s : Store) (i : ℕ) (g : Good s) (g′ : Good (becomes s i Ended)) (l
       (made-or-none s i g l a r w)
 
 -- any other step leaves every row as it was
-pub live-kept : (s s′ : Store) {b : ℕ} → Good s → Good s′ → Move s b s′ → ((i : ℕ) → Live (s .txns i) → rank (s .txns i .phase) ≡ 5 → s′ ≡ becomes s i Ended → ⊥) → (r : ℕ) → liveRow s′ r ≡ liveRow s r
+pub live-kept : (s s′ : Store) {b : ℕ} → Good s → Good s′ → Move s b s′ → ((i : ℕ) → Live (s .txns i) → rank (s .txns i .phase) ≡ phaseInstalled → s′ ≡ becomes s i Ended → ⊥) → (r : ℕ) → liveRow s′ r ≡ liveRow s r
 live-kept s s′ g g′ (stay i) no-end r = refl
 live-kept s s′ g g′ (did-begin i a b c d) no-end r = live-set s s′ i _ refl refl (λ l e. omega arith) (λ e. omega arith) g g′ r
 live-kept s s′ g g′ (did-mark i a b) no-end r = live-set s s′ i _ refl refl (λ l e. omega arith) (λ e. omega arith) g g′ r
@@ -218,11 +218,11 @@ live-kept s s′ g g′ (did-publish i a b) no-end r = live-set s s′ i _ refl 
 live-kept s s′ g g′ (did-abort i a b) no-end r = live-set s s′ i _ refl refl (λ l e. omega arith) (λ e. omega arith) g g′ r
 
 -- a publish ends nobody, so it shows nothing new
-publish-ends-none : (s : Store) (t i : ℕ) → Live (s .txns i) → rank (s .txns i .phase) ≡ 5 → step s (publish t) .store ≡ becomes s i Ended → ⊥
+publish-ends-none : (s : Store) (t i : ℕ) → Live (s .txns i) → rank (s .txns i .phase) ≡ phaseInstalled → step s (publish t) .store ≡ becomes s i Ended → ⊥
 unfolding accepted
 publish-ends-none s t i l a e = go (ℕ-discrete (number s (publish t)) 0)
   where
-    sixth : rank (becomes s i Ended .txns i .phase) ≡ 6
+    sixth : rank (becomes s i Ended .txns i .phase) ≡ phaseEnded
     sixth = ap (λ (v : Txn). rank (v .phase)) (update-same (s .txns) i (withPhase (s .txns i) Ended))
 
     go : Dec (number s (publish t) ≡ 0) → ⊥

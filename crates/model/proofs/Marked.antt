@@ -10,7 +10,7 @@ use lib.Dec.{eqb, ltb}
 use Rattle.base_limits.specs.Limits.{mostLive, lastNumber}
 use Rattle.base_lists.specs.Lists.{Among}
 use Rattle.base_lists.specs.Table.{update, update-elim}
-use Rattle.model.specs.Store.{Sizes, Phase, Open, Holding, Collected, Prepared, Installed, Ended, Txn, Store, fresh, rank}
+use Rattle.model.specs.Store.{Sizes, Phase, Open, Holding, Collected, Prepared, Installed, Ended, Txn, Store, fresh, rank, phaseOpen}
 use Rattle.model.specs.Verdict.{Mark, verdict, verdictNumber}
 use Rattle.model.specs.Refusals.{Step, begin, capture, collect, rows, put, erase, prepare, install, end, publish, validate, abort, placeOf, txnOf}
 use Rattle.model.specs.Machine.{Judged, at, actor, accepted, step, run, canOpen}
@@ -30,7 +30,7 @@ use Rattle.model.proofs.Verdicts.{verdict-3}
 -- ---- every marked transaction is Open
 
 -- the one phase of rank 1
-open-rank : (p : Phase) → rank p ≡ 1 → p ≡ Open
+open-rank : (p : Phase) → rank p ≡ phaseOpen → p ≡ Open
 open-rank Open e = refl
 open-rank (Holding b k) e = absurd (omega arith)
 open-rank (Collected k) e = absurd (omega arith)
@@ -43,7 +43,7 @@ marked-set : (s : Store) → MarkedOpen s → (i : ℕ) (x : Txn) → (x .marked
 marked-set s o i x h j = update-elim (λ y. y .marked ≡ true → y .phase ≡ Open) (s .txns) i x j (λ e. h) (λ d. o j)
 
 -- who is not Open is not marked
-unmarked : {A : Type 0} (s : Store) → MarkedOpen s → (i : ℕ) → rank (s .txns i .phase) ≢ 1 → s .txns i .marked ≡ true → A
+unmarked : {A : Type 0} (s : Store) → MarkedOpen s → (i : ℕ) → rank (s .txns i .phase) ≢ phaseOpen → s .txns i .marked ≡ true → A
 unmarked s o i d m = absurd (d (ap rank (o i m)))
 
 marked-move : (s s′ : Store) {a : ℕ} → MarkedOpen s → Move s a s′ → MarkedOpen s′
@@ -66,7 +66,7 @@ marked-opened z clock before = run-inv MarkedOpen (λ v v′ i h m. marked-move 
 -- ---- no more work in it
 
 module _ (s : Store) (t : ℕ) (g : Shaped s) (o : MarkedOpen s) (l : Lives s t) (m : txnOf s t .marked ≡ true) where
-  is-open : rank (txnOf s t .phase) ≡ 1
+  is-open : rank (txnOf s t .phase) ≡ phaseOpen
   is-open = ap rank (o (at s t) m)
 
   judged-marked : verdict (s .chains) (s .index) (txnOf s t) ≡ Mark

@@ -13,7 +13,7 @@ use Rattle.base_limits.specs.Limits.{mostLive, mostIndexReads, mostRecords, mos
 use Rattle.base_lists.specs.Lists.{some-of, all-of}
 use Rattle.base_lists.specs.Table.{update-other, cond-elim}
 use Rattle.base_lists.proofs.ListLaws.{and-l, and-r, or-l, or-r, first-holds, first-free}
-use Rattle.model.specs.Store.{Ended, Write, Txn, Store, rank, bucketOf}
+use Rattle.model.specs.Store.{Ended, Write, Txn, Store, rank, phaseOpen, phaseHolding, phaseCollected, phasePrepared, phaseInstalled, phaseEnded, bucketOf}
 use Rattle.model.specs.Seeing.{live, Live}
 use Rattle.model.specs.Verdict.{verdictNumber, verdict}
 use Rattle.model.specs.Steps.{becomes, begun, stale, hasRead, captured, collected, recordsAfter, readDone, written, pendingRows, neededBuckets, prepared, installed, ended, published}
@@ -49,16 +49,16 @@ pub record CanPrepare (s : Store) (i : ℕ) : Type 0 where
 pub data Move (s : Store) : ℕ → Store → Type 0 where
   stay : (i : ℕ) → Move s i s
   did-begin : (i : ℕ) → i < mostLive → s .txns i .number ≡ 0 → liveCount (s .txns) < mostLive → s .clock + liveCount (s .txns) + 2 ≤ lastNumber → Move s i (begun s i)
-  did-mark : (i : ℕ) → Live (s .txns i) → rank (s .txns i .phase) ≡ 1 → Move s i (stale s i)
-  did-capture : (i k : ℕ) → Live (s .txns i) → rank (s .txns i .phase) ≡ 1 → CanCapture s i k → Move s i (captured s i k)
-  did-collect : (i : ℕ) → Live (s .txns i) → rank (s .txns i .phase) ≡ 2 → Move s i (collected s i)
-  did-rows : (i : ℕ) → Live (s .txns i) → rank (s .txns i .phase) ≡ 3 → length (recordsAfter s (s .txns i)) ≤ mostRecords → Move s i (readDone s i)
-  did-write : (i : ℕ) (w : Write) → Live (s .txns i) → rank (s .txns i .phase) ≡ 1 → w .row < s .sizes .rows → length (s .txns i .writes) < mostWrites → Move s i (written s i w)
-  did-prepare : (i : ℕ) → Live (s .txns i) → rank (s .txns i .phase) ≡ 1 → CanPrepare s i → Move s i (prepared s i)
-  did-install : (i : ℕ) → Live (s .txns i) → rank (s .txns i .phase) ≡ 4 → Move s i (installed s i)
-  did-end : (i : ℕ) → Live (s .txns i) → rank (s .txns i .phase) ≡ 5 → Move s i (becomes s i Ended)
-  did-publish : (i : ℕ) → Live (s .txns i) → rank (s .txns i .phase) ≡ 6 → Move s i (published s i)
-  did-abort : (i : ℕ) → Live (s .txns i) → rank (s .txns i .phase) < 5 → Move s i (ended s i)
+  did-mark : (i : ℕ) → Live (s .txns i) → rank (s .txns i .phase) ≡ phaseOpen → Move s i (stale s i)
+  did-capture : (i k : ℕ) → Live (s .txns i) → rank (s .txns i .phase) ≡ phaseOpen → CanCapture s i k → Move s i (captured s i k)
+  did-collect : (i : ℕ) → Live (s .txns i) → rank (s .txns i .phase) ≡ phaseHolding → Move s i (collected s i)
+  did-rows : (i : ℕ) → Live (s .txns i) → rank (s .txns i .phase) ≡ phaseCollected → length (recordsAfter s (s .txns i)) ≤ mostRecords → Move s i (readDone s i)
+  did-write : (i : ℕ) (w : Write) → Live (s .txns i) → rank (s .txns i .phase) ≡ phaseOpen → w .row < s .sizes .rows → length (s .txns i .writes) < mostWrites → Move s i (written s i w)
+  did-prepare : (i : ℕ) → Live (s .txns i) → rank (s .txns i .phase) ≡ phaseOpen → CanPrepare s i → Move s i (prepared s i)
+  did-install : (i : ℕ) → Live (s .txns i) → rank (s .txns i .phase) ≡ phasePrepared → Move s i (installed s i)
+  did-end : (i : ℕ) → Live (s .txns i) → rank (s .txns i .phase) ≡ phaseInstalled → Move s i (becomes s i Ended)
+  did-publish : (i : ℕ) → Live (s .txns i) → rank (s .txns i .phase) ≡ phaseEnded → Move s i (published s i)
+  did-abort : (i : ℕ) → Live (s .txns i) → rank (s .txns i .phase) < phaseInstalled → Move s i (ended s i)
 
 -- a list of tests that refuses nothing: the first test is false, and so are the others
 pub passes : (b : Bool) (r : Refusal) (cs : List (Bool × Refusal)) → refusal ((b, r) ∷ cs) ≡ none → (b ≡ false) × (refusal cs ≡ none)
@@ -169,7 +169,7 @@ rows-move s t room = plain-move s (rows t room) refl λ e.
     did-rows (at s t) (f .alive) (eqb-true _ _ (f .phase-is)) (ltb-false _ _ (b .0))
 
 -- put and erase have the same tests
-write-move : (s : Store) (t : ℕ) (w : Write) → refusal (found s t (inPhase s t 1) (writeChecks s (txnOf s t) (w .row))) ≡ none → Move s (at s t) (written s (at s t) w)
+write-move : (s : Store) (t : ℕ) (w : Write) → refusal (found s t (inPhase s t phaseOpen) (writeChecks s (txnOf s t) (w .row))) ≡ none → Move s (at s t) (written s (at s t) w)
 write-move s t w e =
     let f = finds s t _ _ e in
     let a = passes _ _ _ (f .rest) in

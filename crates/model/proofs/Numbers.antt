@@ -11,7 +11,7 @@ use Rattle.base_limits.specs.Limits.{mostLive, mostActive}
 use Rattle.base_lists.specs.Lists.{least, pick, Among}
 use Rattle.base_lists.specs.Table.{update, update-elim, updateAll-elim}
 use Rattle.base_lists.proofs.ListLaws.{and-l, and-r, and-both, among-map, map-among, pick-which, which-pick, pick-fewer}
-use Rattle.model.specs.Store.{Chains, Snapshot, Txn, Store, Sizes, noTxn, fresh, rank}
+use Rattle.model.specs.Store.{Chains, Snapshot, Txn, Store, Sizes, noTxn, fresh, rank, phaseOpen, phasePrepared, phaseInstalled, phaseEnded}
 use Rattle.model.specs.Seeing.{live, active, activeNumbers, Live}
 use Rattle.model.specs.Steps.{newTxn, begun, push, changedBuckets, versionRows}
 use Rattle.model.specs.Refusals.{liveCount}
@@ -30,11 +30,11 @@ pub record Numbers (clock : ℕ) (t : ℕ → Txn) : Type 0 where
   pub below : (i : ℕ) → t i .number < clock
   -- places from 8 on are free, and a free place holds nothing
   pub beyond : (i : ℕ) → mostLive ≤ i → t i .number ≡ 0
-  pub idle : (i : ℕ) → t i .number ≡ 0 → rank (t i .phase) ≡ 1
+  pub idle : (i : ℕ) → t i .number ≡ 0 → rank (t i .phase) ≡ phaseOpen
   pub distinct : (i j : ℕ) → Live (t i) → t i .number ≡ t j .number → i ≡ j
   pub snapped : (i : ℕ) → Live (t i) → Snapped (t i .number) (t i .snapshot)
   -- every live transaction with a smaller number that has not ended is in the active list of a later one
-  pub knows : (i j : ℕ) → Live (t i) → Live (t j) → t j .number < t i .number → rank (t j .phase) < 6 → Among (t j .number) (t i .snapshot .active)
+  pub knows : (i j : ℕ) → Live (t i) → Live (t j) → t j .number < t i .number → rank (t j .phase) < phaseEnded → Among (t j .number) (t i .snapshot .active)
 
 -- a place in use is one of the eight
 pub in-place : (c : ℕ) (t : ℕ → Txn) → Numbers c t → (j : ℕ) → Live (t j) → j < mostLive
@@ -49,25 +49,25 @@ pub record Kept (t t′ : ℕ → Txn) : Type 0 where
   pub number-le : (j : ℕ) → t′ j .number ≤ t j .number
   pub number : (j : ℕ) → Live (t′ j) → t′ j .number ≡ t j .number
   pub snapshot : (j : ℕ) → Live (t′ j) → t′ j .snapshot ≡ t j .snapshot
-  pub idle : (j : ℕ) → (t j .number ≡ 0 → rank (t j .phase) ≡ 1) → t′ j .number ≡ 0 → rank (t′ j .phase) ≡ 1
-  pub running : (j : ℕ) → Live (t′ j) → rank (t′ j .phase) < 6 → rank (t j .phase) < 6
-  pub late : (j : ℕ) → Live (t′ j) → 5 ≤ rank (t j .phase) → 5 ≤ rank (t′ j .phase)
-  pub wrote : (j : ℕ) → Live (t′ j) → 4 ≤ rank (t j .phase) → t′ j .writes ≡ t j .writes
+  pub idle : (j : ℕ) → (t j .number ≡ 0 → rank (t j .phase) ≡ phaseOpen) → t′ j .number ≡ 0 → rank (t′ j .phase) ≡ phaseOpen
+  pub running : (j : ℕ) → Live (t′ j) → rank (t′ j .phase) < phaseEnded → rank (t j .phase) < phaseEnded
+  pub late : (j : ℕ) → Live (t′ j) → phaseInstalled ≤ rank (t j .phase) → phaseInstalled ≤ rank (t′ j .phase)
+  pub wrote : (j : ℕ) → Live (t′ j) → phasePrepared ≤ rank (t j .phase) → t′ j .writes ≡ t j .writes
 
 pub kept-all : (t : ℕ → Txn) → Kept t t
 kept-all t = record { number-le = λ j. omega arith; number = λ j l. refl; snapshot = λ j l. refl; idle = λ j h. h; running = λ j l h. h; late = λ j l h. h; wrote = λ j l h. refl }
 
 -- a live transaction goes on
 pub kept-set : (t : ℕ → Txn) (i : ℕ) (x : Txn) → x .number ≡ t i .number → x .snapshot ≡ t i .snapshot → Live (t i)
-    → (rank (x .phase) < 6 → rank (t i .phase) < 6) → (5 ≤ rank (t i .phase) → 5 ≤ rank (x .phase)) → (4 ≤ rank (t i .phase) → x .writes ≡ t i .writes) → Kept t (update t i x)
+    → (rank (x .phase) < phaseEnded → rank (t i .phase) < phaseEnded) → (phaseInstalled ≤ rank (t i .phase) → phaseInstalled ≤ rank (x .phase)) → (phasePrepared ≤ rank (t i .phase) → x .writes ≡ t i .writes) → Kept t (update t i x)
 kept-set t i x n v l r p w = record {
   number-le = λ j. update-elim (λ y. y .number ≤ t j .number) t i x j (λ e. rw e (omega arith)) (λ d. omega arith);
   number = λ j. update-elim (λ y. Live y → y .number ≡ t j .number) t i x j (λ e q. rw e n) (λ d q. refl);
   snapshot = λ j. update-elim (λ y. Live y → y .snapshot ≡ t j .snapshot) t i x j (λ e q. rw e v) (λ d q. refl);
-  idle = λ j h. update-elim (λ y. y .number ≡ 0 → rank (y .phase) ≡ 1) t i x j (λ e q. absurd (omega arith)) (λ d q. h q);
-  running = λ j. update-elim (λ y. Live y → rank (y .phase) < 6 → rank (t j .phase) < 6) t i x j (λ e q h. rw e (r h)) (λ d q h. h);
-  late = λ j. update-elim (λ y. Live y → 5 ≤ rank (t j .phase) → 5 ≤ rank (y .phase)) t i x j (λ e q h. p (rw e at h)) (λ d q h. h);
-  wrote = λ j. update-elim (λ y. Live y → 4 ≤ rank (t j .phase) → y .writes ≡ t j .writes) t i x j (λ e q h. rw e (w (rw e at h))) (λ d q h. refl);
+  idle = λ j h. update-elim (λ y. y .number ≡ 0 → rank (y .phase) ≡ phaseOpen) t i x j (λ e q. absurd (omega arith)) (λ d q. h q);
+  running = λ j. update-elim (λ y. Live y → rank (y .phase) < phaseEnded → rank (t j .phase) < phaseEnded) t i x j (λ e q h. rw e (r h)) (λ d q h. h);
+  late = λ j. update-elim (λ y. Live y → phaseInstalled ≤ rank (t j .phase) → phaseInstalled ≤ rank (y .phase)) t i x j (λ e q h. p (rw e at h)) (λ d q h. h);
+  wrote = λ j. update-elim (λ y. Live y → phasePrepared ≤ rank (t j .phase) → y .writes ≡ t j .writes) t i x j (λ e q h. rw e (w (rw e at h))) (λ d q h. refl);
 }
 
 -- a record ends
@@ -76,10 +76,10 @@ kept-free t i = record {
   number-le = λ j. update-elim (λ y. y .number ≤ t j .number) t i noTxn j (λ e. omega arith) (λ d. omega arith);
   number = λ j. update-elim (λ y. Live y → y .number ≡ t j .number) t i noTxn j (λ e q. absurd (omega arith)) (λ d q. refl);
   snapshot = λ j. update-elim (λ y. Live y → y .snapshot ≡ t j .snapshot) t i noTxn j (λ e q. absurd (omega arith)) (λ d q. refl);
-  idle = λ j h. update-elim (λ y. y .number ≡ 0 → rank (y .phase) ≡ 1) t i noTxn j (λ e q. refl) (λ d q. h q);
-  running = λ j. update-elim (λ y. Live y → rank (y .phase) < 6 → rank (t j .phase) < 6) t i noTxn j (λ e q h. absurd (omega arith)) (λ d q h. h);
-  late = λ j. update-elim (λ y. Live y → 5 ≤ rank (t j .phase) → 5 ≤ rank (y .phase)) t i noTxn j (λ e q h. absurd (omega arith)) (λ d q h. h);
-  wrote = λ j. update-elim (λ y. Live y → 4 ≤ rank (t j .phase) → y .writes ≡ t j .writes) t i noTxn j (λ e q h. absurd (omega arith)) (λ d q h. refl);
+  idle = λ j h. update-elim (λ y. y .number ≡ 0 → rank (y .phase) ≡ phaseOpen) t i noTxn j (λ e q. refl) (λ d q. h q);
+  running = λ j. update-elim (λ y. Live y → rank (y .phase) < phaseEnded → rank (t j .phase) < phaseEnded) t i noTxn j (λ e q h. absurd (omega arith)) (λ d q h. h);
+  late = λ j. update-elim (λ y. Live y → phaseInstalled ≤ rank (t j .phase) → phaseInstalled ≤ rank (y .phase)) t i noTxn j (λ e q h. absurd (omega arith)) (λ d q h. h);
+  wrote = λ j. update-elim (λ y. Live y → phasePrepared ≤ rank (t j .phase) → y .writes ≡ t j .writes) t i noTxn j (λ e q h. absurd (omega arith)) (λ d q h. refl);
 }
 
 pub data Numbering (s s′ : Store) : Type 0 where
@@ -109,14 +109,14 @@ clock-move s s′ m = go (numbering s s′ m)
     go (kept p l) = l
 
 -- the active numbers are those of the live transactions that have not ended
-pub active-which : (t : ℕ → Txn) (n : ℕ) → Among n (activeNumbers t) → (j : ℕ) × (j < mostLive) × Live (t j) × (rank (t j .phase) < 6) × (n ≡ t j .number)
+pub active-which : (t : ℕ → Txn) (n : ℕ) → Among n (activeNumbers t) → (j : ℕ) × (j < mostLive) × Live (t j) × (rank (t j .phase) < phaseEnded) × (n ≡ t j .number)
 unfolding activeNumbers
 active-which t n m =
     let w = map-among (λ i. t i .number) (pick (λ i. active (t i)) 0 mostLive) n m in
     let p = pick-which (λ i. active (t i)) 0 mostLive (w .0) (w .1) in
     (w .0, p .1, test-live (t (w .0)) (and-l (live (t (w .0))) _ (p .2)), ltb-true _ _ (and-r (live (t (w .0))) _ (p .2)), w .2)
 
-pub which-active : (t : ℕ → Txn) (j : ℕ) → j < mostLive → Live (t j) → rank (t j .phase) < 6 → Among (t j .number) (activeNumbers t)
+pub which-active : (t : ℕ → Txn) (j : ℕ) → j < mostLive → Live (t j) → rank (t j .phase) < phaseEnded → Among (t j .number) (activeNumbers t)
 unfolding activeNumbers
 which-active t j l p r = among-map (λ i. t i .number) (pick (λ i. active (t i)) 0 mostLive) j
     (which-pick (λ i. active (t i)) 0 mostLive j (omega arith) (omega arith) (and-both _ _ (live-test (t j) p) (lt-ltb _ _ r)))
@@ -124,7 +124,7 @@ which-active t j l p r = among-map (λ i. t i .number) (pick (λ i. active (t i)
 active-few : (t : ℕ → Txn) → liveCount t < mostLive → length (activeNumbers t) ≤ mostActive
 unfolding activeNumbers liveCount
 active-few t h = rw (length-map (pick (λ i. active (t i)) 0 mostLive) (λ i. t i .number))
-    (omega (arith, pick-fewer (λ i. active (t i)) (λ i. live (t i)) 0 mostLive (λ r e. and-l (live (t r)) (ltb (rank (t r .phase)) 6) e)))
+    (omega (arith, pick-fewer (λ i. active (t i)) (λ i. live (t i)) 0 mostLive (λ r e. and-l (live (t r)) (ltb (rank (t r .phase)) phaseEnded) e)))
 
 module _ (s : Store) (i : ℕ) (g : Numbers (s .clock) (s .txns)) (l : i < mostLive) (few : liveCount (s .txns) < mostLive) where
   begun-distinct : (a b : ℕ) → Live (begun s i .txns a) → begun s i .txns a .number ≡ begun s i .txns b .number → a ≡ b
@@ -140,13 +140,13 @@ module _ (s : Store) (i : ℕ) (g : Numbers (s .clock) (s .txns)) (l : i < mostL
     active-few = active-few (s .txns) few;
   }
 
-  begun-knows : (a b : ℕ) → Live (begun s i .txns a) → Live (begun s i .txns b) → begun s i .txns b .number < begun s i .txns a .number → rank (begun s i .txns b .phase) < 6
+  begun-knows : (a b : ℕ) → Live (begun s i .txns a) → Live (begun s i .txns b) → begun s i .txns b .number < begun s i .txns a .number → rank (begun s i .txns b .phase) < phaseEnded
       → Among (begun s i .txns b .number) (begun s i .txns a .snapshot .active)
-  begun-knows a b = update-elim (λ y. Live y → Live (begun s i .txns b) → begun s i .txns b .number < y .number → rank (begun s i .txns b .phase) < 6 → Among (begun s i .txns b .number) (y .snapshot .active)) (s .txns) i (newTxn s) a
-      (λ e p. update-elim (λ y. Live y → y .number < s .clock → rank (y .phase) < 6 → Among (y .number) (activeNumbers (s .txns))) (s .txns) i (newTxn s) b
+  begun-knows a b = update-elim (λ y. Live y → Live (begun s i .txns b) → begun s i .txns b .number < y .number → rank (begun s i .txns b .phase) < phaseEnded → Among (begun s i .txns b .number) (y .snapshot .active)) (s .txns) i (newTxn s) a
+      (λ e p. update-elim (λ y. Live y → y .number < s .clock → rank (y .phase) < phaseEnded → Among (y .number) (activeNumbers (s .txns))) (s .txns) i (newTxn s) b
       (λ f q u r. absurd (omega arith))
       (λ f q u r. which-active (s .txns) b (in-place (s .clock) (s .txns) g b q) q r))
-      (λ d p. update-elim (λ y. Live y → y .number < s .txns a .number → rank (y .phase) < 6 → Among (y .number) (s .txns a .snapshot .active)) (s .txns) i (newTxn s) b
+      (λ d p. update-elim (λ y. Live y → y .number < s .txns a .number → rank (y .phase) < phaseEnded → Among (y .number) (s .txns a .snapshot .active)) (s .txns) i (newTxn s) b
       (λ f q u r. absurd (omega (arith, g .below a)))
       (λ f q u r. g .knows a b p q u r))
 
@@ -155,7 +155,7 @@ module _ (s : Store) (i : ℕ) (g : Numbers (s .clock) (s .txns)) (l : i < mostL
     clock-pos = omega arith;
     below = λ j. update-elim (λ y. y .number < suc (s .clock)) (s .txns) i (newTxn s) j (λ e. omega arith) (λ d. omega (arith, g .below j));
     beyond = λ j h. update-elim (λ y. y .number ≡ 0) (s .txns) i (newTxn s) j (λ e. absurd (omega arith)) (λ d. g .beyond j h);
-    idle = λ j. update-elim (λ y. y .number ≡ 0 → rank (y .phase) ≡ 1) (s .txns) i (newTxn s) j (λ e q. refl) (λ d q. g .idle j q);
+    idle = λ j. update-elim (λ y. y .number ≡ 0 → rank (y .phase) ≡ phaseOpen) (s .txns) i (newTxn s) j (λ e q. refl) (λ d q. g .idle j q);
     distinct = begun-distinct;
     snapped = λ j. update-elim (λ y. Live y → Snapped (y .number) (y .snapshot)) (s .txns) i (newTxn s) j (λ e q. new-snapped) (λ d q. g .snapped j q);
     knows = begun-knows;

@@ -12,7 +12,7 @@ use lib.Seq.{take-at, drop-at}
 use Rattle.base_limits.specs.Limits.{mostLive}
 use Rattle.base_lists.specs.Table.{cond-elim}
 use Rattle.base_lists.proofs.ListLaws.{first-free}
-use Rattle.model.specs.Store.{Store}
+use Rattle.model.specs.Store.{Store, phaseOpen}
 use Rattle.model.specs.Steps.{stale}
 use Rattle.model.specs.Refusals.{Refusal, WrongSize, NoNumbers, Full, NoSuch, WrongPhase, NoRow, Taken, Stale, Marked, ManyReads, NoRoom, ManyRecords, ManyWrites, NoVersions, Conflict, Malformed, WrongShape, Step, begin, capture, collect, rows, put, erase, prepare, install, end, publish, validate, abort, txnOf, checks, refusal, liveCount, placeOf}
 use Rattle.model.specs.Shape.{rightShape}
@@ -84,11 +84,11 @@ lent-rest rs lent = drop-at rs (drop (length rs) lent) (length rs) refl
 -- the two kinds of 8: the mark, and a stale stamp
 marked-answer : (s : Store) (t k : ℕ) → Ready s (capture t k) → txnOf s t .marked ≡ true → step s (capture t k) .answer ≡ Refused Marked
 unfolding step stepIn carried checks refusal
-marked-answer s t k r m = rw (r .0, lives-test s t .if-no (r .1), in-phase s t 1 .if-yes (r .2), m)
+marked-answer s t k r m = rw (r .0, lives-test s t .if-no (r .1), in-phase s t phaseOpen .if-yes (r .2), m)
 
 stale-answer : (s : Store) (t k : ℕ) → Ready s (capture t k) → (txnOf s t .marked ≡ false) and Free (s .held .holder) t (bucketFor s k) and (t ≤ stampFor s k) → step s (capture t k) .answer ≡ Refused Stale
 unfolding step stepIn carried checks refusal
-stale-answer s t k r p = rw (r .0, lives-test s t .if-no (r .1), in-phase s t 1 .if-yes (r .2), p .0, another (s .held .holder) (txnOf s t .number) t (bucketFor s k) (lives-number s t (r .1)) .if-no (p .1 .0), stale-test s t k (r .1) .if-yes (p .1 .1))
+stale-answer s t k r p = rw (r .0, lives-test s t .if-no (r .1), in-phase s t phaseOpen .if-yes (r .2), p .0, another (s .held .holder) (txnOf s t .number) t (bucketFor s k) (lives-number s t (r .1)) .if-no (p .1 .0), stale-test s t k (r .1) .if-yes (p .1 .1))
 
 pub capture-marked : (s : Store) (t k : ℕ) → step s (capture t k) .answer ≡ Refused Marked ↔ Ready s (capture t k) and (txnOf s t .marked ≡ true)
 capture-marked s t k = (λ e. let w = capture-8 s t k .0 (ap answerNumber e) in (w .0, ⊎-elim (λ m. m) (λ p. absurd (apart (stale-answer s t k (w .0) p) e)) (w .1)), λ w. marked-answer s t k (w .0) (w .1))

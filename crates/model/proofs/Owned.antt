@@ -11,7 +11,7 @@ use borrow.Author.Tests.{eqb-true, eqb-false}
 use Rattle.base_lists.specs.Table.{update, updateAll, update-elim, update-same, update-other, updateAll-elim, cond-elim}
 use Rattle.base_lists.specs.Lists.{Among}
 use Rattle.base_lists.proofs.ListLaws.{member-among, among-member}
-use Rattle.model.specs.Store.{Txn, noTxn, rank}
+use Rattle.model.specs.Store.{Txn, noTxn, rank, phaseHolding}
 use Rattle.model.specs.Steps.{release}
 use Rattle.model.specs.Refusals.{byAnother}
 use Rattle.model.specs.Seeing.{Live}
@@ -42,7 +42,7 @@ owned-wants U W h t to from g = record {
   owner = λ b nz. let o = g .owner b nz in (o .0, o .1, to (o .0) b (o .2));
 }
 
-module _ (W : Txn → ℕ → Type 0) (busy : (y : Txn) (b : ℕ) → W y b → 2 ≤ rank (y .phase)) (h : ℕ → ℕ) (clock : ℕ) (t : ℕ → Txn) (n : Numbers clock t) (g : Owned W h t) where
+module _ (W : Txn → ℕ → Type 0) (busy : (y : Txn) (b : ℕ) → W y b → phaseHolding ≤ rank (y .phase)) (h : ℕ → ℕ) (clock : ℕ) (t : ℕ → Txn) (n : Numbers clock t) (g : Owned W h t) where
   pub wanter : (j b : ℕ) → W (t j) b → Live (t j)
   wanter j b w = elim (ℕ-discrete (t j .number) 0) [ yes e ↦ absurd (omega (arith, n .idle j e, busy (t j) b w)) | no d ↦ omega arith ]
 

@@ -10,7 +10,7 @@ use lib.Dec.{ltb}
 use borrow.Author.Tests.{ltb-true}
 use Rattle.base_limits.specs.Limits.{mostLive}
 use Rattle.base_lists.specs.Lists.{Among}
-use Rattle.model.specs.Store.{Sizes, Store, Collected, fresh, rank}
+use Rattle.model.specs.Store.{Sizes, Store, Collected, fresh, rank, phasePrepared, phaseInstalled}
 use Rattle.model.specs.Verdict.{Clear, Mark}
 use Rattle.model.specs.Refusals.{Step, begin, capture, collect, rows, put, erase, prepare, install, end, publish, validate, abort, txnOf}
 use Rattle.model.specs.Seeing.{Live, seen, shows, snapshotNow}
@@ -107,7 +107,7 @@ abbrev pub s₈ : Store
 s₈ = run (step s₆ (prepare 3) .store) (meanwhile ++ (install 3 ∷ []))
 
 -- the premises of kept-heads, at a store where 3 is Prepared and at one where it is Installed, and what it says there: row 2 alone gets a version
-pub met-heads : (number s₆ (prepare 3) ≡ 0) × Lives s₇ 3 × (rank (txnOf s₇ 3 .phase) ≡ 4) × Lives s₈ 3 × (rank (txnOf s₈ 3 .phase) ≡ 5)
+pub met-heads : (number s₆ (prepare 3) ≡ 0) × Lives s₇ 3 × (rank (txnOf s₇ 3 .phase) ≡ phasePrepared) × Lives s₈ 3 × (rank (txnOf s₈ 3 .phase) ≡ phaseInstalled)
     × (versionRows (s₆ .sizes) (s₆ .chains) (txnOf s₆ 3 .writes) ≡ 2 ∷ []) × (versionRows (s₇ .sizes) (s₇ .chains) (txnOf s₇ 3 .writes) ≡ 2 ∷ []) × (madeRows (s₈ .sizes) (s₈ .chains) 3 (txnOf s₈ 3 .writes) ≡ 2 ∷ [])
     × (s₆ .chains .used ≡ 1) × (s₇ .chains .used ≡ 2) × (s₈ .chains .used ≡ 3)
 unfolding computes
@@ -137,16 +137,16 @@ unfolding computes
 met-nothing = (refl, (0, omega arith, refl, omega arith), each-empty, refl)
 
 -- the premise of kept-history's snapshots: in s₁ transaction 3 is live, and no version of row 2 waits for its publish
-none-late : (w : ℕ) → w < mostLive → ltb (rank (s₁ .txns w .phase)) 5 ≡ true
+none-late : (w : ℕ) → w < mostLive → ltb (rank (s₁ .txns w .phase)) phaseInstalled ≡ true
 unfolding computes
-none-late = each-below mostLive (λ w. ltb (rank (s₁ .txns w .phase)) 5) refl
+none-late = each-below mostLive (λ w. ltb (rank (s₁ .txns w .phase)) phaseInstalled) refl
 
 numbered : s₁ .txns 0 .number ≡ 3
 unfolding computes
 numbered = refl
 
 pub met-snapshot : Live (s₁ .txns 0) × ((w : ℕ) → Unpublished (s₁ .sizes) (s₁ .chains) (s₁ .txns w) 2 → seen (s₁ .txns 0 .snapshot) (s₁ .chains .xmin (s₁ .chains .head 2)) ≡ false)
-met-snapshot = (omega (arith, numbered), λ w u. absurd (omega (arith, u .1, ltb-true (rank (s₁ .txns w .phase)) 5 (none-late w (in-place _ _ (opened-good sizes 1 before opened (omega arith) .numbers) w (u .0))))))
+met-snapshot = (omega (arith, numbered), λ w u. absurd (omega (arith, u .1, ltb-true (rank (s₁ .txns w .phase)) phaseInstalled (none-late w (in-place _ _ (opened-good sizes 1 before opened (omega arith) .numbers) w (u .0))))))
   where
     opened : canOpen sizes 1 ≡ true
     opened = met .0

@@ -8,7 +8,7 @@ use native.Mathlib.Omega.{arith}
 use lib.ListN.{length}
 use Rattle.base_limits.specs.Limits.{mostRows, mostVersions, mostBuckets, mostLive, mostRecords, mostWrites, lastNumber}
 use Rattle.base_lists.specs.Lists.{all-of, Among}
-use Rattle.model.specs.Store.{Sizes, Store}
+use Rattle.model.specs.Store.{Sizes, Store, phaseOpen, phaseHolding, phaseCollected, phasePrepared, phaseInstalled, phaseEnded}
 use Rattle.model.specs.Steps.{foundRows, recordsAfter, readBuckets, neededBuckets}
 use Rattle.model.specs.Refusals.{Step, begin, capture, collect, rows, put, erase, prepare, install, end, publish, validate, abort, txnOf, liveCount, versionsAfter, checks}
 use Rattle.model.specs.Shape.{rightShape}
@@ -55,32 +55,32 @@ every-16 s a = rw (number-is s a) (stop 16 _ _ _ (shape-test s) (omega arith) (n
 pub every-4 : (s : Store) (a : Step) → Names a → number s a ≡ 4 ↔ Shaped s and (Lives s (actor a) → ⊥)
 unfolding checks all-of
 every-4 s begin no-name = absurd no-name
-every-4 s (capture t k) named = rw (number-is s (capture t k)) (unknown s (capture t k) _ _ (in-phase s t 1) refl)
-every-4 s (collect t) named = rw (number-is s (collect t)) (unknown s (collect t) _ _ (in-phase s t 2) refl)
-every-4 s (rows t room) named = rw (number-is s (rows t room)) (unknown s (rows t room) _ _ (in-phase s t 3) refl)
-every-4 s (put t r k payload) named = rw (number-is s (put t r k payload)) (unknown s (put t r k payload) _ _ (in-phase s t 1) refl)
-every-4 s (erase t r) named = rw (number-is s (erase t r)) (unknown s (erase t r) _ _ (in-phase s t 1) refl)
-every-4 s (prepare t) named = rw (number-is s (prepare t)) (unknown s (prepare t) _ _ (in-phase s t 1) refl)
-every-4 s (install t) named = rw (number-is s (install t)) (unknown s (install t) _ _ (in-phase s t 4) refl)
-every-4 s (end t) named = rw (number-is s (end t)) (unknown s (end t) _ _ (in-phase s t 5) refl)
-every-4 s (publish t) named = rw (number-is s (publish t)) (unknown s (publish t) _ _ (in-phase s t 6) refl)
-every-4 s (validate t) named = rw (number-is s (validate t)) (unknown s (validate t) _ _ (in-phase s t 1) refl)
+every-4 s (capture t k) named = rw (number-is s (capture t k)) (unknown s (capture t k) _ _ (in-phase s t phaseOpen) refl)
+every-4 s (collect t) named = rw (number-is s (collect t)) (unknown s (collect t) _ _ (in-phase s t phaseHolding) refl)
+every-4 s (rows t room) named = rw (number-is s (rows t room)) (unknown s (rows t room) _ _ (in-phase s t phaseCollected) refl)
+every-4 s (put t r k payload) named = rw (number-is s (put t r k payload)) (unknown s (put t r k payload) _ _ (in-phase s t phaseOpen) refl)
+every-4 s (erase t r) named = rw (number-is s (erase t r)) (unknown s (erase t r) _ _ (in-phase s t phaseOpen) refl)
+every-4 s (prepare t) named = rw (number-is s (prepare t)) (unknown s (prepare t) _ _ (in-phase s t phaseOpen) refl)
+every-4 s (install t) named = rw (number-is s (install t)) (unknown s (install t) _ _ (in-phase s t phasePrepared) refl)
+every-4 s (end t) named = rw (number-is s (end t)) (unknown s (end t) _ _ (in-phase s t phaseInstalled) refl)
+every-4 s (publish t) named = rw (number-is s (publish t)) (unknown s (publish t) _ _ (in-phase s t phaseEnded) refl)
+every-4 s (validate t) named = rw (number-is s (validate t)) (unknown s (validate t) _ _ (in-phase s t phaseOpen) refl)
 every-4 s (abort t) named = rw (number-is s (abort t)) (unknown s (abort t) _ _ (early s t) refl)
 
 -- 5: wrong phase
 pub every-5 : (s : Store) (a : Step) → Names a → number s a ≡ 5 ↔ Shaped s and Lives s (actor a) and (RightPhase s a → ⊥)
 unfolding checks all-of
 every-5 s begin no-name = absurd no-name
-every-5 s (capture t k) named = rw (number-is s (capture t k)) (wrong-phase s (capture t k) _ _ (in-phase s t 1) refl)
-every-5 s (collect t) named = rw (number-is s (collect t)) (wrong-phase s (collect t) _ _ (in-phase s t 2) refl)
-every-5 s (rows t room) named = rw (number-is s (rows t room)) (wrong-phase s (rows t room) _ _ (in-phase s t 3) refl)
-every-5 s (put t r k payload) named = rw (number-is s (put t r k payload)) (wrong-phase s (put t r k payload) _ _ (in-phase s t 1) refl)
-every-5 s (erase t r) named = rw (number-is s (erase t r)) (wrong-phase s (erase t r) _ _ (in-phase s t 1) refl)
-every-5 s (prepare t) named = rw (number-is s (prepare t)) (wrong-phase s (prepare t) _ _ (in-phase s t 1) refl)
-every-5 s (install t) named = rw (number-is s (install t)) (wrong-phase s (install t) _ _ (in-phase s t 4) refl)
-every-5 s (end t) named = rw (number-is s (end t)) (wrong-phase s (end t) _ _ (in-phase s t 5) refl)
-every-5 s (publish t) named = rw (number-is s (publish t)) (wrong-phase s (publish t) _ _ (in-phase s t 6) refl)
-every-5 s (validate t) named = rw (number-is s (validate t)) (wrong-phase s (validate t) _ _ (in-phase s t 1) refl)
+every-5 s (capture t k) named = rw (number-is s (capture t k)) (wrong-phase s (capture t k) _ _ (in-phase s t phaseOpen) refl)
+every-5 s (collect t) named = rw (number-is s (collect t)) (wrong-phase s (collect t) _ _ (in-phase s t phaseHolding) refl)
+every-5 s (rows t room) named = rw (number-is s (rows t room)) (wrong-phase s (rows t room) _ _ (in-phase s t phaseCollected) refl)
+every-5 s (put t r k payload) named = rw (number-is s (put t r k payload)) (wrong-phase s (put t r k payload) _ _ (in-phase s t phaseOpen) refl)
+every-5 s (erase t r) named = rw (number-is s (erase t r)) (wrong-phase s (erase t r) _ _ (in-phase s t phaseOpen) refl)
+every-5 s (prepare t) named = rw (number-is s (prepare t)) (wrong-phase s (prepare t) _ _ (in-phase s t phaseOpen) refl)
+every-5 s (install t) named = rw (number-is s (install t)) (wrong-phase s (install t) _ _ (in-phase s t phasePrepared) refl)
+every-5 s (end t) named = rw (number-is s (end t)) (wrong-phase s (end t) _ _ (in-phase s t phaseInstalled) refl)
+every-5 s (publish t) named = rw (number-is s (publish t)) (wrong-phase s (publish t) _ _ (in-phase s t phaseEnded) refl)
+every-5 s (validate t) named = rw (number-is s (validate t)) (wrong-phase s (validate t) _ _ (in-phase s t phaseOpen) refl)
 every-5 s (abort t) named = rw (number-is s (abort t)) (wrong-phase s (abort t) _ _ (early s t) refl)
 
 -- begin: 3 where 8 are live, then 2 where numbers run out
@@ -99,108 +99,108 @@ begin-0 s = rw (number-is s begin) (skip 0 _ _ _ (shape-test s) (omega arith) (�
 -- capture: 8 by the mark, 7, 8 by a stale stamp, 9
 pub capture-8 : (s : Store) (t k : ℕ) → number s (capture t k) ≡ 8 ↔ Ready s (capture t k) and ((txnOf s t .marked ≡ true) ⊎ ((txnOf s t .marked ≡ false) and Free (s .held .holder) t (bucketFor s k) and (t ≤ stampFor s k)))
 unfolding checks all-of
-capture-8 s t k = rw (number-is s (capture t k)) (past 8 s (capture t k) _ _ (omega arith) (in-phase s t 1) (λ l. stop-or 8 _ _ _ (itself (txnOf s t .marked)) refl (λ m. skip 8 _ _ _ (another (s .held .holder) (txnOf s t .number) t (bucketFor s k) (lives-number s t l)) (omega arith) (λ f. stop 8 _ _ _ (stale-test s t k l) (omega arith) refl))))
+capture-8 s t k = rw (number-is s (capture t k)) (past 8 s (capture t k) _ _ (omega arith) (in-phase s t phaseOpen) (λ l. stop-or 8 _ _ _ (itself (txnOf s t .marked)) refl (λ m. skip 8 _ _ _ (another (s .held .holder) (txnOf s t .number) t (bucketFor s k) (lives-number s t l)) (omega arith) (λ f. stop 8 _ _ _ (stale-test s t k l) (omega arith) refl))))
 
 pub capture-7 : (s : Store) (t k : ℕ) → number s (capture t k) ≡ 7 ↔ Ready s (capture t k) and (txnOf s t .marked ≡ false) and ByAnother (s .held .holder) t (bucketFor s k)
 unfolding checks all-of
-capture-7 s t k = rw (number-is s (capture t k)) (past 7 s (capture t k) _ _ (omega arith) (in-phase s t 1) (λ l. skip 7 _ _ _ (itself (txnOf s t .marked)) (omega arith) (λ m. stop 7 _ _ _ (another (s .held .holder) (txnOf s t .number) t (bucketFor s k) (lives-number s t l)) (omega arith) refl)))
+capture-7 s t k = rw (number-is s (capture t k)) (past 7 s (capture t k) _ _ (omega arith) (in-phase s t phaseOpen) (λ l. skip 7 _ _ _ (itself (txnOf s t .marked)) (omega arith) (λ m. stop 7 _ _ _ (another (s .held .holder) (txnOf s t .number) t (bucketFor s k) (lives-number s t l)) (omega arith) refl)))
 
 pub capture-9 : (s : Store) (t k : ℕ) → number s (capture t k) ≡ 9 ↔ Ready s (capture t k) and (txnOf s t .marked ≡ false) and Free (s .held .holder) t (bucketFor s k) and (stampFor s k < t) and Seventeenth s t k
 unfolding checks all-of
-capture-9 s t k = rw (number-is s (capture t k)) (past 9 s (capture t k) _ _ (omega arith) (in-phase s t 1) (λ l. skip 9 _ _ _ (itself (txnOf s t .marked)) (omega arith) (λ m. skip 9 _ _ _ (another (s .held .holder) (txnOf s t .number) t (bucketFor s k) (lives-number s t l)) (omega arith) (λ f. skip 9 _ _ _ (stale-test s t k l) (omega arith) (λ d. stop 9 _ _ _ (read-test s t k) (omega arith) refl)))))
+capture-9 s t k = rw (number-is s (capture t k)) (past 9 s (capture t k) _ _ (omega arith) (in-phase s t phaseOpen) (λ l. skip 9 _ _ _ (itself (txnOf s t .marked)) (omega arith) (λ m. skip 9 _ _ _ (another (s .held .holder) (txnOf s t .number) t (bucketFor s k) (lives-number s t l)) (omega arith) (λ f. skip 9 _ _ _ (stale-test s t k l) (omega arith) (λ d. stop 9 _ _ _ (read-test s t k) (omega arith) refl)))))
 
 pub capture-0 : (s : Store) (t k : ℕ) → number s (capture t k) ≡ 0 ↔ Ready s (capture t k) and (txnOf s t .marked ≡ false) and Free (s .held .holder) t (bucketFor s k) and (stampFor s k < t) and RoomForRead s t k
 unfolding checks all-of
-capture-0 s t k = rw (number-is s (capture t k)) (past 0 s (capture t k) _ _ (omega arith) (in-phase s t 1) (λ l. skip 0 _ _ _ (itself (txnOf s t .marked)) (omega arith) (λ m. skip 0 _ _ _ (another (s .held .holder) (txnOf s t .number) t (bucketFor s k) (lives-number s t l)) (omega arith) (λ f. skip 0 _ _ _ (stale-test s t k l) (omega arith) (λ d. pass _ _ (read-test s t k) (omega arith))))))
+capture-0 s t k = rw (number-is s (capture t k)) (past 0 s (capture t k) _ _ (omega arith) (in-phase s t phaseOpen) (λ l. skip 0 _ _ _ (itself (txnOf s t .marked)) (omega arith) (λ m. skip 0 _ _ _ (another (s .held .holder) (txnOf s t .number) t (bucketFor s k) (lives-number s t l)) (omega arith) (λ f. skip 0 _ _ _ (stale-test s t k l) (omega arith) (λ d. pass _ _ (read-test s t k) (omega arith))))))
 
 -- rows: 10 where the lent list is shorter than the matches, then 11
 pub rows-10 : (s : Store) (t room : ℕ) → number s (rows t room) ≡ 10 ↔ Ready s (rows t room) and (min room mostRows < length (foundRows s (txnOf s t)))
 unfolding checks all-of
-rows-10 s t room = rw (number-is s (rows t room)) (past 10 s (rows t room) _ _ (omega arith) (in-phase s t 3) (λ l. stop 10 _ _ _ (less (min room mostRows) (length (foundRows s (txnOf s t)))) (omega arith) refl))
+rows-10 s t room = rw (number-is s (rows t room)) (past 10 s (rows t room) _ _ (omega arith) (in-phase s t phaseCollected) (λ l. stop 10 _ _ _ (less (min room mostRows) (length (foundRows s (txnOf s t)))) (omega arith) refl))
 
 pub rows-11 : (s : Store) (t room : ℕ) → number s (rows t room) ≡ 11 ↔ Ready s (rows t room) and (length (foundRows s (txnOf s t)) ≤ min room mostRows) and (mostRecords < length (recordsAfter s (txnOf s t)))
 unfolding checks all-of
-rows-11 s t room = rw (number-is s (rows t room)) (past 11 s (rows t room) _ _ (omega arith) (in-phase s t 3) (λ l. skip 11 _ _ _ (less (min room mostRows) (length (foundRows s (txnOf s t)))) (omega arith) (λ f. stop 11 _ _ _ (less mostRecords (length (recordsAfter s (txnOf s t)))) (omega arith) refl)))
+rows-11 s t room = rw (number-is s (rows t room)) (past 11 s (rows t room) _ _ (omega arith) (in-phase s t phaseCollected) (λ l. skip 11 _ _ _ (less (min room mostRows) (length (foundRows s (txnOf s t)))) (omega arith) (λ f. stop 11 _ _ _ (less mostRecords (length (recordsAfter s (txnOf s t)))) (omega arith) refl)))
 
 pub rows-0 : (s : Store) (t room : ℕ) → number s (rows t room) ≡ 0 ↔ Ready s (rows t room) and (length (foundRows s (txnOf s t)) ≤ min room mostRows) and (length (recordsAfter s (txnOf s t)) ≤ mostRecords)
 unfolding checks all-of
-rows-0 s t room = rw (number-is s (rows t room)) (past 0 s (rows t room) _ _ (omega arith) (in-phase s t 3) (λ l. skip 0 _ _ _ (less (min room mostRows) (length (foundRows s (txnOf s t)))) (omega arith) (λ f. pass _ _ (less mostRecords (length (recordsAfter s (txnOf s t)))) (omega arith))))
+rows-0 s t room = rw (number-is s (rows t room)) (past 0 s (rows t room) _ _ (omega arith) (in-phase s t phaseCollected) (λ l. skip 0 _ _ _ (less (min room mostRows) (length (foundRows s (txnOf s t)))) (omega arith) (λ f. pass _ _ (less mostRecords (length (recordsAfter s (txnOf s t)))) (omega arith))))
 
 -- put, erase: 8 by the mark, then 6 where the row is not below the row count, then 12 for a 17th pending write
 pub put-8 : (s : Store) (t r k payload : ℕ) → number s (put t r k payload) ≡ 8 ↔ Ready s (put t r k payload) and (txnOf s t .marked ≡ true)
 unfolding checks all-of
-put-8 s t r k payload = rw (number-is s (put t r k payload)) (past 8 s (put t r k payload) _ _ (omega arith) (in-phase s t 1) (λ l. stop 8 _ _ _ (itself (txnOf s t .marked)) (omega arith) refl))
+put-8 s t r k payload = rw (number-is s (put t r k payload)) (past 8 s (put t r k payload) _ _ (omega arith) (in-phase s t phaseOpen) (λ l. stop 8 _ _ _ (itself (txnOf s t .marked)) (omega arith) refl))
 
 pub put-6 : (s : Store) (t r k payload : ℕ) → number s (put t r k payload) ≡ 6 ↔ Ready s (put t r k payload) and (txnOf s t .marked ≡ false) and (s .sizes .rows ≤ r)
 unfolding checks all-of
-put-6 s t r k payload = rw (number-is s (put t r k payload)) (past 6 s (put t r k payload) _ _ (omega arith) (in-phase s t 1) (λ l. skip 6 _ _ _ (itself (txnOf s t .marked)) (omega arith) (λ m. stop 6 _ _ _ (opposite (less r (s .sizes .rows))) (omega arith) refl)))
+put-6 s t r k payload = rw (number-is s (put t r k payload)) (past 6 s (put t r k payload) _ _ (omega arith) (in-phase s t phaseOpen) (λ l. skip 6 _ _ _ (itself (txnOf s t .marked)) (omega arith) (λ m. stop 6 _ _ _ (opposite (less r (s .sizes .rows))) (omega arith) refl)))
 
 pub put-12 : (s : Store) (t r k payload : ℕ) → number s (put t r k payload) ≡ 12 ↔ Ready s (put t r k payload) and (txnOf s t .marked ≡ false) and (r < s .sizes .rows) and (mostWrites ≤ length (txnOf s t .writes))
 unfolding checks all-of
-put-12 s t r k payload = rw (number-is s (put t r k payload)) (past 12 s (put t r k payload) _ _ (omega arith) (in-phase s t 1) (λ l. skip 12 _ _ _ (itself (txnOf s t .marked)) (omega arith) (λ m. skip 12 _ _ _ (opposite (less r (s .sizes .rows))) (omega arith) (λ i. stop 12 _ _ _ (at-most mostWrites (length (txnOf s t .writes))) (omega arith) refl))))
+put-12 s t r k payload = rw (number-is s (put t r k payload)) (past 12 s (put t r k payload) _ _ (omega arith) (in-phase s t phaseOpen) (λ l. skip 12 _ _ _ (itself (txnOf s t .marked)) (omega arith) (λ m. skip 12 _ _ _ (opposite (less r (s .sizes .rows))) (omega arith) (λ i. stop 12 _ _ _ (at-most mostWrites (length (txnOf s t .writes))) (omega arith) refl))))
 
 pub put-0 : (s : Store) (t r k payload : ℕ) → number s (put t r k payload) ≡ 0 ↔ Ready s (put t r k payload) and (txnOf s t .marked ≡ false) and (r < s .sizes .rows) and (length (txnOf s t .writes) < mostWrites)
 unfolding checks all-of
-put-0 s t r k payload = rw (number-is s (put t r k payload)) (past 0 s (put t r k payload) _ _ (omega arith) (in-phase s t 1) (λ l. skip 0 _ _ _ (itself (txnOf s t .marked)) (omega arith) (λ m. skip 0 _ _ _ (opposite (less r (s .sizes .rows))) (omega arith) (λ i. pass _ _ (at-most mostWrites (length (txnOf s t .writes))) (omega arith)))))
+put-0 s t r k payload = rw (number-is s (put t r k payload)) (past 0 s (put t r k payload) _ _ (omega arith) (in-phase s t phaseOpen) (λ l. skip 0 _ _ _ (itself (txnOf s t .marked)) (omega arith) (λ m. skip 0 _ _ _ (opposite (less r (s .sizes .rows))) (omega arith) (λ i. pass _ _ (at-most mostWrites (length (txnOf s t .writes))) (omega arith)))))
 
 pub erase-8 : (s : Store) (t r : ℕ) → number s (erase t r) ≡ 8 ↔ Ready s (erase t r) and (txnOf s t .marked ≡ true)
 unfolding checks all-of
-erase-8 s t r = rw (number-is s (erase t r)) (past 8 s (erase t r) _ _ (omega arith) (in-phase s t 1) (λ l. stop 8 _ _ _ (itself (txnOf s t .marked)) (omega arith) refl))
+erase-8 s t r = rw (number-is s (erase t r)) (past 8 s (erase t r) _ _ (omega arith) (in-phase s t phaseOpen) (λ l. stop 8 _ _ _ (itself (txnOf s t .marked)) (omega arith) refl))
 
 pub erase-6 : (s : Store) (t r : ℕ) → number s (erase t r) ≡ 6 ↔ Ready s (erase t r) and (txnOf s t .marked ≡ false) and (s .sizes .rows ≤ r)
 unfolding checks all-of
-erase-6 s t r = rw (number-is s (erase t r)) (past 6 s (erase t r) _ _ (omega arith) (in-phase s t 1) (λ l. skip 6 _ _ _ (itself (txnOf s t .marked)) (omega arith) (λ m. stop 6 _ _ _ (opposite (less r (s .sizes .rows))) (omega arith) refl)))
+erase-6 s t r = rw (number-is s (erase t r)) (past 6 s (erase t r) _ _ (omega arith) (in-phase s t phaseOpen) (λ l. skip 6 _ _ _ (itself (txnOf s t .marked)) (omega arith) (λ m. stop 6 _ _ _ (opposite (less r (s .sizes .rows))) (omega arith) refl)))
 
 pub erase-12 : (s : Store) (t r : ℕ) → number s (erase t r) ≡ 12 ↔ Ready s (erase t r) and (txnOf s t .marked ≡ false) and (r < s .sizes .rows) and (mostWrites ≤ length (txnOf s t .writes))
 unfolding checks all-of
-erase-12 s t r = rw (number-is s (erase t r)) (past 12 s (erase t r) _ _ (omega arith) (in-phase s t 1) (λ l. skip 12 _ _ _ (itself (txnOf s t .marked)) (omega arith) (λ m. skip 12 _ _ _ (opposite (less r (s .sizes .rows))) (omega arith) (λ i. stop 12 _ _ _ (at-most mostWrites (length (txnOf s t .writes))) (omega arith) refl))))
+erase-12 s t r = rw (number-is s (erase t r)) (past 12 s (erase t r) _ _ (omega arith) (in-phase s t phaseOpen) (λ l. skip 12 _ _ _ (itself (txnOf s t .marked)) (omega arith) (λ m. skip 12 _ _ _ (opposite (less r (s .sizes .rows))) (omega arith) (λ i. stop 12 _ _ _ (at-most mostWrites (length (txnOf s t .writes))) (omega arith) refl))))
 
 pub erase-0 : (s : Store) (t r : ℕ) → number s (erase t r) ≡ 0 ↔ Ready s (erase t r) and (txnOf s t .marked ≡ false) and (r < s .sizes .rows) and (length (txnOf s t .writes) < mostWrites)
 unfolding checks all-of
-erase-0 s t r = rw (number-is s (erase t r)) (past 0 s (erase t r) _ _ (omega arith) (in-phase s t 1) (λ l. skip 0 _ _ _ (itself (txnOf s t .marked)) (omega arith) (λ m. skip 0 _ _ _ (opposite (less r (s .sizes .rows))) (omega arith) (λ i. pass _ _ (at-most mostWrites (length (txnOf s t .writes))) (omega arith)))))
+erase-0 s t r = rw (number-is s (erase t r)) (past 0 s (erase t r) _ _ (omega arith) (in-phase s t phaseOpen) (λ l. skip 0 _ _ _ (itself (txnOf s t .marked)) (omega arith) (λ m. skip 0 _ _ _ (opposite (less r (s .sizes .rows))) (omega arith) (λ i. pass _ _ (at-most mostWrites (length (txnOf s t .writes))) (omega arith)))))
 
 -- prepare: 7 where a needed bucket or a pending row is another's, 14 where the verdict is not 0, 13 where versions run out
 pub prepare-7 : (s : Store) (t : ℕ) → number s (prepare t) ≡ 7 ↔ Ready s (prepare t) and (BucketTaken s t (neededBuckets s (txnOf s t)) ⊎ RowTaken s t)
 unfolding checks all-of
-prepare-7 s t = rw (number-is s (prepare t)) (past 7 s (prepare t) _ _ (omega arith) (in-phase s t 1) (λ l. stop 7 _ _ _ (either (bucket-taken s t (neededBuckets s (txnOf s t)) l) (row-taken s t l)) (omega arith) refl))
+prepare-7 s t = rw (number-is s (prepare t)) (past 7 s (prepare t) _ _ (omega arith) (in-phase s t phaseOpen) (λ l. stop 7 _ _ _ (either (bucket-taken s t (neededBuckets s (txnOf s t)) l) (row-taken s t l)) (omega arith) refl))
 
 pub prepare-14 : (s : Store) (t : ℕ) → number s (prepare t) ≡ 14 ↔ Ready s (prepare t) and (BucketsFree s t (neededBuckets s (txnOf s t)) × RowsFree s t) and (verdictOf s t ≢ 0)
 unfolding checks all-of
-prepare-14 s t = rw (number-is s (prepare t)) (past 14 s (prepare t) _ _ (omega arith) (in-phase s t 1) (λ l. skip 14 _ _ _ (either (bucket-taken s t (neededBuckets s (txnOf s t)) l) (row-taken s t l)) (omega arith) (λ f. stop 14 _ _ _ (opposite (equal (verdictOf s t) 0)) (omega arith) refl)))
+prepare-14 s t = rw (number-is s (prepare t)) (past 14 s (prepare t) _ _ (omega arith) (in-phase s t phaseOpen) (λ l. skip 14 _ _ _ (either (bucket-taken s t (neededBuckets s (txnOf s t)) l) (row-taken s t l)) (omega arith) (λ f. stop 14 _ _ _ (opposite (equal (verdictOf s t) 0)) (omega arith) refl)))
 
 pub prepare-13 : (s : Store) (t : ℕ) → number s (prepare t) ≡ 13 ↔ Ready s (prepare t) and (BucketsFree s t (neededBuckets s (txnOf s t)) × RowsFree s t) and (verdictOf s t ≡ 0) and (s .sizes .versions < versionsAfter s (txnOf s t))
 unfolding checks all-of
-prepare-13 s t = rw (number-is s (prepare t)) (past 13 s (prepare t) _ _ (omega arith) (in-phase s t 1) (λ l. skip 13 _ _ _ (either (bucket-taken s t (neededBuckets s (txnOf s t)) l) (row-taken s t l)) (omega arith) (λ f. skip 13 _ _ _ (opposite (equal (verdictOf s t) 0)) (omega arith) (λ v. stop 13 _ _ _ (less (s .sizes .versions) (versionsAfter s (txnOf s t))) (omega arith) refl))))
+prepare-13 s t = rw (number-is s (prepare t)) (past 13 s (prepare t) _ _ (omega arith) (in-phase s t phaseOpen) (λ l. skip 13 _ _ _ (either (bucket-taken s t (neededBuckets s (txnOf s t)) l) (row-taken s t l)) (omega arith) (λ f. skip 13 _ _ _ (opposite (equal (verdictOf s t) 0)) (omega arith) (λ v. stop 13 _ _ _ (less (s .sizes .versions) (versionsAfter s (txnOf s t))) (omega arith) refl))))
 
 pub prepare-0 : (s : Store) (t : ℕ) → number s (prepare t) ≡ 0 ↔ Ready s (prepare t) and (BucketsFree s t (neededBuckets s (txnOf s t)) × RowsFree s t) and (verdictOf s t ≡ 0) and (versionsAfter s (txnOf s t) ≤ s .sizes .versions)
 unfolding checks all-of
-prepare-0 s t = rw (number-is s (prepare t)) (past 0 s (prepare t) _ _ (omega arith) (in-phase s t 1) (λ l. skip 0 _ _ _ (either (bucket-taken s t (neededBuckets s (txnOf s t)) l) (row-taken s t l)) (omega arith) (λ f. skip 0 _ _ _ (opposite (equal (verdictOf s t) 0)) (omega arith) (λ v. pass _ _ (less (s .sizes .versions) (versionsAfter s (txnOf s t))) (omega arith)))))
+prepare-0 s t = rw (number-is s (prepare t)) (past 0 s (prepare t) _ _ (omega arith) (in-phase s t phaseOpen) (λ l. skip 0 _ _ _ (either (bucket-taken s t (neededBuckets s (txnOf s t)) l) (row-taken s t l)) (omega arith) (λ f. skip 0 _ _ _ (opposite (equal (verdictOf s t) 0)) (omega arith) (λ v. pass _ _ (less (s .sizes .versions) (versionsAfter s (txnOf s t))) (omega arith)))))
 
 -- validate: 7 where a bucket of an index read is another's
 pub validate-7 : (s : Store) (t : ℕ) → number s (validate t) ≡ 7 ↔ Ready s (validate t) and BucketTaken s t (readBuckets (txnOf s t))
 unfolding checks all-of
-validate-7 s t = rw (number-is s (validate t)) (past 7 s (validate t) _ _ (omega arith) (in-phase s t 1) (λ l. stop 7 _ _ _ (bucket-taken s t (readBuckets (txnOf s t)) l) (omega arith) refl))
+validate-7 s t = rw (number-is s (validate t)) (past 7 s (validate t) _ _ (omega arith) (in-phase s t phaseOpen) (λ l. stop 7 _ _ _ (bucket-taken s t (readBuckets (txnOf s t)) l) (omega arith) refl))
 
 pub validate-0 : (s : Store) (t : ℕ) → number s (validate t) ≡ 0 ↔ Ready s (validate t) and BucketsFree s t (readBuckets (txnOf s t))
 unfolding checks all-of
-validate-0 s t = rw (number-is s (validate t)) (past 0 s (validate t) _ _ (omega arith) (in-phase s t 1) (λ l. pass _ _ (bucket-taken s t (readBuckets (txnOf s t)) l) (omega arith)))
+validate-0 s t = rw (number-is s (validate t)) (past 0 s (validate t) _ _ (omega arith) (in-phase s t phaseOpen) (λ l. pass _ _ (bucket-taken s t (readBuckets (txnOf s t)) l) (omega arith)))
 
 -- collect, install, end, publish, abort: nothing else is refused
 pub collect-0 : (s : Store) (t : ℕ) → number s (collect t) ≡ 0 ↔ Ready s (collect t)
 unfolding checks
-collect-0 s t = rw (number-is s (collect t)) (ready-only s (collect t) _ (in-phase s t 2))
+collect-0 s t = rw (number-is s (collect t)) (ready-only s (collect t) _ (in-phase s t phaseHolding))
 
 pub install-0 : (s : Store) (t : ℕ) → number s (install t) ≡ 0 ↔ Ready s (install t)
 unfolding checks
-install-0 s t = rw (number-is s (install t)) (ready-only s (install t) _ (in-phase s t 4))
+install-0 s t = rw (number-is s (install t)) (ready-only s (install t) _ (in-phase s t phasePrepared))
 
 pub end-0 : (s : Store) (t : ℕ) → number s (end t) ≡ 0 ↔ Ready s (end t)
 unfolding checks
-end-0 s t = rw (number-is s (end t)) (ready-only s (end t) _ (in-phase s t 5))
+end-0 s t = rw (number-is s (end t)) (ready-only s (end t) _ (in-phase s t phaseInstalled))
 
 pub publish-0 : (s : Store) (t : ℕ) → number s (publish t) ≡ 0 ↔ Ready s (publish t)
 unfolding checks
-publish-0 s t = rw (number-is s (publish t)) (ready-only s (publish t) _ (in-phase s t 6))
+publish-0 s t = rw (number-is s (publish t)) (ready-only s (publish t) _ (in-phase s t phaseEnded))
 
 pub abort-0 : (s : Store) (t : ℕ) → number s (abort t) ≡ 0 ↔ Ready s (abort t)
 unfolding checks

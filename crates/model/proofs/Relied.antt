@@ -9,7 +9,7 @@ use native.Mathlib.Omega.{arith}
 use native.Mathlib.Decide.{ℕ-discrete}
 use Rattle.base_lists.specs.Lists.{Among}
 use Rattle.base_lists.proofs.ListLaws.{is-false, among-map}
-use Rattle.model.specs.Store.{Sizes, Chains, Snapshot, IndexRead, Write, Txn, Store, rank, bucketOf}
+use Rattle.model.specs.Store.{Sizes, Chains, Snapshot, IndexRead, Write, Txn, Store, rank, phaseInstalled, phaseEnded, bucketOf}
 use Rattle.model.specs.Seeing.{seen, versionOf, keyAt, pending, recordOf, Live, snapshotNow}
 use Rattle.model.specs.Verdict.{badRecord}
 use Rattle.model.specs.Steps.{hasRead, readBuckets}
@@ -28,7 +28,7 @@ pub record Relied (z : Sizes) (c : Chains) (x : Txn) (k : ℕ) (ws : List Write)
   pub bucket-in : hasRead (x .reads) (bucketOf z k) ≡ true
   pub recorded-in : (r : ℕ) → r < z .rows → pending ws r ≡ false → keyAt c (versionOf c (x .snapshot) r) ≡ some k → Among (recordOf c (x .snapshot) r) (x .records)
 
-module _ (s : Store) (g : Good s) (i : ℕ) (l : Live (s .txns i)) (a : rank (s .txns i .phase) < 5) where
+module _ (s : Store) (g : Good s) (i : ℕ) (l : Live (s .txns i)) (a : rank (s .txns i .phase) < phaseInstalled) where
   -- what the transaction sees, a snapshot taken now sees too
   now-sees : (p : ℕ) → 1 ≤ p → p ≤ s .chains .used → seen (s .txns i .snapshot) (s .chains .xmin p) ≡ true → seen (snapshotNow s) (s .chains .xmin p) ≡ true
   unfolding snapshotNow
@@ -37,7 +37,7 @@ module _ (s : Store) (g : Good s) (i : ℕ) (l : Live (s .txns i)) (a : rank (s 
       sees : (s .chains .xmin p < s .txns i .snapshot .xmax) × (Among (s .chains .xmin p) (s .txns i .snapshot .active) → ⊥)
       sees = seen-which (s .txns i .snapshot) (s .chains .xmin p) e
 
-      running : (j : ℕ) → Live (s .txns j) → rank (s .txns j .phase) < 6 → s .chains .xmin p ≡ s .txns j .number → ⊥
+      running : (j : ℕ) → Live (s .txns j) → rank (s .txns j .phase) < phaseEnded → s .chains .xmin p ≡ s .txns j .number → ⊥
       running j v r f = elim (ℕ-discrete (s .txns j .number) (s .txns i .number)) [
         | yes d ↦ omega (arith, rw (g .numbers .distinct j i v d) at (g .written .made p j lo hi v f .0))
         | no d ↦ sees .1 (rw (sym f) at (g .numbers .knows i j l v (omega (arith, sees .0, g .numbers .snapped i l .xmax-is)) r))
@@ -50,7 +50,7 @@ module _ (s : Store) (g : Good s) (i : ℕ) (l : Live (s .txns i)) (a : rank (s 
   own-seen : seen (s .txns i .snapshot) (s .txns i .number) ≡ true
   own-seen = let n = g .numbers .snapped i l in which-seen (s .txns i .snapshot) (s .txns i .number) (omega (arith, n .xmax-is)) (λ m. omega (arith, n .active-below _ m))
 
-module _ (s : Store) (g : Good s) (i : ℕ) (l : Live (s .txns i)) (a : rank (s .txns i .phase) < 5) (k : ℕ) (ws : List Write) (relied : Relied (s .sizes) (s .chains) (s .txns i) k ws) (clear : Cleared (s .chains) (s .index) (s .txns i))
+module _ (s : Store) (g : Good s) (i : ℕ) (l : Live (s .txns i)) (a : rank (s .txns i .phase) < phaseInstalled) (k : ℕ) (ws : List Write) (relied : Relied (s .sizes) (s .chains) (s .txns i) k ws) (clear : Cleared (s .chains) (s .index) (s .txns i))
     (untaken : (b : ℕ) → Among b (readBuckets (s .txns i)) → byAnother (s .held .holder) (s .txns i .number) b ≡ false) where
   abbrev c : Chains
   c = s .chains

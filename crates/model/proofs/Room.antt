@@ -12,7 +12,7 @@ use borrow.Author.Tests.{eq-eqb, ne-eqb}
 use Rattle.base_limits.specs.Limits.{mostLive, lastNumber}
 use Rattle.base_lists.specs.Lists.{pick}
 use Rattle.base_lists.specs.Table.{update, update-elim}
-use Rattle.model.specs.Store.{Sizes, Chains, Prepared, Installed, Txn, Store, noTxn, fresh, rank}
+use Rattle.model.specs.Store.{Sizes, Chains, Prepared, Installed, Txn, Store, noTxn, fresh, rank, phaseOpen, phasePrepared}
 use Rattle.model.specs.Seeing.{keyAt, lastWrite, live, Live}
 use Rattle.model.specs.Steps.{withPhase, newTxn, oldKey, newKey, versionRows, prepared, push, writtenPayload, pushAll, installed}
 use Rattle.model.specs.Refusals.{liveCount, reservedBy, reserved, versionsAfter}
@@ -54,17 +54,17 @@ reserved-same z c c′ t n h = rw (reserved-sum z c′ t n, reserved-sum z c t n
 pub reserved-none : (z : Sizes) (c : Chains) (t : ℕ → Txn) (n : ℕ) → ((j : ℕ) → reservedBy z c (t j) ≡ 0) → reserved z c t n ≡ 0
 reserved-none z c t n h = reserved-sum z c t n ∙ sum-zero (reservedBy z c) t n h
 
-pub reserves-none : (z : Sizes) (c : Chains) (x : Txn) → rank (x .phase) ≢ 4 → reservedBy z c x ≡ 0
+pub reserves-none : (z : Sizes) (c : Chains) (x : Txn) → rank (x .phase) ≢ phasePrepared → reservedBy z c x ≡ 0
 unfolding reservedBy
-reserves-none z c x d = rw (ne-eqb (rank (x .phase)) 4 d) (go (live x))
+reserves-none z c x d = rw (ne-eqb (rank (x .phase)) phasePrepared d) (go (live x))
   where
     go : (b : Bool) → cond (b && false) (length (versionRows z c (x .writes))) 0 ≡ 0
     go true = refl
     go false = refl
 
-pub reserves : (z : Sizes) (c : Chains) (x : Txn) → Live x → rank (x .phase) ≡ 4 → reservedBy z c x ≡ length (versionRows z c (x .writes))
+pub reserves : (z : Sizes) (c : Chains) (x : Txn) → Live x → rank (x .phase) ≡ phasePrepared → reservedBy z c x ≡ length (versionRows z c (x .writes))
 unfolding reservedBy
-reserves z c x l e = rw (live-test x l, eq-eqb (rank (x .phase)) 4 e)
+reserves z c x l e = rw (live-test x l, eq-eqb (rank (x .phase)) phasePrepared e)
 
 pub used-pushAll : (x : Txn) (rs : List ℕ) (c : Chains) → pushAll x rs c .used ≡ c .used + length rs
 unfolding pushAll
@@ -84,25 +84,25 @@ module _ (s : Store) (i : ℕ) (n : Numbers (s .clock) (s .txns)) (g : RoomAt s)
   here = in-place (s .clock) (s .txns) n i a
 
   -- neither before nor after Prepared
-  room-quiet : (x : Txn) → x .number ≡ s .txns i .number → rank (s .txns i .phase) ≢ 4 → rank (x .phase) ≢ 4 → Room (s .sizes) (s .clock) (s .chains) (update (s .txns) i x)
+  room-quiet : (x : Txn) → x .number ≡ s .txns i .number → rank (s .txns i .phase) ≢ phasePrepared → rank (x .phase) ≢ phasePrepared → Room (s .sizes) (s .clock) (s .chains) (update (s .txns) i x)
   room-quiet x e p q = room-set _ _ _ (s .chains) (s .txns) i x here (rw e (omega arith)) (omega (arith, reserves-none (s .sizes) (s .chains) x q, reserves-none (s .sizes) (s .chains) (s .txns i) p)) g
 
   -- the record ends
   room-free : (clock′ : ℕ) → clock′ ≤ suc (s .clock) → Room (s .sizes) clock′ (s .chains) (update (s .txns) i noTxn)
   room-free clock′ h = room-set _ _ _ (s .chains) (s .txns) i noTxn here (omega (arith, ap one (live-test (s .txns i) a))) (omega (arith, reserves-none (s .sizes) (s .chains) noTxn (λ e. omega arith))) g
 
-  room-prepare : rank (s .txns i .phase) ≡ 1 → versionsAfter s (s .txns i) ≤ s .sizes .versions → RoomAt (prepared s i)
+  room-prepare : rank (s .txns i .phase) ≡ phaseOpen → versionsAfter s (s .txns i) ≤ s .sizes .versions → RoomAt (prepared s i)
   room-prepare r h = let x = withPhase (s .txns i) Prepared in record {
     numbers-left = omega (arith, g .numbers-left, live-set (s .txns) i x here);
     versions-left = omega (arith, reserved-set (s .sizes) (s .chains) (s .txns) i x mostLive here, reserves (s .sizes) (s .chains) x a refl, reserves-none (s .sizes) (s .chains) (s .txns i) (λ e. omega arith));
   }
 
   -- what another reserved, it still reserves: its rows are not mine
-  others-reserve : Chained (s .chains) → HoldersAt s → rank (s .txns i .phase) ≡ 4 → (j : ℕ) → reservedBy (s .sizes) (installed s i .chains) (installed s i .txns j) ≡ reservedBy (s .sizes) (s .chains) (installed s i .txns j)
+  others-reserve : Chained (s .chains) → HoldersAt s → rank (s .txns i .phase) ≡ phasePrepared → (j : ℕ) → reservedBy (s .sizes) (installed s i .chains) (installed s i .txns j) ≡ reservedBy (s .sizes) (s .chains) (installed s i .txns j)
   unfolding reservedBy
   others-reserve ch h r j = update-elim (λ y. reservedBy (s .sizes) (installed s i .chains) y ≡ reservedBy (s .sizes) (s .chains) y) (s .txns) i (withPhase (s .txns i) Installed) j
       (λ e. reserves-none (s .sizes) (installed s i .chains) (withPhase (s .txns i) Installed) (λ f. omega arith) ∙ sym (reserves-none (s .sizes) (s .chains) (withPhase (s .txns i) Installed) (λ f. omega arith)))
-      (λ d. elim (ℕ-discrete (rank (s .txns j .phase)) 4) [
+      (λ d. elim (ℕ-discrete (rank (s .txns j .phase)) phasePrepared) [
         | yes e ↦ same d e
         | no f ↦ reserves-none (s .sizes) (installed s i .chains) (s .txns j) f ∙ sym (reserves-none (s .sizes) (s .chains) (s .txns j) f)
       ])
@@ -110,15 +110,15 @@ module _ (s : Store) (i : ℕ) (n : Numbers (s .clock) (s .txns)) (g : RoomAt s)
       gr : Grown (s .txns i) (versionRows (s .sizes) (s .chains) (s .txns i .writes)) (s .chains) (installed s i .chains)
       gr = installs s i ch
 
-      old : j ≢ i → rank (s .txns j .phase) ≡ 4 → (q : ℕ) → Writes (s .sizes) (s .txns j) q → oldKey (installed s i .chains) q ≡ oldKey (s .chains) q
+      old : j ≢ i → rank (s .txns j .phase) ≡ phasePrepared → (q : ℕ) → Writes (s .sizes) (s .txns j) q → oldKey (installed s i .chains) q ≡ oldKey (s .chains) q
       old d e q w =
           let f = gr .head-old q (λ m. d (one-claim s i n h j i q (omega arith, w) (omega arith, gets-writes (s .sizes) (s .chains) (s .txns i) q m))) in
           ap (keyAt (installed s i .chains)) f ∙ keyAt-grown _ _ _ _ gr (s .chains .head q) (ch .heads-in q)
 
-      same : j ≢ i → rank (s .txns j .phase) ≡ 4 → reservedBy (s .sizes) (installed s i .chains) (s .txns j) ≡ reservedBy (s .sizes) (s .chains) (s .txns j)
-      same d e = ap (λ rs. cond (live (s .txns j) && eqb (rank (s .txns j .phase)) 4) (length rs) 0) (versionRows-same (s .sizes) (s .chains) (installed s i .chains) (s .txns j) (old d e))
+      same : j ≢ i → rank (s .txns j .phase) ≡ phasePrepared → reservedBy (s .sizes) (installed s i .chains) (s .txns j) ≡ reservedBy (s .sizes) (s .chains) (s .txns j)
+      same d e = ap (λ rs. cond (live (s .txns j) && eqb (rank (s .txns j .phase)) phasePrepared) (length rs) 0) (versionRows-same (s .sizes) (s .chains) (installed s i .chains) (s .txns j) (old d e))
 
-  room-install : Chained (s .chains) → HoldersAt s → rank (s .txns i .phase) ≡ 4 → RoomAt (installed s i)
+  room-install : Chained (s .chains) → HoldersAt s → rank (s .txns i .phase) ≡ phasePrepared → RoomAt (installed s i)
   room-install ch h r = let x = withPhase (s .txns i) Installed in record {
     numbers-left = omega (arith, g .numbers-left, live-set (s .txns) i x here);
     versions-left = omega (

@@ -8,7 +8,7 @@ use native.Mathlib.Omega.{arith}
 use native.Mathlib.Decide.{ℕ-discrete}
 use Rattle.base_lists.specs.Lists.{member}
 use Rattle.base_lists.proofs.ListLaws.{member-among, among-member}
-use Rattle.model.specs.Store.{Chains, Snapshot, Txn, rank}
+use Rattle.model.specs.Store.{Chains, Snapshot, Txn, rank, phaseEnded}
 use Rattle.model.specs.Seeing.{seen, versionOf, keyAt, Live}
 use Rattle.model.specs.Contents.{contentOf}
 use Rattle.model.proofs.Chained.{Chained}
@@ -20,7 +20,7 @@ use Rattle.model.proofs.Written.{old-or-new, keyAt-grown}
 use Rattle.model.proofs.Told.{unseen-late, unseen-active}
 
 -- the number of another that has not ended is not seen
-pub unseen-other : (clock : ℕ) (t : ℕ → Txn) → Numbers clock t → (i j : ℕ) → i ≢ j → Live (t i) → Live (t j) → rank (t i .phase) < 6 → seen (t j .snapshot) (t i .number) ≡ false
+pub unseen-other : (clock : ℕ) (t : ℕ → Txn) → Numbers clock t → (i j : ℕ) → i ≢ j → Live (t i) → Live (t j) → rank (t i .phase) < phaseEnded → seen (t j .snapshot) (t i .number) ≡ false
 unseen-other clock t n i j d l v r = ⊎-elim before after (old-or-new (t j .number) (t i .number))
   where
     before : t i .number ≤ t j .number → seen (t j .snapshot) (t i .number) ≡ false

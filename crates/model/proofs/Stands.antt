@@ -7,7 +7,7 @@ use Prim.Native.Nat.{ℕ, _<_}
 use native.Mathlib.Omega.{arith}
 use Rattle.base_lists.specs.Lists.{Among}
 use Rattle.base_lists.proofs.ListLaws.{same-test, map-pick}
-use Rattle.model.specs.Store.{Chains, Snapshot, Store, rank, sameKey}
+use Rattle.model.specs.Store.{Chains, Snapshot, Store, rank, phaseInstalled, sameKey}
 use Rattle.model.specs.Seeing.{versionOf, keyAt, pending, recordOf, shows, Live, snapshotNow}
 use Rattle.model.specs.Steps.{readBuckets}
 use Rattle.model.specs.Refusals.{byAnother}
@@ -17,7 +17,7 @@ use Rattle.model.proofs.Remains.{Remains}
 use Rattle.model.proofs.Cleared.{Cleared}
 use Rattle.model.proofs.Relied.{Relied, read-now, now-read}
 
-module _ (s : Store) (g : Good s) (i : ℕ) (l : Live (s .txns i)) (a : rank (s .txns i .phase) < 5) (c₁ : Chains) (k : ℕ) (kept : Remains c₁ (s .txns i .snapshot) k (s .sizes) (s .chains) (s .txns i)) (clear : Cleared (s .chains) (s .index) (s .txns i))
+module _ (s : Store) (g : Good s) (i : ℕ) (l : Live (s .txns i)) (a : rank (s .txns i .phase) < phaseInstalled) (c₁ : Chains) (k : ℕ) (kept : Remains c₁ (s .txns i .snapshot) k (s .sizes) (s .chains) (s .txns i)) (clear : Cleared (s .chains) (s .index) (s .txns i))
     (untaken : (b : ℕ) → Among b (readBuckets (s .txns i)) → byAnother (s .held .holder) (s .txns i .number) b ≡ false) where
   abbrev c : Chains
   c = s .chains

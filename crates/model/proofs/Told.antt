@@ -12,7 +12,7 @@ use borrow.Author.Tests.{ltb-true, lt-ltb, not-true}
 use Rattle.base_lists.specs.Lists.{member, Among}
 use Rattle.base_lists.specs.Table.{update, update-elim, update-same, update-other, updateAll-elim}
 use Rattle.base_lists.proofs.ListLaws.{and-l, and-r, is-false, member-among, among-member, not-member, among-left, among-right, which-join}
-use Rattle.model.specs.Store.{Sizes, Chains, Snapshot, Installed, Txn, Store, noTxn, fresh, rank, sameKey, bucketOf}
+use Rattle.model.specs.Store.{Sizes, Chains, Snapshot, Installed, Txn, Store, noTxn, fresh, rank, phasePrepared, phaseInstalled, phaseEnded, sameKey, bucketOf}
 use Rattle.model.specs.Seeing.{seen, keyAt, Live}
 use Rattle.model.specs.Steps.{withPhase, newTxn, begun, keyBefore, newKey, keyBuckets, changedBuckets, installed, published, versionRows, madeRows}
 use Rattle.model.specs.Holding.{Made}
@@ -101,12 +101,12 @@ module _ (s : Store) (i : ℕ) (g : ToldAt s) where
           inl (o .0, w .0, w .1)
       go y f (inr h) = inr (λ k w. omega (arith, h k w))
 
-  told-abort : WrittenAt s → rank (s .txns i .phase) < 5 → Told (s .sizes) (s .chains) (s .index .stamp) (update (s .txns) i noTxn)
+  told-abort : WrittenAt s → rank (s .txns i .phase) < phaseInstalled → Told (s .sizes) (s .chains) (s .index .stamp) (update (s .txns) i noTxn)
   told-abort w a = told-frame (s .sizes) (s .chains) (s .index .stamp) (s .index .stamp) (s .txns) _ (kept-free (s .txns) i) (λ b. omega arith)
       (λ q m u l f. inl (update-elim Live (s .txns) i noTxn m (λ d. absurd (omega (arith, rw d at (w .made q m (u .from) (u .in-use) l f .0)))) (λ d. l))) g
 
   -- a turn of the one who publishes is stamped
-  turn-stamped : WrittenAt s → Live (s .txns i) → rank (s .txns i .phase) ≡ 6 → (q k : ℕ) → Turn (s .chains) q → s .chains .xmin q ≡ s .txns i .number → Carries (s .chains) q k → Among (bucketOf (s .sizes) k) (changedBuckets s (s .txns i))
+  turn-stamped : WrittenAt s → Live (s .txns i) → rank (s .txns i .phase) ≡ phaseEnded → (q k : ℕ) → Turn (s .chains) q → s .chains .xmin q ≡ s .txns i .number → Carries (s .chains) q k → Among (bucketOf (s .sizes) k) (changedBuckets s (s .txns i))
   turn-stamped w l a q k u f h =
       let m = w .made q i (u .from) (u .in-use) l f in
       let r = m .1 .0 in
@@ -117,7 +117,7 @@ module _ (s : Store) (i : ℕ) (g : ToldAt s) where
       (is-false _ (λ e. true≢false (sym (key-same _ _ (key ∙ (sym (same-key _ _ e) ∙ old))) ∙ u .turns)))
       (⊎-elim (λ e. inr (sym key ∙ e)) (λ e. inl (old ∙ e)) h)
 
-  told-publish : Numbers (s .clock) (s .txns) → BelowAt s → WrittenAt s → Live (s .txns i) → rank (s .txns i .phase) ≡ 6 → ToldAt (published s i)
+  told-publish : Numbers (s .clock) (s .txns) → BelowAt s → WrittenAt s → Live (s .txns i) → rank (s .txns i .phase) ≡ phaseEnded → ToldAt (published s i)
   told-publish n b w l a = told-frame (s .sizes) (s .chains) (s .index .stamp) (published s i .index .stamp) (s .txns) _ (kept-free (s .txns) i)
       (λ c. updateAll-elim (λ v. s .index .stamp c ≤ v) (s .index .stamp) (changedBuckets s (s .txns i)) _ c (λ m. omega (arith, b .stamp-below c)) (λ m. omega arith))
       (λ q m u v f. fate q m u v f (ℕ-discrete m i)) g
@@ -138,7 +138,7 @@ module _ (s : Store) (i : ℕ) (g : ToldAt s) where
           let d : m ≢ i = λ e. omega (arith, rw e at l) in
           (m, rw (update-other (s .txns) i (newTxn s) m d) l, rw (update-other (s .txns) i (newTxn s) m d) f)
 
-  told-install : Chained (s .chains) → Live (s .txns i) → rank (s .txns i .phase) ≡ 4 → ToldAt (installed s i)
+  told-install : Chained (s .chains) → Live (s .txns i) → rank (s .txns i .phase) ≡ phasePrepared → ToldAt (installed s i)
   told-install ch l a q j u v e = ⊎-elim old new (old-or-new (s .chains .used) q)
     where
       gr : Grown (s .txns i) (versionRows (s .sizes) (s .chains) (s .txns i .writes)) (s .chains) (installed s i .chains)

@@ -12,7 +12,7 @@ use Rattle.base_limits.specs.Limits.{lastNumber}
 use Rattle.base_lists.specs.Lists.{member, Among, Rising}
 use Rattle.base_lists.specs.Table.{update, update-same, update-other, update-elim}
 use Rattle.base_lists.proofs.ListLaws.{rising-above, pick-rising, member-among, among-member}
-use Rattle.model.specs.Store.{Sizes, Chains, Installed, Txn, Store, noTxn, fresh, rank}
+use Rattle.model.specs.Store.{Sizes, Chains, Installed, Txn, Store, noTxn, fresh, rank, phasePrepared, phaseInstalled, phaseEnded}
 use Rattle.model.specs.Steps.{withPhase, newKey, installed, published, versionRows, madeRows}
 use Rattle.model.specs.Upstream.{Event}
 use Rattle.model.specs.Refusals.{Step, begin, capture, collect, rows, put, erase, prepare, install, end, publish, validate, abort, txnOf}
@@ -62,13 +62,13 @@ module _ (z : Sizes) (c : Chains) (t : ℕ → Txn) (es : List Event) (r : ℕ) 
   row-kept t′ back on (waiting j u d) = waiting j (on j u) d
 
   -- one place changes that has not installed before or after
-  row-early : (i : ℕ) (x : Txn) → (Live (t i) → rank (t i .phase) < 5) → rank (x .phase) < 5 → RowTraced z c t es r → RowTraced z c (update t i x) es r
+  row-early : (i : ℕ) (x : Txn) → (Live (t i) → rank (t i .phase) < phaseInstalled) → rank (x .phase) < phaseInstalled → RowTraced z c t es r → RowTraced z c (update t i x) es r
   row-early i x a b = row-kept (update t i x)
       (λ j. update-elim (λ y. Unpublished z c y r → Unpublished z c (t j) r) t i x j (λ e u. absurd (omega (arith, u .1))) (λ d u. u))
       (λ j u. rw (update-other t i x j (λ e. omega (arith, rw e at (u .1), a (rw e at (u .0))))) u)
 
   -- one place goes on with its number and its writes
-  row-on : (i : ℕ) (x : Txn) → x .number ≡ t i .number → x .writes ≡ t i .writes → (5 ≤ rank (x .phase) → 5 ≤ rank (t i .phase)) → (5 ≤ rank (t i .phase) → 5 ≤ rank (x .phase)) → RowTraced z c t es r → RowTraced z c (update t i x) es r
+  row-on : (i : ℕ) (x : Txn) → x .number ≡ t i .number → x .writes ≡ t i .writes → (phaseInstalled ≤ rank (x .phase) → phaseInstalled ≤ rank (t i .phase)) → (phaseInstalled ≤ rank (t i .phase) → phaseInstalled ≤ rank (x .phase)) → RowTraced z c t es r → RowTraced z c (update t i x) es r
   row-on i x n w a b = row-kept (update t i x)
       (λ j. update-elim (λ y. Unpublished z c y r → Unpublished z c (t j) r) t i x j (λ e u. rw e (omega (arith, u .0), a (u .1), rw (n, w) at (u .2))) (λ d u. u))
       (λ j. elim (ℕ-discrete j i) [ yes e ↦ λ u. rw (e, update-same) (same (rw e at u)) | no d ↦ λ u. rw (update-other t i x j d) u ])
@@ -78,10 +78,10 @@ module _ (z : Sizes) (c : Chains) (t : ℕ → Txn) (es : List Event) (r : ℕ) 
 
 module _ (s : Store) (es : List Event) (g : Good s) (h : TracedAt s es) (i : ℕ) (l : Live (s .txns i)) where
   -- a row that i claims is claimed by nobody else
-  only-claim : 4 ≤ rank (s .txns i .phase) → (r : ℕ) → Writes (s .sizes) (s .txns i) r → (j : ℕ) → Unpublished (s .sizes) (s .chains) (s .txns j) r → j ≡ i
+  only-claim : phasePrepared ≤ rank (s .txns i .phase) → (r : ℕ) → Writes (s .sizes) (s .txns i) r → (j : ℕ) → Unpublished (s .sizes) (s .chains) (s .txns j) r → j ≡ i
   only-claim a r w j u = one-claim s i (g .numbers) (g .holders) j i r (omega (arith, u .1), made-writes (s .sizes) (s .chains) (s .txns j) r (u .2)) (a, w)
 
-  traced-install : rank (s .txns i .phase) ≡ 4 → TracedAt (installed s i) es
+  traced-install : rank (s .txns i .phase) ≡ phasePrepared → TracedAt (installed s i) es
   traced-install a r = go (member r (versionRows (s .sizes) (s .chains) (s .txns i .writes))) refl
     where
       gr : Grown (s .txns i) (versionRows (s .sizes) (s .chains) (s .txns i .writes)) (s .chains) (installed s i .chains)
@@ -117,7 +117,7 @@ module _ (s : Store) (es : List Event) (g : Good s) (h : TracedAt s es) (i : ℕ
       go true e = new (member-among r _ e) (h r)
       go false e = old (λ m. true≢false (sym (among-member r _ m) ∙ e)) (h r)
 
-  traced-publish : rank (s .txns i .phase) ≡ 6 → TracedAt (published s i) (addEvents s (s .txns i) (madeRows (s .sizes) (s .chains) (s .txns i .number) (s .txns i .writes)) es)
+  traced-publish : rank (s .txns i .phase) ≡ phaseEnded → TracedAt (published s i) (addEvents s (s .txns i) (madeRows (s .sizes) (s .chains) (s .txns i .number) (s .txns i .writes)) es)
   unfolding madeRows
   traced-publish a r = go (member r (madeRows (s .sizes) (s .chains) (s .txns i .number) (s .txns i .writes))) refl
     where
@@ -152,7 +152,7 @@ ready-live : (s : Store) (a : Step) → Ready s a → Live (txnOf s (actor a))
 ready-live s a r = omega (arith, lives-number s (actor a) (r .1), r .1 .3)
 
 module _ (s : Store) (es : List Event) (g : Good s) (h : TracedAt s es) where
-  early : (i : ℕ) (x : Txn) → (Live (s .txns i) → rank (s .txns i .phase) < 5) → rank (x .phase) < 5 → (r : ℕ) → RowTraced (s .sizes) (s .chains) (update (s .txns) i x) es r
+  early : (i : ℕ) (x : Txn) → (Live (s .txns i) → rank (s .txns i .phase) < phaseInstalled) → rank (x .phase) < phaseInstalled → (r : ℕ) → RowTraced (s .sizes) (s .chains) (update (s .txns) i x) es r
   early i x a b r = row-early (s .sizes) (s .chains) (s .txns) es r i x a b (h r)
 
   published-or-not : (t : ℕ) (b : Bool) → eqb (number s (publish t)) 0 ≡ b → TracedAt (step s (publish t) .store) (cond b (addEvents s (txnOf s t) (madeRows (s .sizes) (s .chains) (txnOf s t .number) (txnOf s t .writes)) es) es)

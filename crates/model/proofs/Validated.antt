@@ -10,7 +10,7 @@ use Rattle.base_limits.specs.Limits.{mostLive}
 use Rattle.base_lists.specs.Lists.{Among}
 use Rattle.base_lists.specs.Table.{update-elim, update-field}
 use Rattle.base_lists.proofs.ListLaws.{or-l, among-left, none-each, which-pick, pick-same, map-pick}
-use Rattle.model.specs.Store.{Sizes, Chains, Snapshot, Collected, Prepared, ReadRecord, Txn, Store, rank, keyIn}
+use Rattle.model.specs.Store.{Sizes, Chains, Snapshot, Collected, Prepared, ReadRecord, Txn, Store, rank, phaseOpen, phaseInstalled, keyIn}
 use Rattle.model.specs.Seeing.{versionOf, keyAt, pending, matches, recordOf, shows, Live, active, activeNumbers, snapshotNow}
 use Rattle.model.specs.Verdict.{Clear, verdict}
 use Rattle.model.specs.Steps.{withPhase, readTxn, readDone, readBuckets, neededBuckets, prepared}
@@ -45,7 +45,7 @@ module _ (s : Store) (t room : ℕ) (rs : List ℕ) (g : Good s) (d : RowsDone s
   read-remains = record {
     number-pos = omega (arith, d .alive, d .number-is);
     number-old = omega (arith, g .numbers .below (at s t), d .number-is);
-    here = λ j. update-elim (λ y. y .number ≡ t → rank (y .phase) < 5 → Remains (s .chains) (txnOf s t .snapshot) (keyIn (txnOf s t .phase)) (s .sizes) (s .chains) y) (s .txns) (at s t) (readTxn s (txnOf s t)) j
+    here = λ j. update-elim (λ y. y .number ≡ t → rank (y .phase) < phaseInstalled → Remains (s .chains) (txnOf s t .snapshot) (keyIn (txnOf s t .phase)) (s .sizes) (s .chains) y) (s .txns) (at s t) (readTxn s (txnOf s t)) j
         (λ e p q. mine)
         (λ f p q. absurd (f (sym (g .numbers .distinct (at s t) j (d .alive) (d .number-is ∙ sym p)))));
   }
@@ -67,7 +67,7 @@ module _ (s : Store) (t room : ℕ) (rs : List ℕ) (g : Good s) (d : RowsDone s
 pub record Passed (s : Store) (t : ℕ) : Type 0 where
   pub alive : Live (txnOf s t)
   pub number-is : txnOf s t .number ≡ t
-  pub opened : rank (txnOf s t .phase) ≡ 1
+  pub opened : rank (txnOf s t .phase) ≡ phaseOpen
   pub clear : verdict (s .chains) (s .index) (txnOf s t) ≡ Clear
   pub untaken : (b : ℕ) → Among b (readBuckets (txnOf s t)) → byAnother (s .held .holder) (txnOf s t .number) b ≡ false
 
@@ -104,7 +104,7 @@ passed-stands s t k c₁ v g w p =
     rw (sym (r .snapshot-is)) (stands s g (at s t) (p .alive) (omega (arith, p .opened)) c₁ k kept (cleared (s .chains) (s .index) (txnOf s t) (p .clear)) (p .untaken))
 
 -- a prepared transaction is as active as an open one
-pub prepared-now : (s : Store) (i : ℕ) → rank (s .txns i .phase) ≡ 1 → snapshotNow (prepared s i) ≡ snapshotNow s
+pub prepared-now : (s : Store) (i : ℕ) → rank (s .txns i .phase) ≡ phaseOpen → snapshotNow (prepared s i) ≡ snapshotNow s
 unfolding snapshotNow activeNumbers
 prepared-now s i a = rw same
   where

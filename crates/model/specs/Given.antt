@@ -7,7 +7,7 @@ use mathlib.Core.List.{List}
 use lib.ListN.{length}
 use Rattle.base_limits.specs.Limits.{mostRows, mostVersions, mostBuckets, mostLive, mostIndexReads, mostRecords, mostWrites, lastNumber}
 use Rattle.base_lists.specs.Lists.{Among}
-use Rattle.model.specs.Store.{Sizes, Store, rank, keyIn, bucketOf}
+use Rattle.model.specs.Store.{Sizes, Store, phaseOpen, phaseHolding, phaseCollected, phasePrepared, phaseInstalled, phaseEnded, rank, keyIn, bucketOf}
 use Rattle.model.specs.Verdict.{verdict, verdictNumber}
 use Rattle.model.specs.Steps.{hasRead, postedRows, foundRows, recordsAfter, pendingRows, readBuckets, neededBuckets}
 use Rattle.model.specs.Refusals.{WrongSize, refusalNumber, Step, begin, capture, collect, rows, put, erase, prepare, install, end, publish, validate, abort, txnOf, liveCount, versionsAfter}
@@ -46,20 +46,20 @@ Names (publish t) = Unit {0}
 Names (validate t) = Unit {0}
 Names (abort t) = Unit {0}
 
--- the phases in which a step is right, by rank: 1 Open, 2 Holding, 3 Collected, 4 Prepared, 5 Installed, 6 Ended
+-- the phases in which a step is right, by rank
 abbrev pub Right : Step → ℕ → Type 0
 Right begin n = Unit {0}
-Right (capture t k) n = n ≡ 1
-Right (collect t) n = n ≡ 2
-Right (rows t room) n = n ≡ 3
-Right (put t r k payload) n = n ≡ 1
-Right (erase t r) n = n ≡ 1
-Right (prepare t) n = n ≡ 1
-Right (install t) n = n ≡ 4
-Right (end t) n = n ≡ 5
-Right (publish t) n = n ≡ 6
-Right (validate t) n = n ≡ 1
-Right (abort t) n = n < 5
+Right (capture t k) n = n ≡ phaseOpen
+Right (collect t) n = n ≡ phaseHolding
+Right (rows t room) n = n ≡ phaseCollected
+Right (put t r k payload) n = n ≡ phaseOpen
+Right (erase t r) n = n ≡ phaseOpen
+Right (prepare t) n = n ≡ phaseOpen
+Right (install t) n = n ≡ phasePrepared
+Right (end t) n = n ≡ phaseInstalled
+Right (publish t) n = n ≡ phaseEnded
+Right (validate t) n = n ≡ phaseOpen
+Right (abort t) n = n < phaseInstalled
 
 abbrev pub RightPhase : Store → Step → Type 0
 RightPhase s a = Right a (rank (txnOf s (actor a) .phase))

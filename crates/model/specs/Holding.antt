@@ -5,7 +5,7 @@ use mathlib.Core.Logic.{_⊎_}
 use mathlib.Core.Option.{Option, none}
 use mathlib.Core.List.{List, _++_}
 use Rattle.base_lists.specs.Lists.{join, Among}
-use Rattle.model.specs.Store.{Sizes, Chains, Holding, Txn, rank}
+use Rattle.model.specs.Store.{Sizes, Chains, Holding, Txn, rank, phasePrepared, phaseInstalled}
 use Rattle.model.specs.Seeing.{Live}
 use Rattle.model.specs.Steps.{pendingRows, versionRows, madeRows, oldKey, newKey, keyBuckets, readBuckets}
 
@@ -19,10 +19,10 @@ needs z posted x = readBuckets x ++ join (λ r. keyBuckets z (posted r) ++ keyBu
 
 -- a bucket is wanted while Holding it, and from Prepared on if it is needed; a row from Prepared on if it is pending
 abbrev pub Wants : Sizes → (ℕ → Option ℕ) → Txn → ℕ → Type 0
-Wants z posted x b = ((k : ℕ) × (x .phase ≡ Holding b k)) ⊎ ((4 ≤ rank (x .phase)) × Among b (needs z posted x))
+Wants z posted x b = ((k : ℕ) × (x .phase ≡ Holding b k)) ⊎ ((phasePrepared ≤ rank (x .phase)) × Among b (needs z posted x))
 
 abbrev pub Claims : Sizes → Txn → ℕ → Type 0
-Claims z x r = (4 ≤ rank (x .phase)) × Writes z x r
+Claims z x r = (phasePrepared ≤ rank (x .phase)) × Writes z x r
 
 -- r is a pending row of x that gets a version; that got one; of which x erases nothing: no live head, and the last write is an erase
 abbrev pub Gets : Sizes → Chains → Txn → ℕ → Type 0
@@ -36,4 +36,4 @@ ErasesNothing c x r = (oldKey c r ≡ none) × (newKey x r ≡ none)
 
 -- x has made a version of row r and not published it
 abbrev pub Unpublished : Sizes → Chains → Txn → ℕ → Type 0
-Unpublished z c x r = Live x × (5 ≤ rank (x .phase)) × Made z c x r
+Unpublished z c x r = Live x × (phaseInstalled ≤ rank (x .phase)) × Made z c x r

@@ -7,7 +7,7 @@ use mathlib.Core.Option.{none, some}
 use mathlib.Core.List.{List, [], _∷_, _++_}
 use Rattle.base_limits.specs.Limits.{mostLive}
 use Rattle.base_lists.specs.Lists.{Among}
-use Rattle.model.specs.Store.{Index, Held, Snapshot, Phase, Open, Holding, Collected, Prepared, Installed, Ended, IndexRead, Write, ReadRecord, Txn, Store, noTxn, rank, keyIn}
+use Rattle.model.specs.Store.{Index, Held, Snapshot, Phase, Open, Holding, Collected, Prepared, Installed, Ended, IndexRead, Write, ReadRecord, Txn, Store, noTxn, rank, phaseEnded, keyIn}
 use Rattle.model.specs.Seeing.{Live}
 use Rattle.model.specs.Steps.{newTxn, addRead, postedRows, recordsAfter}
 use Rattle.model.specs.Refusals.{Step, begin, capture, collect, rows, put, erase, prepare, install, end, publish, validate, abort, txnOf}
@@ -125,7 +125,7 @@ candidatesAfter s (abort t) rs = []
 -- the snapshot that begin takes: below the new clock, without every live transaction that is not Ended; its xmin is the least of these and the own number
 pub record TakenAt (s : Store) (v : Snapshot) : Type 0 where
   pub xmax-is : v .xmax ≡ suc (s .clock)
-  pub active-are : (n : ℕ) → Among n (v .active) ↔ ((i : ℕ) × (i < mostLive) × Live (s .txns i) × (rank (s .txns i .phase) < 6) × (n ≡ s .txns i .number))
+  pub active-are : (n : ℕ) → Among n (v .active) ↔ ((i : ℕ) × (i < mostLive) × Live (s .txns i) × (rank (s .txns i .phase) < phaseEnded) × (n ≡ s .txns i .number))
   pub xmin-below : (v .xmin ≤ s .clock) × ((n : ℕ) → Among n (v .active) → v .xmin ≤ n)
   pub xmin-is : (v .xmin ≡ s .clock) ⊎ Among (v .xmin) (v .active)
 

@@ -7,7 +7,7 @@ use lib.Dec.{eqb, ltb, leb}
 use lib.ListN.{length}
 use Rattle.base_limits.specs.Limits.{mostRows, mostLive, mostIndexReads, mostRecords, mostWrites, lastNumber}
 use Rattle.base_lists.specs.Lists.{pick, first, some-of}
-use Rattle.model.specs.Store.{Sizes, Chains, Txn, Store, rank, bucketOf}
+use Rattle.model.specs.Store.{Sizes, Chains, Txn, Store, rank, phaseOpen, phaseHolding, phaseCollected, phasePrepared, phaseInstalled, phaseEnded, bucketOf}
 use Rattle.model.specs.Seeing.{live}
 use Rattle.model.specs.Verdict.{verdict, verdictNumber}
 use Rattle.model.specs.Steps.{hasRead, foundRows, recordsAfter, pendingRows, versionRows, readBuckets, neededBuckets}
@@ -67,7 +67,7 @@ byAnother f n j = not (eqb (f j) 0) && not (eqb (f j) n)
 
 -- versions reserved by one who is Prepared: a version for each distinct pending row that gets one
 unfoldable pub reservedBy : Sizes → Chains → Txn → ℕ
-reservedBy z c x = cond (live x && eqb (rank (x .phase)) 4) (length (versionRows z c (x .writes))) 0
+reservedBy z c x = cond (live x && eqb (rank (x .phase)) phasePrepared) (length (versionRows z c (x .writes))) 0
 
 unfoldable pub reserved : Sizes → Chains → (ℕ → Txn) → ℕ → ℕ
 reserved z c txns zero = 0
@@ -130,17 +130,17 @@ checks s begin =
     (leb mostLive (liveCount (s .txns)), Full)
     ∷ (ltb lastNumber (s .clock + liveCount (s .txns) + 2), NoNumbers)
     ∷ []
-checks s (capture t k) = found s t (inPhase s t 1) (captureChecks s (txnOf s t) k)
-checks s (collect t) = found s t (inPhase s t 2) []
-checks s (rows t room) = found s t (inPhase s t 3) (rowsChecks s (txnOf s t) room)
-checks s (put t r k payload) = found s t (inPhase s t 1) (writeChecks s (txnOf s t) r)
-checks s (erase t r) = found s t (inPhase s t 1) (writeChecks s (txnOf s t) r)
-checks s (prepare t) = found s t (inPhase s t 1) (prepareChecks s (txnOf s t))
-checks s (install t) = found s t (inPhase s t 4) []
-checks s (end t) = found s t (inPhase s t 5) []
-checks s (publish t) = found s t (inPhase s t 6) []
-checks s (validate t) = found s t (inPhase s t 1) (validateChecks s (txnOf s t))
-checks s (abort t) = found s t (ltb (rank (txnOf s t .phase)) 5) []
+checks s (capture t k) = found s t (inPhase s t phaseOpen) (captureChecks s (txnOf s t) k)
+checks s (collect t) = found s t (inPhase s t phaseHolding) []
+checks s (rows t room) = found s t (inPhase s t phaseCollected) (rowsChecks s (txnOf s t) room)
+checks s (put t r k payload) = found s t (inPhase s t phaseOpen) (writeChecks s (txnOf s t) r)
+checks s (erase t r) = found s t (inPhase s t phaseOpen) (writeChecks s (txnOf s t) r)
+checks s (prepare t) = found s t (inPhase s t phaseOpen) (prepareChecks s (txnOf s t))
+checks s (install t) = found s t (inPhase s t phasePrepared) []
+checks s (end t) = found s t (inPhase s t phaseInstalled) []
+checks s (publish t) = found s t (inPhase s t phaseEnded) []
+checks s (validate t) = found s t (inPhase s t phaseOpen) (validateChecks s (txnOf s t))
+checks s (abort t) = found s t (ltb (rank (txnOf s t .phase)) phaseInstalled) []
 
 -- the first refusal whose test holds
 unfoldable pub refusal : List (Bool × Refusal) → Option Refusal

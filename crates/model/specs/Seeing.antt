@@ -6,7 +6,7 @@ use mathlib.Core.List.{List, [], _∷_, map}
 use lib.Dec.{eqb, ltb, leb}
 use Rattle.base_limits.specs.Limits.{mostLive}
 use Rattle.base_lists.specs.Lists.{member, least, pick}
-use Rattle.model.specs.Store.{Chains, Snapshot, Write, ReadRecord, Txn, Store, sameKey, rank}
+use Rattle.model.specs.Store.{Chains, Snapshot, Write, ReadRecord, Txn, Store, sameKey, rank, phaseEnded}
 
 -- a number is seen if it is below the snapshot's xmax and not among its active numbers
 unfoldable pub seen : Snapshot → ℕ → Bool
@@ -78,7 +78,7 @@ abbrev pub Live : Txn → Type 0
 Live x = 1 ≤ x .number
 
 abbrev pub active : Txn → Bool
-active x = live x && ltb (rank (x .phase)) 6
+active x = live x && ltb (rank (x .phase)) phaseEnded
 
 -- the numbers of the active transactions, by place
 unfoldable pub activeNumbers : (ℕ → Txn) → List ℕ

@@ -5,7 +5,7 @@ use lib.Dec.{eqb, ltb, leb}
 use lib.ListN.{length}
 use Rattle.base_limits.specs.Limits.{mostRows, mostVersions, mostBuckets, mostLive, mostActive, mostIndexReads, mostRecords, mostWrites, lastNumber}
 use Rattle.base_lists.specs.Lists.{least, every, all-of}
-use Rattle.model.specs.Store.{Sizes, Chains, IndexRead, Write, ReadRecord, Txn, Store, rank, bucketIn}
+use Rattle.model.specs.Store.{Sizes, Chains, IndexRead, Write, ReadRecord, Txn, Store, rank, phaseInstalled, bucketIn}
 use Rattle.model.specs.Seeing.{live}
 use Rattle.model.specs.Steps.{pendingRows, getsVersion, headedBy}
 use Rattle.model.specs.Refusals.{liveCount, reserved}
@@ -42,7 +42,7 @@ goodRanges z used x =
 
 -- each pending row of an Installed or Ended transaction headed by a version of that xmin; or its last write is an erase, and it has no live head
 unfoldable pub goodHeads : Sizes → Chains → Txn → Bool
-goodHeads z c x = ltb (rank (x .phase)) 5 || all-of (λ r. headedBy c (x .number) r || not (getsVersion c (x .writes) r)) (pendingRows z (x .writes))
+goodHeads z c x = ltb (rank (x .phase)) phaseInstalled || all-of (λ r. headedBy c (x .number) r || not (getsVersion c (x .writes) r)) (pendingRows z (x .writes))
 
 -- a live transaction: its number below the clock, snapshot xmin the least of its active numbers and its own
 unfoldable pub goodTxn : Store → Txn → Bool

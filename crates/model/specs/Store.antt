@@ -99,14 +99,33 @@ fresh z clock = record {
   txns = λ i. noTxn;
 }
 
--- phases as numbers, in document 01's order
+-- the phases' numbers, in document 01's order
+abbrev pub phaseOpen : ℕ
+phaseOpen = 1
+
+abbrev pub phaseHolding : ℕ
+phaseHolding = 2
+
+abbrev pub phaseCollected : ℕ
+phaseCollected = 3
+
+abbrev pub phasePrepared : ℕ
+phasePrepared = 4
+
+abbrev pub phaseInstalled : ℕ
+phaseInstalled = 5
+
+abbrev pub phaseEnded : ℕ
+phaseEnded = 6
+
+-- a phase as its number
 abbrev pub rank : Phase → ℕ
-rank Open = 1
-rank (Holding b k) = 2
-rank (Collected k) = 3
-rank Prepared = 4
-rank Installed = 5
-rank Ended = 6
+rank Open = phaseOpen
+rank (Holding b k) = phaseHolding
+rank (Collected k) = phaseCollected
+rank Prepared = phasePrepared
+rank Installed = phaseInstalled
+rank Ended = phaseEnded
 
 -- the bucket that a phase carries, and the key
 abbrev pub bucketIn : Phase → ℕ

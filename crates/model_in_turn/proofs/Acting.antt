@@ -13,7 +13,7 @@ use Rattle.base_limits.specs.Limits.{mostRows, mostIndexReads, mostRecords, mos
 use Rattle.base_lists.specs.Lists.{member, some-of, Among}
 use Rattle.base_lists.specs.Table.{update, update-same, update-other, cond-elim}
 use Rattle.base_lists.proofs.ListLaws.{same-test, among-last}
-use Rattle.model.specs.Store.{Index, Open, Holding, Collected, IndexRead, Write, ReadRecord, Txn, Store, rank, keyIn, bucketOf}
+use Rattle.model.specs.Store.{Index, Open, Holding, Collected, IndexRead, Write, ReadRecord, Txn, Store, rank, phaseCollected, phaseInstalled, keyIn, bucketOf}
 use Rattle.model.specs.Seeing.{versionOf, Live}
 use Rattle.model.specs.Steps.{hasRead, addRead, captured, collected, foundRows, recordsAfter, readDone, written}
 use Rattle.model.specs.Contents.{Content, shownTo, liveRow}
@@ -60,7 +60,7 @@ pub record Acts (s : Store) (y : Local) (t : Store) (a : Step) (read : List (ℕ
 module _ (s : Store) (q : Quiet s) (x : Local) (t : Store) (a : Alone s x t) where
   -- one place goes on
   pub alone-set : (t′ : Store) (w : Txn) (y : Local) → Good t′ → t′ .sizes ≡ t .sizes → t′ .clock ≡ t .clock → t′ .chains ≡ t .chains → t′ .index ≡ t .index → t′ .txns ≡ update (t .txns) 0 w
-      → w .number ≡ t .txns 0 .number → w .snapshot ≡ t .txns 0 .snapshot → w .marked ≡ t .txns 0 .marked → w .phase ≡ y .phase → rank (y .phase) < 5
+      → w .number ≡ t .txns 0 .number → w .snapshot ≡ t .txns 0 .snapshot → w .marked ≡ t .txns 0 .marked → w .phase ≡ y .phase → rank (y .phase) < phaseInstalled
       → bucketsOf (w .reads) ≡ y .buckets → ((r : IndexRead) → Among r (w .reads) → r .stamp ≡ s .index .stamp (r .bucket)) → w .writes ≡ y .writes → map (λ (r : ReadRecord). r .row) (w .records) ≡ y .records → Alone s y t′
   alone-set t′ w y g zs ck cs ix ts nu sn ma ph early bu st wr re =
       let here : t′ .txns 0 ≡ w = ap (λ f. f 0) ts ∙ update-same (t .txns) 0 w in
@@ -137,7 +137,7 @@ module _ (s : Store) (q : Quiet s) (x : Local) (t : Store) (a : Alone s x t) whe
   unfolding accepted
   rows-acts room k rs read p e f few fit = record { done = ok; reads-are = ap (λ v. returned t (s .clock) (v .answer)) does ∙ told; next = rw store-is after }
     where
-      third : rank (t .txns 0 .phase) ≡ 3
+      third : rank (t .txns 0 .phase) ≡ phaseCollected
       third = ap rank (a .phase-is ∙ p)
 
       key : keyIn (t .txns 0 .phase) ≡ k

@@ -7,7 +7,7 @@ use Prim.Native.Nat.{ℕ, suc, _≤_, _<_}
 use native.Mathlib.Omega.{arith}
 use native.Mathlib.Decide.{ℕ-discrete}
 use Rattle.base_lists.specs.Lists.{Among}
-use Rattle.model.specs.Store.{IndexRead, ReadRecord, Store, rank}
+use Rattle.model.specs.Store.{IndexRead, ReadRecord, Store, rank, phaseInstalled}
 use Rattle.model.specs.Seeing.{seen, keyAt}
 use Rattle.model.specs.Steps.{oldKey}
 use Rattle.model.specs.Contents.{content, contentOf, liveRow}
@@ -29,7 +29,7 @@ pub record Quiet (s : Store) : Type 0 where
 -- one is live: the transaction x by itself, begun at the quiet store s; its versions are not made yet
 pub record Alone (s : Store) (x : Local) (t : Store) : Type 0 where
   pub good : Good t
-  pub early : rank (x .phase) < 5
+  pub early : rank (x .phase) < phaseInstalled
   pub sizes-are : t .sizes ≡ s .sizes
   pub clock-is : t .clock ≡ suc (s .clock)
   pub chains-are : t .chains ≡ s .chains

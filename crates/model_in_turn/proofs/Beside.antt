@@ -13,7 +13,7 @@ use Rattle.base_limits.specs.Limits.{mostLive}
 use Rattle.base_lists.specs.Lists.{Among}
 use Rattle.base_lists.specs.Table.{update-same, update-other}
 use Rattle.base_lists.proofs.ListLaws.{among-last}
-use Rattle.model.specs.Store.{Sizes, Ended, Txn, Store, fresh, rank}
+use Rattle.model.specs.Store.{Sizes, Ended, Txn, Store, fresh, rank, phaseInstalled, phaseEnded}
 use Rattle.model.specs.Seeing.{Live}
 use Rattle.model.specs.Steps.{withPhase, becomes, newTxn}
 use Rattle.model.specs.Contents.{liveRow}
@@ -39,22 +39,22 @@ pub renamed : (s : Store) (i : ℕ) (es : List Entry) (n t : ℕ) → n ≡ t �
 renamed s i es n t e w = rw e at w
 
 -- who has ended stays so
-pub gone-move : (s s′ : Store) {b : ℕ} → Move s b s′ → (n : ℕ) → (n < s .clock) × ((i : ℕ) → Live (s .txns i) → s .txns i .number ≡ n → rank (s .txns i .phase) ≡ 6) → (n < s′ .clock) × ((i : ℕ) → Live (s′ .txns i) → s′ .txns i .number ≡ n → rank (s′ .txns i .phase) ≡ 6)
+pub gone-move : (s s′ : Store) {b : ℕ} → Move s b s′ → (n : ℕ) → (n < s .clock) × ((i : ℕ) → Live (s .txns i) → s .txns i .number ≡ n → rank (s .txns i .phase) ≡ phaseEnded) → (n < s′ .clock) × ((i : ℕ) → Live (s′ .txns i) → s′ .txns i .number ≡ n → rank (s′ .txns i .phase) ≡ phaseEnded)
 gone-move s s′ m n h = (omega (arith, h .0, clock-move s s′ m), go (numbering s s′ m))
   where
-    go : Numbering s s′ → (i : ℕ) → Live (s′ .txns i) → s′ .txns i .number ≡ n → rank (s′ .txns i .phase) ≡ 6
+    go : Numbering s s′ → (i : ℕ) → Live (s′ .txns i) → s′ .txns i .number ≡ n → rank (s′ .txns i .phase) ≡ phaseEnded
     go (began j e a b c) i l p = elim (ℕ-discrete i j) [
       | yes d ↦ let q : s′ .txns j .number ≡ s .clock = ap (λ (w : Store). w .txns j .number) e ∙ ap (λ (v : Txn). v .number) (update-same (s .txns) j (newTxn s)) in let r : s′ .txns i .number ≡ s′ .txns j .number = ap (λ k. s′ .txns k .number) d in absurd (omega (arith, h .0, p, q, r))
       | no d ↦ let same : s′ .txns i ≡ s .txns i = ap (λ w. w .txns i) e ∙ update-other (s .txns) j (newTxn s) i d in rw same (h .1 i (rw same at l) (rw same at p))
     ]
-    go (kept k u) i l p = top (ltb (rank (s′ .txns i .phase)) 6) refl
+    go (kept k u) i l p = top (ltb (rank (s′ .txns i .phase)) phaseEnded) refl
       where
         same : s′ .txns i .number ≡ s .txns i .number
         same = k .number i l
 
-        top : (t : Bool) → ltb (rank (s′ .txns i .phase)) 6 ≡ t → rank (s′ .txns i .phase) ≡ 6
-        top true e = absurd (omega (arith, h .1 i (omega (arith, same, l)) (sym same ∙ p), k .running i l (ltb-true (rank (s′ .txns i .phase)) 6 e)))
-        top false e = omega (arith, ltb-false (rank (s′ .txns i .phase)) 6 e, rank-top (s′ .txns i .phase))
+        top : (t : Bool) → ltb (rank (s′ .txns i .phase)) phaseEnded ≡ t → rank (s′ .txns i .phase) ≡ phaseEnded
+        top true e = absurd (omega (arith, h .1 i (omega (arith, same, l)) (sym same ∙ p), k .running i l (ltb-true (rank (s′ .txns i .phase)) phaseEnded e)))
+        top false e = omega (arith, ltb-false (rank (s′ .txns i .phase)) phaseEnded e, rank-top (s′ .txns i .phase))
 
 module _ (z : Sizes) (c₀ : ℕ) where
   -- the store after the turn
@@ -77,9 +77,9 @@ module _ (z : Sizes) (c₀ : ℕ) where
   -- all that is kept from step to step: who has not ended is followed, entries are of older numbers, who has ended stays so, and the turn
   pub record SideBySide (s : Store) (es : List Entry) : Type 0 where
     pub good : Good s
-    pub follow : (i : ℕ) → Live (s .txns i) → rank (s .txns i .phase) < 6 → (x : Local) × Followed s i (s .txns i .number) (doneBy (s .txns i .number) es) x
+    pub follow : (i : ℕ) → Live (s .txns i) → rank (s .txns i .phase) < phaseEnded → (x : Local) × Followed s i (s .txns i .number) (doneBy (s .txns i .number) es) x
     pub older : (e : Entry) → Among e es → e .who < s .clock
-    pub gone : (n : ℕ) → Among n (endOrder es) → (n < s .clock) × ((i : ℕ) → Live (s .txns i) → s .txns i .number ≡ n → rank (s .txns i .phase) ≡ 6)
+    pub gone : (n : ℕ) → Among n (endOrder es) → (n < s .clock) × ((i : ℕ) → Live (s .txns i) → s .txns i .number ≡ n → rank (s .txns i .phase) ≡ phaseEnded)
     pub beside : Beside s es
 
   -- nobody ends
@@ -100,13 +100,13 @@ module _ (z : Sizes) (c₀ : ℕ) where
       (who-b : (i : ℕ) → i ≢ b → Live (s .txns i) → e .who ≢ s .txns i .number)
       (who-old : e .who < s′ .clock)
       (turn-free : (n : ℕ) → Among n (endOrder es) → eqb (e .who) n && not (isPublish (e .what)) ≡ false)
-      (not-five : Live (s .txns b) → rank (s .txns b .phase) ≢ 5)
-      (own : Live (s′ .txns b) → rank (s′ .txns b .phase) < 6 → (y : Local) × Followed s′ b (s′ .txns b .number) (doneBy (s′ .txns b .number) (es ++ (e ∷ []))) y) where
+      (not-five : Live (s .txns b) → rank (s .txns b .phase) ≢ phaseInstalled)
+      (own : Live (s′ .txns b) → rank (s′ .txns b .phase) < phaseEnded → (y : Local) × Followed s′ b (s′ .txns b .number) (doneBy (s′ .txns b .number) (es ++ (e ∷ []))) y) where
     g′ : Good s′
     g′ = good-move s s′ (h .good) m
 
     -- it is no end, so the live rows and the order stay
-    no-end : (i : ℕ) → Live (s .txns i) → rank (s .txns i .phase) ≡ 5 → s′ ≡ becomes s i Ended → ⊥
+    no-end : (i : ℕ) → Live (s .txns i) → rank (s .txns i .phase) ≡ phaseInstalled → s′ ≡ becomes s i Ended → ⊥
     no-end i l a c = elim (ℕ-discrete i b) [
       | yes d ↦ not-five (rw d at l) (rw d at a)
       | no d ↦ omega (arith, a, ap (λ (v : Txn). rank (v .phase)) (untouched s s′ m i d), ap (λ w. rank (w .txns i .phase)) c, ap (λ (v : Txn). rank (v .phase)) (update-same (s .txns) i (withPhase (s .txns i) Ended)))
@@ -126,7 +126,7 @@ module _ (z : Sizes) (c₀ : ℕ) where
           order-same (sizes-move s s′ m) (live-kept s s′ (h .good) g′ m no-end) (counted-move s s′ (h .good) m no-end);
     }
       where
-        others : (i : ℕ) → i ≢ b → Live (s′ .txns i) → rank (s′ .txns i .phase) < 6 → (y : Local) × Followed s′ i (s′ .txns i .number) (doneBy (s′ .txns i .number) (es ++ (e ∷ []))) y
+        others : (i : ℕ) → i ≢ b → Live (s′ .txns i) → rank (s′ .txns i .phase) < phaseEnded → (y : Local) × Followed s′ i (s′ .txns i .number) (doneBy (s′ .txns i .number) (es ++ (e ∷ []))) y
         others i d l a =
             let same = untouched s s′ m i d in
             let l₀ : Live (s .txns i) = rw same at l in

@@ -12,7 +12,7 @@ use borrow.Author.Tests.{eq-eqb, ne-eqb, ltb-true, lt-ltb}
 use Rattle.base_limits.specs.Limits.{mostLive}
 use Rattle.base_lists.specs.Table.{update, update-elim}
 use Rattle.base_lists.proofs.ListLaws.{and-false}
-use Rattle.model.specs.Store.{Sizes, Installed, Ended, Txn, Store, noTxn, rank}
+use Rattle.model.specs.Store.{Sizes, Installed, Ended, Txn, Store, noTxn, rank, phasePrepared, phaseInstalled, phaseEnded}
 use Rattle.model.specs.Seeing.{live, Live}
 use Rattle.model.specs.Steps.{withPhase, becomes, newTxn, begun, oldKey, versionRows, installed, ended, published}
 use Rattle.model.specs.Refusals.{liveCount}
@@ -27,13 +27,13 @@ use Rattle.model.proofs.Good.{Good}
 
 -- versions made and not shown yet; who runs; who has ended
 unfoldable pub waiting : Sizes → (ℕ → Option ℕ) → Txn → ℕ
-waiting z posted x = cond (live x && eqb (rank (x .phase)) 5) (length (versionsOver z posted (x .writes))) 0
+waiting z posted x = cond (live x && eqb (rank (x .phase)) phaseInstalled) (length (versionsOver z posted (x .writes))) 0
 
 unfoldable pub running : Txn → ℕ
-running x = one (live x && ltb (rank (x .phase)) 6)
+running x = one (live x && ltb (rank (x .phase)) phaseEnded)
 
 unfoldable pub over : Txn → ℕ
-over x = one (live x && not (ltb (rank (x .phase)) 6))
+over x = one (live x && not (ltb (rank (x .phase)) phaseEnded))
 
 not-below : (m n : ℕ) → n ≤ m → ltb m n ≡ false
 not-below m n h = go (ltb m n) refl
@@ -49,9 +49,9 @@ pub record Counts (z : Sizes) (posted : ℕ → Option ℕ) (x : Txn) (w r o : �
   pub is-over : over x ≡ o
 
 module _ (z : Sizes) (posted : ℕ → Option ℕ) (x : Txn) where
-  wait-not : rank (x .phase) ≢ 5 → waiting z posted x ≡ 0
+  wait-not : rank (x .phase) ≢ phaseInstalled → waiting z posted x ≡ 0
   unfolding waiting
-  wait-not d = rw (ne-eqb (rank (x .phase)) 5 d, and-false (live x)) refl
+  wait-not d = rw (ne-eqb (rank (x .phase)) phaseInstalled d, and-false (live x)) refl
 
   -- a free place
   pub count-free : x .number ≡ 0 → Counts z posted x 0 0 0
@@ -60,24 +60,24 @@ module _ (z : Sizes) (posted : ℕ → Option ℕ) (x : Txn) where
 
   -- one that has not installed, one that has, and one that has ended
   module _ (l : Live x) where
-    runs-on : rank (x .phase) < 6 → (running x ≡ 1) × (over x ≡ 0)
+    runs-on : rank (x .phase) < phaseEnded → (running x ≡ 1) × (over x ≡ 0)
     unfolding running over
-    runs-on a = (rw (live-test x l, lt-ltb (rank (x .phase)) 6 a) refl, rw (lt-ltb (rank (x .phase)) 6 a, and-false (live x)) refl)
+    runs-on a = (rw (live-test x l, lt-ltb (rank (x .phase)) phaseEnded a) refl, rw (lt-ltb (rank (x .phase)) phaseEnded a, and-false (live x)) refl)
 
-    pub count-early : rank (x .phase) < 5 → Counts z posted x 0 1 0
+    pub count-early : rank (x .phase) < phaseInstalled → Counts z posted x 0 1 0
     count-early a = let o = runs-on (omega arith) in record { waits = wait-not (λ e. omega arith); runs = o .0; is-over = o .1 }
 
-    pub count-installed : rank (x .phase) ≡ 5 → Counts z posted x (length (versionsOver z posted (x .writes))) 1 0
+    pub count-installed : rank (x .phase) ≡ phaseInstalled → Counts z posted x (length (versionsOver z posted (x .writes))) 1 0
     unfolding waiting
-    count-installed e = let o = runs-on (omega arith) in record { waits = rw (live-test x l, eq-eqb (rank (x .phase)) 5 e) refl; runs = o .0; is-over = o .1 }
+    count-installed e = let o = runs-on (omega arith) in record { waits = rw (live-test x l, eq-eqb (rank (x .phase)) phaseInstalled e) refl; runs = o .0; is-over = o .1 }
 
-    pub count-ended : rank (x .phase) ≡ 6 → Counts z posted x 0 0 1
+    pub count-ended : rank (x .phase) ≡ phaseEnded → Counts z posted x 0 0 1
     unfolding running over
-    count-ended e = record { waits = wait-not (λ f. omega arith); runs = rw (not-below (rank (x .phase)) 6 (omega arith), and-false (live x)) refl; is-over = rw (live-test x l, not-below (rank (x .phase)) 6 (omega arith)) refl }
+    count-ended e = record { waits = wait-not (λ f. omega arith); runs = rw (not-below (rank (x .phase)) phaseEnded (omega arith), and-false (live x)) refl; is-over = rw (live-test x l, not-below (rank (x .phase)) phaseEnded (omega arith)) refl }
 
 live-parts : (x : Txn) → one (live x) ≡ running x + over x
 unfolding running over
-live-parts x = go (live x) (ltb (rank (x .phase)) 6)
+live-parts x = go (live x) (ltb (rank (x .phase)) phaseEnded)
   where
     go : (a b : Bool) → one a ≡ one (a && b) + one (a && not b)
     go true true = refl
@@ -113,20 +113,20 @@ pub record Counted (s s′ : Store) : Type 0 where
   pub count-is : s .clock + sum over (s .txns) mostLive + sum running (s′ .txns) mostLive ≤ s′ .clock + sum over (s′ .txns) mostLive + sum running (s .txns) mostLive
 
 -- one place goes on and neither installs nor ends
-on-counted : (s s′ : Store) (i : ℕ) (x : Txn) → Good s → s′ .txns ≡ update (s .txns) i x → s′ .chains ≡ s .chains → s′ .index ≡ s .index → s′ .clock ≡ s .clock → Live (s .txns i) → x .number ≡ s .txns i .number → rank (s .txns i .phase) < 5 → rank (x .phase) < 5 → Counted s s′
+on-counted : (s s′ : Store) (i : ℕ) (x : Txn) → Good s → s′ .txns ≡ update (s .txns) i x → s′ .chains ≡ s .chains → s′ .index ≡ s .index → s′ .clock ≡ s .clock → Live (s .txns i) → x .number ≡ s .txns i .number → rank (s .txns i .phase) < phaseInstalled → rank (x .phase) < phaseInstalled → Counted s s′
 on-counted s s′ i x g ts cs xs ck l e a b =
     let c = change (s .sizes) (s .index .posted) (s .txns) i x (in-place (s .clock) (s .txns) (g .numbers) i l) (count-early (s .sizes) (s .index .posted) (s .txns i) l a) (count-early (s .sizes) (s .index .posted) x (omega arith) b) in
     record { wait-is = rw (ts, cs, xs) (omega (arith, c .waits)); count-is = rw (ts, ck) (omega (arith, c .runs, c .are-over)) }
 
 -- what one waits for is not changed by another's publish
-posted-waits : (s : Store) (i : ℕ) → Good s → rank (s .txns i .phase) ≡ 6 → (j : ℕ) → waiting (s .sizes) (published s i .index .posted) (published s i .txns j) ≡ waiting (s .sizes) (s .index .posted) (published s i .txns j)
+posted-waits : (s : Store) (i : ℕ) → Good s → rank (s .txns i .phase) ≡ phaseEnded → (j : ℕ) → waiting (s .sizes) (published s i .index .posted) (published s i .txns j) ≡ waiting (s .sizes) (s .index .posted) (published s i .txns j)
 unfolding waiting
 posted-waits s i g a j = update-elim (λ y. waiting (s .sizes) (published s i .index .posted) y ≡ waiting (s .sizes) (s .index .posted) y) (s .txns) i noTxn j
     (λ e. refl)
-    (λ d. go d (ℕ-discrete (rank (s .txns j .phase)) 5))
+    (λ d. go d (ℕ-discrete (rank (s .txns j .phase)) phaseInstalled))
   where
-    go : j ≢ i → Dec (rank (s .txns j .phase) ≡ 5) → waiting (s .sizes) (published s i .index .posted) (s .txns j) ≡ waiting (s .sizes) (s .index .posted) (s .txns j)
-    go d (yes e) = ap (λ rs. cond (live (s .txns j) && eqb (rank (s .txns j .phase)) 5) (length rs) 0) (versions-same (s .sizes) (s .index .posted) (published s i .index .posted) (s .txns j) (λ r w. posted-kept s i (g .numbers) (g .holders) (omega arith) j r d (omega arith) w))
+    go : j ≢ i → Dec (rank (s .txns j .phase) ≡ phaseInstalled) → waiting (s .sizes) (published s i .index .posted) (s .txns j) ≡ waiting (s .sizes) (s .index .posted) (s .txns j)
+    go d (yes e) = ap (λ rs. cond (live (s .txns j) && eqb (rank (s .txns j .phase)) phaseInstalled) (length rs) 0) (versions-same (s .sizes) (s .index .posted) (published s i .index .posted) (s .txns j) (λ r w. posted-kept s i (g .numbers) (g .holders) (omega arith) j r d (omega arith) w))
     go d (no f) = wait-not (s .sizes) (published s i .index .posted) (s .txns j) f ∙ sym (wait-not (s .sizes) (s .index .posted) (s .txns j) f)
 
 module _ (s : Store) (g : Good s) (i : ℕ) where
@@ -141,7 +141,7 @@ module _ (s : Store) (g : Good s) (i : ℕ) where
     u = in-place (s .clock) (s .txns) (g .numbers) i l
 
     -- the versions that it makes wait for its end
-    install-counted : rank (s .txns i .phase) ≡ 4 → Counted s (installed s i)
+    install-counted : rank (s .txns i .phase) ≡ phasePrepared → Counted s (installed s i)
     install-counted a =
         let c = change (s .sizes) (s .index .posted) (s .txns) i (withPhase (s .txns i) Installed) u (count-early (s .sizes) (s .index .posted) (s .txns i) l (omega arith)) (count-installed (s .sizes) (s .index .posted) (withPhase (s .txns i) Installed) l refl) in
         let p = used-pushAll (s .txns i) (versionRows (s .sizes) (s .chains) (s .txns i .writes)) (s .chains) in
@@ -149,19 +149,19 @@ module _ (s : Store) (g : Good s) (i : ℕ) where
         record { wait-is = omega (arith, c .waits, p, v); count-is = omega (arith, c .runs, c .are-over) }
 
     -- who was over is gone
-    publish-counted : rank (s .txns i .phase) ≡ 6 → Counted s (published s i)
+    publish-counted : rank (s .txns i .phase) ≡ phaseEnded → Counted s (published s i)
     publish-counted a =
         let c = change (s .sizes) (s .index .posted) (s .txns) i noTxn u (count-ended (s .sizes) (s .index .posted) (s .txns i) l a) (count-free (s .sizes) (s .index .posted) noTxn refl) in
         let o = sum-same (waiting (s .sizes) (s .index .posted)) (waiting (s .sizes) (published s i .index .posted)) (published s i .txns) (published s i .txns) mostLive (λ j u. posted-waits s i g a j) in
         record { wait-is = omega (arith, c .waits, o); count-is = omega (arith, c .runs, c .are-over) }
 
     -- who ran is gone
-    abort-counted : rank (s .txns i .phase) < 5 → Counted s (ended s i)
+    abort-counted : rank (s .txns i .phase) < phaseInstalled → Counted s (ended s i)
     abort-counted a =
         let c = change (s .sizes) (s .index .posted) (s .txns) i noTxn u (count-early (s .sizes) (s .index .posted) (s .txns i) l a) (count-free (s .sizes) (s .index .posted) noTxn refl) in
         record { wait-is = omega (arith, c .waits); count-is = omega (arith, c .runs, c .are-over) }
 
-pub counted-move : (s s′ : Store) {b : ℕ} → Good s → Move s b s′ → ((i : ℕ) → Live (s .txns i) → rank (s .txns i .phase) ≡ 5 → s′ ≡ becomes s i Ended → ⊥) → Counted s s′
+pub counted-move : (s s′ : Store) {b : ℕ} → Good s → Move s b s′ → ((i : ℕ) → Live (s .txns i) → rank (s .txns i .phase) ≡ phaseInstalled → s′ ≡ becomes s i Ended → ⊥) → Counted s s′
 counted-move s s′ g (stay i) no-end = record { wait-is = refl; count-is = omega arith }
 counted-move s s′ g (did-begin i a b c d) no-end = begin-counted s g i a b
 counted-move s s′ g (did-mark i a b) no-end = on-counted s s′ i _ g refl refl refl refl a refl (omega arith) (omega arith)
@@ -181,7 +181,7 @@ pub record Ends (s : Store) (i : ℕ) : Type 0 where
   pub runs-are : sum running (becomes s i Ended .txns) mostLive + 1 ≡ sum running (s .txns) mostLive
   pub over-are : sum over (becomes s i Ended .txns) mostLive ≡ sum over (s .txns) mostLive + 1
 
-pub ends : (s : Store) (i : ℕ) → Good s → Live (s .txns i) → rank (s .txns i .phase) ≡ 5 → Ends s i
+pub ends : (s : Store) (i : ℕ) → Good s → Live (s .txns i) → rank (s .txns i .phase) ≡ phaseInstalled → Ends s i
 ends s i g l a =
     let x = withPhase (s .txns i) Ended in
     let c = change (s .sizes) (s .index .posted) (s .txns) i x (in-place (s .clock) (s .txns) (g .numbers) i l) (count-installed (s .sizes) (s .index .posted) (s .txns i) l a) (count-ended (s .sizes) (s .index .posted) x l refl) in

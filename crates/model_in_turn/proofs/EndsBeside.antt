@@ -13,7 +13,7 @@ use Rattle.base_limits.specs.Limits.{mostLive, lastNumber}
 use Rattle.base_lists.specs.Lists.{Among}
 use Rattle.base_lists.specs.Table.{update-same}
 use Rattle.base_lists.proofs.ListLaws.{among-last, pick-which}
-use Rattle.model.specs.Store.{Sizes, Ended, Txn, Store, fresh, rank}
+use Rattle.model.specs.Store.{Sizes, Ended, Txn, Store, fresh, rank, phaseInstalled, phaseEnded}
 use Rattle.model.specs.Seeing.{versionOf, keyAt, lastWrite, pending, writtenKey, Live, snapshotNow}
 use Rattle.model.specs.Steps.{withPhase, becomes, pendingRows, oldKey, versionRows, writtenPayload}
 use Rattle.model.specs.Contents.{Content, content, contentOf, liveRow}
@@ -64,14 +64,14 @@ module _ (z : Sizes) (c₀ : ℕ) where
     live-b : Live (s .txns b)
     live-b = omega (arith, number-b, end-0 s t .0 ok .1 .3)
 
-    fifth : rank (s .txns b .phase) ≡ 5
+    fifth : rank (s .txns b .phase) ≡ phaseInstalled
     fifth = end-0 s t .0 ok .2
 
     followed : (x : Local) × Followed s b t (doneBy t es) x
     followed = renamed s b es (s .txns b .number) t number-b (h .follow b live-b (omega (arith, fifth)))
 
     -- all that it did, by itself over the rows as they are before its end
-    own : (y : Local) × Played (s .sizes) (liveRow s) t (doneBy t es ++ (e ∷ [])) y × (y .phase ≡ Ended) × (y .writes ≡ s .txns b .writes) × (step s (end t) .store ≡ becomes s b Ended) × (rank (s .txns b .phase) ≡ 5)
+    own : (y : Local) × Played (s .sizes) (liveRow s) t (doneBy t es ++ (e ∷ [])) y × (y .phase ≡ Ended) × (y .writes ≡ s .txns b .writes) × (step s (end t) .store ≡ becomes s b Ended) × (rank (s .txns b .phase) ≡ phaseInstalled)
     own = own-end s (h .good) b t (doneBy t es) (followed .0) (followed .1 .0) (followed .1 .1) ok
 
     good′ : Good (becomes s b Ended)
@@ -155,7 +155,7 @@ module _ (z : Sizes) (c₀ : ℕ) where
         m : Move s b (becomes s b Ended)
         m = did-end b live-b fifth
 
-        follow′ : (i : ℕ) → Live (becomes s b Ended .txns i) → rank (becomes s b Ended .txns i .phase) < 6 → (y : Local) × Followed (becomes s b Ended) i (becomes s b Ended .txns i .number) (doneBy (becomes s b Ended .txns i .number) es′) y
+        follow′ : (i : ℕ) → Live (becomes s b Ended .txns i) → rank (becomes s b Ended .txns i .phase) < phaseEnded → (y : Local) × Followed (becomes s b Ended) i (becomes s b Ended .txns i .number) (doneBy (becomes s b Ended .txns i .number) es′) y
         follow′ i l a = elim (ℕ-discrete i b) [
           | yes d ↦ absurd (omega (arith, a, ap (λ j. rank (becomes s b Ended .txns j .phase)) d, ap (λ (v : Txn). rank (v .phase)) (update-same (s .txns) b (withPhase (s .txns b) Ended))))
           | no d ↦
@@ -167,10 +167,10 @@ module _ (z : Sizes) (c₀ : ℕ) where
               (w .0, rw (same, others-same (s .txns i .number) es e free) f)
         ]
 
-        gone′ : (n : ℕ) → Among n (endOrder es′) → (n < s .clock) × ((i : ℕ) → Live (becomes s b Ended .txns i) → becomes s b Ended .txns i .number ≡ n → rank (becomes s b Ended .txns i .phase) ≡ 6)
+        gone′ : (n : ℕ) → Among n (endOrder es′) → (n < s .clock) × ((i : ℕ) → Live (becomes s b Ended .txns i) → becomes s b Ended .txns i .number ≡ n → rank (becomes s b Ended .txns i .phase) ≡ phaseEnded)
         gone′ n o = ⊎-elim (λ c. gone-move s (becomes s b Ended) m n (h .gone n c)) (λ c. (omega (arith, c, number-b, h .good .numbers .below b), λ i l p. new i l (p ∙ c))) (among-last n t (endOrder es) (rw order-is at o))
           where
-            new : (i : ℕ) → Live (becomes s b Ended .txns i) → becomes s b Ended .txns i .number ≡ t → rank (becomes s b Ended .txns i .phase) ≡ 6
+            new : (i : ℕ) → Live (becomes s b Ended .txns i) → becomes s b Ended .txns i .number ≡ t → rank (becomes s b Ended .txns i .phase) ≡ phaseEnded
             new i l p = elim (ℕ-discrete i b) [
               | yes d ↦ rw d (ap (λ (v : Txn). rank (v .phase)) (update-same (s .txns) b (withPhase (s .txns b) Ended)))
               | no d ↦ let same = untouched s (becomes s b Ended) m i d in absurd (d (h .good .numbers .distinct i b (rw same at l) (rw same at p ∙ sym number-b)))

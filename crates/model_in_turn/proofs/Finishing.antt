@@ -8,7 +8,7 @@ use native.Mathlib.Omega.{arith}
 use lib.ListN.{length}
 use Rattle.base_lists.specs.Table.{update-same, update-other}
 use Rattle.base_lists.proofs.ListLaws.{pick-which}
-use Rattle.model.specs.Store.{Prepared, Installed, Ended, Write, Txn, Store, noTxn, rank}
+use Rattle.model.specs.Store.{Prepared, Installed, Ended, Write, Txn, Store, noTxn, rank, phasePrepared, phaseInstalled, phaseEnded}
 use Rattle.model.specs.Seeing.{keyAt, lastWrite, pending, writtenKey, Live}
 use Rattle.model.specs.Steps.{withPhase, becomes, pendingRows, versionRows, writtenPayload, installed, published}
 use Rattle.model.specs.Contents.{content, contentOf, liveRow}
@@ -48,7 +48,7 @@ module _ (s : Store) (q : Quiet s) (x : Local) (t : Store) (a : Alone s x t) (p 
   pos : 1 ≤ n
   pos = q .good .numbers .clock-pos
 
-  fourth : rank (t .txns 0 .phase) ≡ 4
+  fourth : rank (t .txns 0 .phase) ≡ phasePrepared
   fourth = ap rank (a .phase-is ∙ p)
 
   live-mine : Live (t .txns 0)
@@ -59,7 +59,7 @@ module _ (s : Store) (q : Quiet s) (x : Local) (t : Store) (a : Alone s x t) (p 
   unfolding contentOf
   rows-still r = ap (λ v. content (keyAt (t .chains) v) (t .chains .payload v)) (head-shown t (a .good) r (λ l h. none-hidden (h .0) (h .1) (h .2))) ∙ rw (a .chains-are) (sym (quiet-head s q r))
     where
-      none-hidden : (j : ℕ) → Live (t .txns j) → rank (t .txns j .phase) ≡ 5 → ⊥
+      none-hidden : (j : ℕ) → Live (t .txns j) → rank (t .txns j .phase) ≡ phaseInstalled → ⊥
       none-hidden zero b c = omega (arith, fourth)
       none-hidden (suc j) b c = omega (arith, a .others (suc j) (λ e. omega arith))
 
@@ -83,7 +83,7 @@ module _ (s : Store) (q : Quiet s) (x : Local) (t : Store) (a : Alone s x t) (p 
   mine₁ : t₁ .txns 0 .number ≡ n
   mine₁ = ap (λ (v : Txn). v .number) here₁ ∙ a .mine
 
-  fifth : rank (t₁ .txns 0 .phase) ≡ 5
+  fifth : rank (t₁ .txns 0 .phase) ≡ phaseInstalled
   fifth = ap (λ (v : Txn). rank (v .phase)) here₁
 
   -- end
@@ -106,7 +106,7 @@ module _ (s : Store) (q : Quiet s) (x : Local) (t : Store) (a : Alone s x t) (p 
   mine₂ : t₂ .txns 0 .number ≡ n
   mine₂ = ap (λ (v : Txn). v .number) here₂ ∙ mine₁
 
-  sixth : rank (t₂ .txns 0 .phase) ≡ 6
+  sixth : rank (t₂ .txns 0 .phase) ≡ phaseEnded
   sixth = ap (λ (v : Txn). rank (v .phase)) here₂
 
   -- publish

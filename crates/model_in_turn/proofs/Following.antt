@@ -9,7 +9,7 @@ use lib.Dec.{ltb}
 use borrow.Author.Tests.{ltb-true, ltb-false}
 use Rattle.base_lists.specs.Lists.{Among}
 use Rattle.base_lists.specs.Table.{update, update-other}
-use Rattle.model.specs.Store.{Ended, IndexRead, Write, ReadRecord, Txn, Store, rank, bucketOf}
+use Rattle.model.specs.Store.{Ended, IndexRead, Write, ReadRecord, Txn, Store, rank, phasePrepared, phaseInstalled, bucketOf}
 use Rattle.model.specs.Seeing.{seen, versionOf, keyAt, recordOf, Live}
 use Rattle.model.specs.Steps.{becomes, hasRead, versionRows, installed}
 use Rattle.model.specs.Contents.{Content, contentOf, liveRow}
@@ -35,10 +35,10 @@ pub record Follow (s : Store) (i n : ℕ) (script : List Entry) (x : Local) (m :
   -- its script is what it does by itself over the contents m
   pub plays : Played (s .sizes) m n script x
   -- until it prepares these are what its snapshot shows, and from then on the live rows
-  pub early : rank (x .phase) < 4 → (r : ℕ) → m r ≡ contentOf (s .chains) (s .txns i .snapshot) r
-  pub late : 4 ≤ rank (x .phase) → (r : ℕ) → m r ≡ liveRow s r
+  pub early : rank (x .phase) < phasePrepared → (r : ℕ) → m r ≡ contentOf (s .chains) (s .txns i .snapshot) r
+  pub late : phasePrepared ≤ rank (x .phase) → (r : ℕ) → m r ≡ liveRow s r
   -- until it prepares all that it relies on is recorded; the buckets of its reads are its index reads to the end
-  pub kept : rank (x .phase) < 4 → (q : ℕ × List Write) → Among q (x .done) → Relied (s .sizes) (s .chains) (s .txns i) (q .0) (q .1)
+  pub kept : rank (x .phase) < phasePrepared → (q : ℕ × List Write) → Among q (x .done) → Relied (s .sizes) (s .chains) (s .txns i) (q .0) (q .1)
   pub reads-in : (q : ℕ × List Write) → Among q (x .done) → hasRead (s .txns i .reads) (bucketOf (s .sizes) (q .0)) ≡ true
 
 -- over some contents
@@ -63,7 +63,7 @@ module _ (s : Store) (i n : ℕ) (script : List Entry) (x : Local) (m : ℕ → 
   }
 
   -- another installs
-  module _ (j : ℕ) (d : i ≢ j) (g : Good s) (g′ : Good (installed s j)) (l : Live (s .txns j)) (a : rank (s .txns j .phase) ≡ 4) where
+  module _ (j : ℕ) (d : i ≢ j) (g : Good s) (g′ : Good (installed s j)) (l : Live (s .txns j)) (a : rank (s .txns j .phase) ≡ phasePrepared) where
     -- its place is as it was, and its snapshot does not see the other's versions
     here : installed s j .txns i ≡ s .txns i
     here = update-other (s .txns) j _ i d
@@ -102,11 +102,11 @@ module _ (s : Store) (i n : ℕ) (script : List Entry) (x : Local) (m : ℕ → 
     }
 
   -- another ends
-  module _ (j : ℕ) (d : i ≢ j) (g : Good s) (g′ : Good (becomes s j Ended)) (l : Live (s .txns j)) (a : rank (s .txns j .phase) ≡ 5) where
+  module _ (j : ℕ) (d : i ≢ j) (g : Good s) (g′ : Good (becomes s j Ended)) (l : Live (s .txns j)) (a : rank (s .txns j .phase) ≡ phaseInstalled) where
     same-place : becomes s j Ended .txns i ≡ s .txns i
     same-place = update-other (s .txns) j _ i d
 
-    follow-end-early : rank (x .phase) < 4 → Follow (becomes s j Ended) i n script x m
+    follow-end-early : rank (x .phase) < phasePrepared → Follow (becomes s j Ended) i n script x m
     follow-end-early b = record {
       number-is = rw same-place (f .number-is);
       alive = f .alive;
@@ -121,7 +121,7 @@ module _ (s : Store) (i n : ℕ) (script : List Entry) (x : Local) (m : ℕ → 
       reads-in = λ q o. rw same-place (f .reads-in q o);
     }
 
-    follow-end-late : 4 ≤ rank (x .phase) → Follow (becomes s j Ended) i n script x (liveRow (becomes s j Ended))
+    follow-end-late : phasePrepared ≤ rank (x .phase) → Follow (becomes s j Ended) i n script x (liveRow (becomes s j Ended))
     follow-end-late b = record {
       number-is = rw same-place (f .number-is);
       alive = f .alive;
@@ -140,7 +140,7 @@ module _ (s : Store) (i n : ℕ) (script : List Entry) (x : Local) (m : ℕ → 
         agree q o r u p = rw (f .late b r) (undisturbed s g j g′ l a i d (omega (arith, ap rank (f .phase-is))) (q .0) (f .reads-in q o) r)
 
 -- another goes on, neither from Installed nor to it
-one-place : (s s′ : Store) (i n : ℕ) (script : List Entry) (x : Local) (j : ℕ) (y : Txn) → i ≢ j → s′ .sizes ≡ s .sizes → s′ .chains ≡ s .chains → s′ .txns ≡ update (s .txns) j y → (Live (s .txns j) → rank (s .txns j .phase) ≢ 5) → rank (y .phase) ≢ 5
+one-place : (s s′ : Store) (i n : ℕ) (script : List Entry) (x : Local) (j : ℕ) (y : Txn) → i ≢ j → s′ .sizes ≡ s .sizes → s′ .chains ≡ s .chains → s′ .txns ≡ update (s .txns) j y → (Live (s .txns j) → rank (s .txns j .phase) ≢ phaseInstalled) → rank (y .phase) ≢ phaseInstalled
     → Good s → Good s′ → Followed s i n script x → Followed s′ i n script x
 one-place s s′ i n script x j y d zs cs ts old new g g′ f = (f .0, follow-still s i n script x (f .0) (f .1) s′ zs cs (ap (λ t. t i) ts ∙ update-other (s .txns) j y i d) (live-set s s′ j y ts cs old new g g′))
 
@@ -155,9 +155,9 @@ follow-others s s′ i n script x g g′ (did-rows j a b c) d f = one-place s s�
 follow-others s s′ i n script x g g′ (did-write j w a b c e) d f = one-place s s′ i n script x j _ d refl refl refl (λ l o. omega arith) (λ o. omega arith) g g′ f
 follow-others s s′ i n script x g g′ (did-prepare j a b c) d f = one-place s s′ i n script x j _ d refl refl refl (λ l o. omega arith) (λ o. omega arith) g g′ f
 follow-others s s′ i n script x g g′ (did-install j a b) d f = (f .0, follow-install s i n script x (f .0) (f .1) j d g g′ a b)
-follow-others s s′ i n script x g g′ (did-end j a b) d f = go (ltb (rank (x .phase)) 4) refl
+follow-others s s′ i n script x g g′ (did-end j a b) d f = go (ltb (rank (x .phase)) phasePrepared) refl
   where
-    go : (t : Bool) → ltb (rank (x .phase)) 4 ≡ t → Followed (becomes s j Ended) i n script x
+    go : (t : Bool) → ltb (rank (x .phase)) phasePrepared ≡ t → Followed (becomes s j Ended) i n script x
     go true e = (f .0, follow-end-early s i n script x (f .0) (f .1) j d g g′ a b (ltb-true _ _ e))
     go false e = (liveRow (becomes s j Ended), follow-end-late s i n script x (f .0) (f .1) j d g g′ a b (ltb-false _ _ e))
 follow-others s s′ i n script x g g′ (did-publish j a b) d f = one-place s s′ i n script x j _ d refl refl refl (λ l o. omega arith) (λ o. omega arith) g g′ f

@@ -11,7 +11,7 @@ use Rattle.base_limits.specs.Limits.{mostRows, mostIndexReads, mostRecords}
 use Rattle.base_lists.specs.Lists.{member, Among}
 use Rattle.base_lists.specs.Table.{update, update-same}
 use Rattle.base_lists.proofs.ListLaws.{among-left, among-last, which-pick}
-use Rattle.model.specs.Store.{Open, Holding, Collected, Prepared, Installed, Ended, IndexRead, Write, ReadRecord, Txn, Store, rank, bucketIn, keyIn, bucketOf}
+use Rattle.model.specs.Store.{Open, Holding, Collected, Prepared, Installed, Ended, IndexRead, Write, ReadRecord, Txn, Store, rank, phaseOpen, phaseHolding, phaseCollected, phasePrepared, phaseInstalled, bucketIn, keyIn, bucketOf}
 use Rattle.model.specs.Seeing.{versionOf, keyAt, pending, matches, Live}
 use Rattle.model.specs.Steps.{withPhase, becomes, hasRead, captured, collected, foundRows, recordsAfter, readTxn, readDone, written, readBuckets, neededBuckets, prepared, installed}
 use Rattle.model.specs.Contents.{Content, contentOf, shownTo, liveRow}
@@ -56,7 +56,7 @@ module _ (s : Store) (g : Good s) (i n : ℕ) (script : List Entry) (x : Local) 
   rank-of k e = sym (ap rank (f .phase-is)) ∙ (ap (λ (v : Txn). rank (v .phase)) (sym txn-of) ∙ e)
 
   -- its place goes on, before it prepares
-  follow-set : (s′ : Store) (w : Txn) (y : Local) (script′ : List Entry) → s′ .sizes ≡ s .sizes → s′ .chains ≡ s .chains → s′ .txns ≡ update (s .txns) i w → rank (x .phase) < 4 → rank (y .phase) < 4
+  follow-set : (s′ : Store) (w : Txn) (y : Local) (script′ : List Entry) → s′ .sizes ≡ s .sizes → s′ .chains ≡ s .chains → s′ .txns ≡ update (s .txns) i w → rank (x .phase) < phasePrepared → rank (y .phase) < phasePrepared
       → w .number ≡ s .txns i .number → w .snapshot ≡ s .txns i .snapshot → w .phase ≡ y .phase → bucketsOf (w .reads) ≡ y .buckets → w .writes ≡ y .writes → map (λ (r : ReadRecord). r .row) (w .records) ≡ y .records
       → Played (s .sizes) m n script′ y → ((q : ℕ × List Write) → Among q (y .done) → Relied (s .sizes) (s .chains) w (q .0) (q .1)) → Follow s′ i n script′ y m
   follow-set s′ w y script′ zs cs ts b c nu sn ph bu wr re pl ke =
@@ -93,7 +93,7 @@ module _ (s : Store) (g : Good s) (i n : ℕ) (script : List Entry) (x : Local) 
     ),
   )
     where
-      first : rank (x .phase) ≡ 1
+      first : rank (x .phase) ≡ phaseOpen
       first = rank-of 1 (capture-0 s n k .0 ok .0 .2)
 
       room : (member (bucketOf (s .sizes) k) (x .buckets) ≡ true) ⊎ (length (x .buckets) < mostIndexReads)
@@ -120,7 +120,7 @@ module _ (s : Store) (g : Good s) (i n : ℕ) (script : List Entry) (x : Local) 
     ),
   )
     where
-      second : rank (x .phase) ≡ 2
+      second : rank (x .phase) ≡ phaseHolding
       second = rank-of 2 (collect-0 s n .0 ok .2)
 
       does : step s (collect n) ≡ accepted s (collect n)
@@ -144,10 +144,10 @@ module _ (s : Store) (g : Good s) (i n : ℕ) (script : List Entry) (x : Local) 
     ),
   )
     where
-      third : rank (x .phase) ≡ 3
+      third : rank (x .phase) ≡ phaseCollected
       third = rank-of 3 (rows-0 s n room .0 ok .0 .2)
 
-      third′ : rank (s .txns i .phase) ≡ 3
+      third′ : rank (s .txns i .phase) ≡ phaseCollected
       third′ = ap rank (f .phase-is) ∙ third
 
       m-is : (r : ℕ) → m r ≡ contentOf (s .chains) (s .txns i .snapshot) r
@@ -197,7 +197,7 @@ module _ (s : Store) (g : Good s) (i n : ℕ) (script : List Entry) (x : Local) 
       kept-all : (q : ℕ × List Write) → Among q (x .done ++ ((keyIn (x .phase), x .writes) ∷ [])) → Relied (s .sizes) (s .chains) (readTxn s (s .txns i)) (q .0) (q .1)
       kept-all q o = ⊎-elim (λ d. kept-on (readTxn s (s .txns i)) refl (λ b h. h) (λ r c. recordAll-keeps (s .chains) (s .txns i) (s .txns i .records) (foundRows s (s .txns i)) r c) (q .0) (q .1) (f .kept (omega (arith, third)) q d)) (λ e. rw e this) (among-last q (keyIn (x .phase), x .writes) (x .done) o)
 
-  own-write : (a : Step) (w : Write) → step s a .store ≡ written s i w → entryOf s a ≡ record { who = n; what = a; read = [] } → rank (x .phase) ≡ 1 → Plays (s .sizes) m n x a [] (writing x w) → (y : Local) × Followed (step s a .store) i n (script ++ (entryOf s a ∷ [])) y
+  own-write : (a : Step) (w : Write) → step s a .store ≡ written s i w → entryOf s a ≡ record { who = n; what = a; read = [] } → rank (x .phase) ≡ phaseOpen → Plays (s .sizes) m n x a [] (writing x w) → (y : Local) × Followed (step s a .store) i n (script ++ (entryOf s a ∷ [])) y
   own-write a w store-is entry-is first d = (
     writing x w,
     (
@@ -277,10 +277,10 @@ module _ (s : Store) (g : Good s) (i n : ℕ) (script : List Entry) (x : Local) 
     ),
   )
     where
-      first : rank (x .phase) ≡ 1
+      first : rank (x .phase) ≡ phaseOpen
       first = rank-of 1 (prepare-0 s n .0 ok .0 .2)
 
-      first′ : rank (s .txns i .phase) ≡ 1
+      first′ : rank (s .txns i .phase) ≡ phaseOpen
       first′ = ap rank (f .phase-is) ∙ first
 
       here : prepared s i .txns i ≡ withPhase (s .txns i) Prepared
@@ -329,7 +329,7 @@ module _ (s : Store) (g : Good s) (i n : ℕ) (script : List Entry) (x : Local) 
     ),
   )
     where
-      fourth : rank (x .phase) ≡ 4
+      fourth : rank (x .phase) ≡ phasePrepared
       fourth = rank-of 4 (install-0 s n .0 ok .2)
 
       here : installed s i .txns i ≡ withPhase (s .txns i) Installed
@@ -348,7 +348,7 @@ module _ (s : Store) (g : Good s) (i n : ℕ) (script : List Entry) (x : Local) 
       entry-is = ap (λ (v : Stepped). record { who = n; what = install n; read = returned s n (v .answer) }) does
 
   -- at its end all that it did holds over the rows as they are then, before its own writes
-  pub own-end : number s (end n) ≡ 0 → (y : Local) × Played (s .sizes) (liveRow s) n (script ++ (entryOf s (end n) ∷ [])) y × (y .phase ≡ Ended) × (y .writes ≡ s .txns i .writes) × (step s (end n) .store ≡ becomes s i Ended) × (rank (s .txns i .phase) ≡ 5)
+  pub own-end : number s (end n) ≡ 0 → (y : Local) × Played (s .sizes) (liveRow s) n (script ++ (entryOf s (end n) ∷ [])) y × (y .phase ≡ Ended) × (y .writes ≡ s .txns i .writes) × (step s (end n) .store ≡ becomes s i Ended) × (rank (s .txns i .phase) ≡ phaseInstalled)
   unfolding accepted
   own-end ok =
       let fifth = rank-of 5 (end-0 s n .0 ok .2) in

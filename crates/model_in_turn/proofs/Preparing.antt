@@ -11,7 +11,7 @@ use Rattle.base_limits.specs.Limits.{mostLive, lastNumber}
 use Rattle.base_lists.specs.Lists.{Among}
 use Rattle.base_lists.specs.Table.{update-same, update-other}
 use Rattle.base_lists.proofs.ListLaws.{pick-none}
-use Rattle.model.specs.Store.{Index, Open, Prepared, IndexRead, ReadRecord, Txn, Store, rank}
+use Rattle.model.specs.Store.{Index, Open, Prepared, IndexRead, ReadRecord, Txn, Store, rank, phaseOpen}
 use Rattle.model.specs.Seeing.{live, active, activeNumbers}
 use Rattle.model.specs.Verdict.{Clear, verdictNumber, verdict}
 use Rattle.model.specs.Steps.{newTxn, begun, versionRows, prepared}
@@ -32,10 +32,10 @@ use Rattle.model_in_turn.proofs.Acting.{Acts, alone-set, phase-of}
 
 module _ (s : Store) (q : Quiet s) (x : Local) (t : Store) (a : Alone s x t) where
   -- nobody is Prepared, so nothing is reserved
-  nothing-reserved : rank (x .phase) ≡ 1 → reserved (t .sizes) (t .chains) (t .txns) mostLive ≡ 0
+  nothing-reserved : rank (x .phase) ≡ phaseOpen → reserved (t .sizes) (t .chains) (t .txns) mostLive ≡ 0
   nothing-reserved p = reserved-none (t .sizes) (t .chains) (t .txns) mostLive go
     where
-      opened : (i : ℕ) → rank (t .txns i .phase) ≡ 1
+      opened : (i : ℕ) → rank (t .txns i .phase) ≡ phaseOpen
       opened zero = ap rank (a .phase-is) ∙ p
       opened (suc i) = a .good .numbers .idle (suc i) (a .others (suc i) (λ e. omega arith))
 

@@ -11,7 +11,7 @@ use borrow.Author.Tests.{eqb-true, eq-eqb}
 use Rattle.base_lists.specs.Lists.{member, Among}
 use Rattle.base_lists.specs.Table.{cond-elim}
 use Rattle.base_lists.proofs.ListLaws.{same-test, some-which, which-some, among-map, map-same, map-among, member-among, among-member, pick-same}
-use Rattle.model.specs.Store.{Chains, ReadRecord, Txn, Store, rank, keyIn, sameKey}
+use Rattle.model.specs.Store.{Chains, ReadRecord, Txn, Store, rank, phaseCollected, keyIn, sameKey}
 use Rattle.model.specs.Seeing.{versionOf, keyAt, lastWrite, pending, writtenKey, shownKey, matches, recordOf, Live}
 use Rattle.model.specs.Steps.{foundRows, recorded, recording, recordAll, writtenPayload}
 use Rattle.model.specs.Contents.{Content, content, contentOf, shownTo}
@@ -43,7 +43,7 @@ module _ (c : Chains) (x : Txn) (m : ℕ → Content) (m-is : (r : ℕ) → m r 
       go true = sym (carries-same _ _ k)
       go false = sym (carries-same _ _ k)
 
-module _ (s : Store) (g : Good s) (i : ℕ) (l : Live (s .txns i)) (a : rank (s .txns i .phase) ≡ 3) (m : ℕ → Content) (m-is : (r : ℕ) → m r ≡ contentOf (s .chains) (s .txns i .snapshot) r) where
+module _ (s : Store) (g : Good s) (i : ℕ) (l : Live (s .txns i)) (a : rank (s .txns i .phase) ≡ phaseCollected) (m : ℕ → Content) (m-is : (r : ℕ) → m r ≡ contentOf (s .chains) (s .txns i .snapshot) r) where
   abbrev x : Txn
   x = s .txns i
 

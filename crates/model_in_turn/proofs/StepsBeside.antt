@@ -9,7 +9,7 @@ use borrow.Author.Tests.{ne-eqb}
 use Rattle.base_limits.specs.Limits.{mostLive}
 use Rattle.base_lists.specs.Table.{update-same}
 use Rattle.base_lists.proofs.ListLaws.{and-false, first-free}
-use Rattle.model.specs.Store.{Sizes, IndexRead, ReadRecord, Txn, Store, noTxn, rank}
+use Rattle.model.specs.Store.{Sizes, IndexRead, ReadRecord, Txn, Store, noTxn, rank, phaseInstalled}
 use Rattle.model.specs.Seeing.{Live}
 use Rattle.model.specs.Steps.{newTxn, begun}
 use Rattle.model.specs.Contents.{Content, contentOf}
@@ -31,7 +31,7 @@ use Rattle.model_in_turn.proofs.Beside.{renamed, SideBySide, beside-mov
 
 module _ (z : Sizes) (c₀ : ℕ) where
   -- a step that names a transaction, takes it on, and neither ends nor publishes it
-  beside-named : (s : Store) (es : List Entry) → SideBySide z c₀ s es → (a : Step) (t : ℕ) → Move s (at s t) (step s a .store) → entryOf s a .who ≡ t → endIn (entryOf s a .what) ≡ [] → isPublish (entryOf s a .what) ≡ false → Lives s t → rank (txnOf s t .phase) < 5
+  beside-named : (s : Store) (es : List Entry) → SideBySide z c₀ s es → (a : Step) (t : ℕ) → Move s (at s t) (step s a .store) → entryOf s a .who ≡ t → endIn (entryOf s a .what) ≡ [] → isPublish (entryOf s a .what) ≡ false → Lives s t → rank (txnOf s t .phase) < phaseInstalled
       → ((x : Local) (m : ℕ → Content) → Follow s (at s t) t (doneBy t es) x m → (y : Local) × Followed (step s a .store) (at s t) t (doneBy t es ++ (entryOf s a ∷ [])) y) → SideBySide z c₀ (step s a .store) (es ++ (entryOf s a ∷ []))
   beside-named s es h a t m who-is end-none no-publish lives few own =
       beside-move z c₀ s (step s a .store) es (entryOf s a) m h end-none

@@ -15,7 +15,7 @@ use Rattle.base_limits.specs.Limits.{mostLive, lastNumber}
 use Rattle.base_lists.specs.Lists.{member, pick, Among}
 use Rattle.base_lists.specs.Table.{update, update-same, update-other, update-elim}
 use Rattle.base_lists.proofs.ListLaws.{same-test, is-false, member-among, among-member, which-pick, first-free}
-use Rattle.model.specs.Store.{Sizes, Txn, Store, noTxn, fresh, rank}
+use Rattle.model.specs.Store.{Sizes, Txn, Store, noTxn, fresh, rank, phaseEnded}
 use Rattle.model.specs.Seeing.{live, activeNumbers, Live}
 use Rattle.model.specs.Steps.{madeRows, newTxn}
 use Rattle.model.specs.Upstream.{Event}
@@ -35,9 +35,9 @@ use Rattle.model_upstream.proofs.Protocols.{none-some, protocol-valid}
 -- what the protocol says of a clock, the transactions and the events so far
 pub record Follows (clock : ℕ) (t : ℕ → Txn) (es : List Event) (p : Protocol) : Type 0 where
   pub clock-is : p .clock ≡ clock
-  pub runs : (j : ℕ) → Live (t j) → rank (t j .phase) < 6 → p .active (t j .number) ≡ true
-  pub who-runs : (n : ℕ) → p .active n ≡ true → (j : ℕ) × Live (t j) × (rank (t j .phase) < 6) × (n ≡ t j .number)
-  pub has-ended : (j : ℕ) → Live (t j) → 6 ≤ rank (t j .phase) → p .ended (t j .number) ≡ true
+  pub runs : (j : ℕ) → Live (t j) → rank (t j .phase) < phaseEnded → p .active (t j .number) ≡ true
+  pub who-runs : (n : ℕ) → p .active n ≡ true → (j : ℕ) × Live (t j) × (rank (t j .phase) < phaseEnded) × (n ≡ t j .number)
+  pub has-ended : (j : ℕ) → Live (t j) → phaseEnded ≤ rank (t j .phase) → p .ended (t j .number) ≡ true
   pub unpublished : (j : ℕ) → Live (t j) → p .published (t j .number) ≡ none
   pub observes : (j : ℕ) → Live (t j) → p .observed (t j .number) ≡ some (λ n. member n (t j .snapshot .active))
   pub active-pos : (j : ℕ) → Live (t j) → (n : ℕ) → Among n (t j .snapshot .active) → 1 ≤ n
@@ -47,15 +47,15 @@ pub record Follows (clock : ℕ) (t : ℕ → Txn) (es : List Event) (p : Protoc
 record Calm (t t′ : ℕ → Txn) : Type 0 where
   number-same : (j : ℕ) → t′ j .number ≡ t j .number
   snapshot-same : (j : ℕ) → t′ j .snapshot ≡ t j .snapshot
-  late : (j : ℕ) → 6 ≤ rank (t j .phase) → 6 ≤ rank (t′ j .phase)
-  early : (j : ℕ) → rank (t j .phase) < 6 → rank (t′ j .phase) < 6
+  late : (j : ℕ) → phaseEnded ≤ rank (t j .phase) → phaseEnded ≤ rank (t′ j .phase)
+  early : (j : ℕ) → rank (t j .phase) < phaseEnded → rank (t′ j .phase) < phaseEnded
 
-calm-set : (t : ℕ → Txn) (i : ℕ) (x : Txn) → x .number ≡ t i .number → x .snapshot ≡ t i .snapshot → (6 ≤ rank (t i .phase) → 6 ≤ rank (x .phase)) → (rank (t i .phase) < 6 → rank (x .phase) < 6) → Calm t (update t i x)
+calm-set : (t : ℕ → Txn) (i : ℕ) (x : Txn) → x .number ≡ t i .number → x .snapshot ≡ t i .snapshot → (phaseEnded ≤ rank (t i .phase) → phaseEnded ≤ rank (x .phase)) → (rank (t i .phase) < phaseEnded → rank (x .phase) < phaseEnded) → Calm t (update t i x)
 calm-set t i x n v late early = record {
   number-same = λ j. update-elim (λ y. y .number ≡ t j .number) t i x j (λ e. rw e n) (λ d. refl);
   snapshot-same = λ j. update-elim (λ y. y .snapshot ≡ t j .snapshot) t i x j (λ e. rw e v) (λ d. refl);
-  late = λ j. update-elim (λ y. 6 ≤ rank (t j .phase) → 6 ≤ rank (y .phase)) t i x j (λ e h. late (rw e at h)) (λ d h. h);
-  early = λ j. update-elim (λ y. rank (t j .phase) < 6 → rank (y .phase) < 6) t i x j (λ e h. early (rw e at h)) (λ d h. h);
+  late = λ j. update-elim (λ y. phaseEnded ≤ rank (t j .phase) → phaseEnded ≤ rank (y .phase)) t i x j (λ e h. late (rw e at h)) (λ d h. h);
+  early = λ j. update-elim (λ y. rank (t j .phase) < phaseEnded → rank (y .phase) < phaseEnded) t i x j (λ e h. early (rw e at h)) (λ d h. h);
 }
 
 follows-calm : (clock : ℕ) (t t′ : ℕ → Txn) (es : List Event) (p : Protocol) → Calm t t′ → Follows clock t es p → Follows clock t′ es p
@@ -73,11 +73,11 @@ follows-calm clock t t′ es p c f = record {
     alive : (j : ℕ) → Live (t′ j) → Live (t j)
     alive j l = omega (arith, c .number-same j)
 
-    before : (j : ℕ) → rank (t′ j .phase) < 6 → rank (t j .phase) < 6
-    before j r = elim (decLt (rank (t j .phase)) 6) [ yes l ↦ l | no n ↦ absurd (omega (arith, n, c .late j (omega (arith, n)))) ]
+    before : (j : ℕ) → rank (t′ j .phase) < phaseEnded → rank (t j .phase) < phaseEnded
+    before j r = elim (decLt (rank (t j .phase)) phaseEnded) [ yes l ↦ l | no n ↦ absurd (omega (arith, n, c .late j (omega (arith, n)))) ]
 
-    after : (j : ℕ) → 6 ≤ rank (t′ j .phase) → 6 ≤ rank (t j .phase)
-    after j r = elim (decLt (rank (t j .phase)) 6) [ yes l ↦ absurd (omega (arith, c .early j l)) | no n ↦ omega (arith, n) ]
+    after : (j : ℕ) → phaseEnded ≤ rank (t′ j .phase) → phaseEnded ≤ rank (t j .phase)
+    after j r = elim (decLt (rank (t j .phase)) phaseEnded) [ yes l ↦ absurd (omega (arith, c .early j l)) | no n ↦ omega (arith, n) ]
 
 -- the events that a publish adds carry the number and the clock
 added-which : (s : Store) (x : Txn) (rs : List ℕ) (older : List Event) (e : Event) → Among e (addEvents s x rs older) → Among e older ⊎ ((e .creator ≡ x .number) × (e .stamp ≡ s .clock))
@@ -106,13 +106,13 @@ module _ (s : Store) (es : List Event) (p : Protocol) (g : Good s) (f : Follows 
   follows-begun : (i : ℕ) → s .txns i .number ≡ 0 → Follows (suc (s .clock)) (update (s .txns) i (newTxn s)) es (afterAction (afterAction p (Start (s .clock))) (Snapshot (s .clock)))
   follows-begun i z = record {
     clock-is = refl;
-    runs = λ j. update-elim (λ y. Live y → rank (y .phase) < 6 → update (p .active) (s .clock) true (y .number) ≡ true) (s .txns) i (newTxn s) j
+    runs = λ j. update-elim (λ y. Live y → rank (y .phase) < phaseEnded → update (p .active) (s .clock) true (y .number) ≡ true) (s .txns) i (newTxn s) j
         (λ e l r. update-same (p .active) (s .clock) true)
         (λ d l r. update-elim (λ b. b ≡ true) (p .active) (s .clock) true _ (λ e. refl) (λ e. f .runs j l r));
-    who-runs = λ n. update-elim (λ b. b ≡ true → (j : ℕ) × Live (update (s .txns) i (newTxn s) j) × (rank (update (s .txns) i (newTxn s) j .phase) < 6) × (n ≡ update (s .txns) i (newTxn s) j .number)) (p .active) (s .clock) true n
+    who-runs = λ n. update-elim (λ b. b ≡ true → (j : ℕ) × Live (update (s .txns) i (newTxn s) j) × (rank (update (s .txns) i (newTxn s) j .phase) < phaseEnded) × (n ≡ update (s .txns) i (newTxn s) j .number)) (p .active) (s .clock) true n
         (λ e t. let o = update-same (s .txns) i (newTxn s) in (i, rw o (g .numbers .clock-pos), rw o (omega arith), rw o e))
         (λ d t. let w = f .who-runs n t in let o = update-other (s .txns) i (newTxn s) (w .0) (λ e. omega (arith, rw e at (w .1))) in (w .0, rw o (w .1), rw o (w .2), rw o (w .3)));
-    has-ended = λ j. update-elim (λ y. Live y → 6 ≤ rank (y .phase) → p .ended (y .number) ≡ true) (s .txns) i (newTxn s) j (λ e l r. absurd (omega arith)) (λ d. f .has-ended j);
+    has-ended = λ j. update-elim (λ y. Live y → phaseEnded ≤ rank (y .phase) → p .ended (y .number) ≡ true) (s .txns) i (newTxn s) j (λ e l r. absurd (omega arith)) (λ d. f .has-ended j);
     unpublished = λ j. update-elim (λ y. Live y → p .published (y .number) ≡ none) (s .txns) i (newTxn s) j (λ e l. new-unpublished) (λ d. f .unpublished j);
     observes = λ j. update-elim (λ y. Live y → update (p .observed) (s .clock) (some (update (update (p .active) (s .clock) true) (s .clock) false)) (y .number) ≡ some (λ n. member n (y .snapshot .active))) (s .txns) i (newTxn s) j
         (λ e l. update-same (p .observed) (s .clock) _ ∙ ap some (fun-ext active-same))
@@ -127,23 +127,23 @@ module _ (s : Store) (es : List Event) (p : Protocol) (g : Good s) (f : Follows 
     others j d e = d (g .numbers .distinct j i (omega arith) e)
 
     -- who runs after the number has stopped is another
-    still-runs : (x : Txn) (n : ℕ) → n ≢ s .txns i .number → p .active n ≡ true → (j : ℕ) × Live (update (s .txns) i x j) × (rank (update (s .txns) i x j .phase) < 6) × (n ≡ update (s .txns) i x j .number)
+    still-runs : (x : Txn) (n : ℕ) → n ≢ s .txns i .number → p .active n ≡ true → (j : ℕ) × Live (update (s .txns) i x j) × (rank (update (s .txns) i x j .phase) < phaseEnded) × (n ≡ update (s .txns) i x j .number)
     still-runs x n d t =
         let w = f .who-runs n t in
         let o = update-other (s .txns) i x (w .0) (λ e. d (w .3 ∙ ap (λ k. s .txns k .number) e)) in
         (w .0, rw o (w .1), rw o (w .2), rw o (w .3))
 
     -- the number stops being active: the record goes on Ended, or goes
-    follows-ended : (x : Txn) → (Live x → (x .number ≡ s .txns i .number) × (x .snapshot ≡ s .txns i .snapshot) × (6 ≤ rank (x .phase))) → Follows (s .clock) (update (s .txns) i x) es (afterAction p (End (s .txns i .number)))
+    follows-ended : (x : Txn) → (Live x → (x .number ≡ s .txns i .number) × (x .snapshot ≡ s .txns i .snapshot) × (phaseEnded ≤ rank (x .phase))) → Follows (s .clock) (update (s .txns) i x) es (afterAction p (End (s .txns i .number)))
     follows-ended x h = record {
       clock-is = f .clock-is;
-      runs = λ j. update-elim (λ y. Live y → rank (y .phase) < 6 → update (p .active) (s .txns i .number) false (y .number) ≡ true) (s .txns) i x j
+      runs = λ j. update-elim (λ y. Live y → rank (y .phase) < phaseEnded → update (p .active) (s .txns i .number) false (y .number) ≡ true) (s .txns) i x j
           (λ e a r. absurd (omega (arith, h a .2)))
           (λ d a r. update-other (p .active) _ false (s .txns j .number) (others j d) ∙ f .runs j a r);
-      who-runs = λ n. update-elim (λ b. b ≡ true → (j : ℕ) × Live (update (s .txns) i x j) × (rank (update (s .txns) i x j .phase) < 6) × (n ≡ update (s .txns) i x j .number)) (p .active) (s .txns i .number) false n
+      who-runs = λ n. update-elim (λ b. b ≡ true → (j : ℕ) × Live (update (s .txns) i x j) × (rank (update (s .txns) i x j .phase) < phaseEnded) × (n ≡ update (s .txns) i x j .number)) (p .active) (s .txns i .number) false n
           (λ e t. absurd (true≢false (sym t)))
           (still-runs x n);
-      has-ended = λ j. update-elim (λ y. Live y → 6 ≤ rank (y .phase) → update (p .ended) (s .txns i .number) true (y .number) ≡ true) (s .txns) i x j
+      has-ended = λ j. update-elim (λ y. Live y → phaseEnded ≤ rank (y .phase) → update (p .ended) (s .txns i .number) true (y .number) ≡ true) (s .txns) i x j
           (λ e a r. rw (h a .0) (update-same (p .ended) _ true))
           (λ d a r. update-elim (λ b. b ≡ true) (p .ended) (s .txns i .number) true (s .txns j .number) (λ e. refl) (λ e. f .has-ended j a r));
       unpublished = λ j. update-elim (λ y. Live y → p .published (y .number) ≡ none) (s .txns) i x j (λ e a. rw (h a .0) (f .unpublished i l)) (λ d. f .unpublished j);
@@ -152,12 +152,12 @@ module _ (s : Store) (es : List Event) (p : Protocol) (g : Good s) (f : Follows 
       stamped = f .stamped;
     }
 
-    follows-published : rank (s .txns i .phase) ≡ 6 → Follows (suc (s .clock)) (update (s .txns) i noTxn) (addEvents s (s .txns i) (madeRows (s .sizes) (s .chains) (s .txns i .number) (s .txns i .writes)) es) (afterAction p (Publish (s .txns i .number) (s .clock)))
+    follows-published : rank (s .txns i .phase) ≡ phaseEnded → Follows (suc (s .clock)) (update (s .txns) i noTxn) (addEvents s (s .txns i) (madeRows (s .sizes) (s .chains) (s .txns i .number) (s .txns i .writes)) es) (afterAction p (Publish (s .txns i .number) (s .clock)))
     follows-published r = record {
       clock-is = refl;
-      runs = λ j. update-elim (λ y. Live y → rank (y .phase) < 6 → p .active (y .number) ≡ true) (s .txns) i noTxn j (λ e a. absurd (omega arith)) (λ d. f .runs j);
+      runs = λ j. update-elim (λ y. Live y → rank (y .phase) < phaseEnded → p .active (y .number) ≡ true) (s .txns) i noTxn j (λ e a. absurd (omega arith)) (λ d. f .runs j);
       who-runs = λ n t. still-runs noTxn n (λ e. true≢false (sym (f .has-ended i l (omega arith)) ∙ rw e at (v .disjoint n t))) t;
-      has-ended = λ j. update-elim (λ y. Live y → 6 ≤ rank (y .phase) → p .ended (y .number) ≡ true) (s .txns) i noTxn j (λ e a. absurd (omega arith)) (λ d. f .has-ended j);
+      has-ended = λ j. update-elim (λ y. Live y → phaseEnded ≤ rank (y .phase) → p .ended (y .number) ≡ true) (s .txns) i noTxn j (λ e a. absurd (omega arith)) (λ d. f .has-ended j);
       unpublished = λ j. update-elim (λ y. Live y → update (p .published) (s .txns i .number) (some (s .clock)) (y .number) ≡ none) (s .txns) i noTxn j
           (λ e a. absurd (omega arith))
           (λ d a. update-other (p .published) _ (some (s .clock)) (s .txns j .number) (others j d) ∙ f .unpublished j a);
@@ -185,11 +185,11 @@ module _ (clock : ℕ) (s : Store) (es : List Event) (acts : List Action) (g : G
   abbrev here : Protocol
   here = protocolAfter clock acts
 
-  ends : (i t : ℕ) → s .txns i .number ≡ t → Live (s .txns i) → rank (s .txns i .phase) < 6 → (x : Txn) → (Live x → (x .number ≡ s .txns i .number) × (x .snapshot ≡ s .txns i .snapshot) × (6 ≤ rank (x .phase)))
+  ends : (i t : ℕ) → s .txns i .number ≡ t → Live (s .txns i) → rank (s .txns i .phase) < phaseEnded → (x : Txn) → (Live x → (x .number ≡ s .txns i .number) × (x .snapshot ≡ s .txns i .snapshot) × (phaseEnded ≤ rank (x .phase)))
       → ProtocolHistory clock (End t ∷ acts) × Follows (s .clock) (update (s .txns) i x) es (protocolAfter clock (End t ∷ acts))
   ends i t e l r x w = rw (← e) ((h .1 .runs i l r, h .0), follows-ended s es here g (h .1) (protocol-valid clock acts (h .0)) i l x w)
 
-  publishes : (i t : ℕ) → s .txns i .number ≡ t → Live (s .txns i) → rank (s .txns i .phase) ≡ 6
+  publishes : (i t : ℕ) → s .txns i .number ≡ t → Live (s .txns i) → rank (s .txns i .phase) ≡ phaseEnded
       → ProtocolHistory clock (Publish t (s .clock) ∷ acts) × Follows (suc (s .clock)) (update (s .txns) i noTxn) (addEvents s (s .txns i) (madeRows (s .sizes) (s .chains) (s .txns i .number) (s .txns i .writes)) es) (protocolAfter clock (Publish t (s .clock) ∷ acts))
   publishes i t e l r =
       let few = some-live (s .txns) i (in-place (s .clock) (s .txns) (g .numbers) i l) l in

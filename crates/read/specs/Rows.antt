@@ -6,7 +6,8 @@ use lib.Dec.{eqb, ltb}
 use lib.ListN.{length}
 use Rattle.base_limits.specs.Limits.{mostRows, mostRecords}
 use Rattle.base_lists.specs.Lists.{member, pick}
-use Rattle.model.specs.Store.{rank, keyIn}
+use Rattle.model.specs.Store.{rank, phaseCollected, keyIn}
+use Rattle.model.specs.Refusals.{WrongPhase, NoRoom, ManyRecords, refusalNumber}
 use Rattle.base_protocol.specs.declared.Answer.the-variants as tell
 use Rattle.table.specs.declared.lists.ReadRecord.{ReadRecord}
 use Rattle.table_buckets.specs.Buckets.{laid}
@@ -62,8 +63,8 @@ doneRows t lists found rs new = record {
 -- the tests: a lent list too short, then more than 64 read records
 abbrev pub answerOf : List ℕ → List ℕ → Transaction → ℕ → List ℕ → List ReadRecord → LeftRows
 answerOf lists found t room rs new =
-    cond (ltb (roomFor room (length found)) (length rs)) (refusedRows t 10 lists found)
-    (cond (ltb mostRecords (t .«records_n» + length new)) (refusedRows t 11 lists found)
+    cond (ltb (roomFor room (length found)) (length rs)) (refusedRows t (refusalNumber NoRoom) lists found)
+    (cond (ltb mostRecords (t .«records_n» + length new)) (refusedRows t (refusalNumber ManyRecords) lists found)
     (doneRows t lists found rs new))
 
 -- a read of what is looked at
@@ -74,5 +75,5 @@ readingOf l rowCount room found =
 -- rows: wrong phase first
 unfoldable pub rowsOf : List ℕ → List ℕ → List ℕ → List ℕ → ℕ → ℕ → ℕ → Transaction → LeftRows
 rowsOf rows versions lists found rowCount used room t =
-    cond (not (eqb (rank (phaseView (t .phase))) 3)) (refusedRows t 5 lists found)
+    cond (not (eqb (rank (phaseView (t .phase))) phaseCollected)) (refusedRows t (refusalNumber WrongPhase) lists found)
     (readingOf (look rows versions lists used t (keyIn (phaseView (t .phase)))) rowCount room found)

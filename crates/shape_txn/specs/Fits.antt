@@ -6,7 +6,7 @@ use lib.Dec.{eqb, ltb, leb}
 use lib.ListN.{take}
 use Rattle.base_limits.specs.Limits.{mostIndexReads, mostWrites, mostRecords, mostRows}
 use Rattle.base_lists.specs.Lists.{every, least}
-use Rattle.model.specs.Store.{rank, bucketIn}
+use Rattle.model.specs.Store.{rank, phaseInstalled, bucketIn}
 use Rattle.model.specs.Shape.{within}
 use Rattle.txn_needs.specs.Keys.{getsVersionOf, headedBy}
 use Rattle.table.specs.Lists.{readAt, writeAt, recordAt, candidateAt}
@@ -51,7 +51,7 @@ rowsHeaded rows versions lists slot n number k = every k (λ i. rowFits rows ver
 
 -- each pending row of an Installed or Ended transaction
 unfoldable pub headsFit : List ℕ → List ℕ → List ℕ → Transaction → Bool
-headsFit rows versions lists t = ltb (rank (phaseView (t .phase))) 5 || rowsHeaded rows versions lists (t .slot) (t .«writes_n») (t .number) (t .«writes_n»)
+headsFit rows versions lists t = ltb (rank (phaseView (t .phase))) phaseInstalled || rowsHeaded rows versions lists (t .slot) (t .«writes_n») (t .number) (t .«writes_n»)
 
 -- snapshot xmin the least of its active numbers and its own
 abbrev pub leastOf : Transaction → ℕ

@@ -2,6 +2,7 @@
 use Prim.Native.Nat.{ℕ}
 use mathlib.Core.Bool.{cond}
 use mathlib.Core.List.{List}
+use Rattle.model.specs.Refusals.{NoSuch, refusalNumber}
 use Rattle.base_protocol.specs.declared.Step.{Step}
 use Rattle.base_protocol.specs.declared.Step.the-variants as ask
 use Rattle.base_protocol.specs.declared.Answer.{Answer}
@@ -111,5 +112,5 @@ doneBy z o t clock used (ask.Abort n) b = inAborted (publish.abortOf (b .version
 -- no live transaction has this number; else the step
 unfoldable pub stepOf : Sizes → Others → Transaction → ℕ → ℕ → Step → Tables → Moved
 stepOf z o t clock used s b =
-    cond (missesOf (t .number) s) (stays (record { answer = tell.Refused 4; txn = t; clock = clock; used = used }) b)
+    cond (missesOf (t .number) s) (stays (record { answer = tell.Refused (refusalNumber NoSuch); txn = t; clock = clock; used = used }) b)
     (doneBy z o t clock used s b)

@@ -17,9 +17,9 @@ use Rattle.base_lists.specs.Lists.{join, Among}
 use Rattle.base_lists.specs.Table.{update}
 use Rattle.base_lists.proofs.ListLaws.{among-cases, join-which, join-same}
 use Rattle.model.specs.Store as model
-use Rattle.model.specs.Store.{bucketIn, rank}
+use Rattle.model.specs.Store.{bucketIn, rank, phaseInstalled}
 use Rattle.model.specs.Steps.{freed, keyBuckets, oldKey, newKey, neededBuckets, pendingRows}
-use Rattle.model.specs.Refusals.{WrongPhase, checks, refusal, txnOf}
+use Rattle.model.specs.Refusals.{refusalNumber, WrongPhase, checks, refusal, txnOf}
 use Rattle.model.specs.Machine.{gives, lentAfter, accepted, afterRefusal, carried}
 use Rattle.model.specs.Machine as machine
 use Rattle.model.specs.Holding.{needs, Wants}
@@ -139,7 +139,7 @@ module _ (w : Words) (z : Sized w) (g : Good (view w)) (p : ℕ) (l : 1 ≤ txnA
   sh = shaped w z (right-shape (view w) g)
 
   -- all that is held by the number is listed, before install
-  own-listed : rank (phaseView (txnAt w p .phase)) < 5 → (b : ℕ) → view w .held .holder b ≡ txnAt w p .number → Among b (freedList w p)
+  own-listed : rank (phaseView (txnAt w p .phase)) < phaseInstalled → (b : ℕ) → view w .held .holder b ≡ txnAt w p .number → Among b (freedList w p)
   unfolding needs neededBuckets
   own-listed r b e = by (g .holders .buckets .owner b (λ q. omega (arith, q)))
     where
@@ -159,7 +159,7 @@ module _ (w : Words) (z : Sized w) (g : Good (view w)) (p : ℕ) (l : 1 ≤ txnA
       pending-row w z sh p r (rw d (o .2 .1))
 
   -- the words after freeing, as the model has them
-  abort-held : rank (phaseView (txnAt w p .phase)) < 5
+  abort-held : rank (phaseView (txnAt w p .phase)) < phaseInstalled
       → heldView (rowsPart (sizesView (w .sizes)) (unclaimAll (w .tables .rows) (txnAt w p .number) (rowsWritten (w .tables .lists) (txnAt w p .slot) (txnAt w p .«writes_n»))))
       (bucketsPart (sizesView (w .sizes)) (freeAll (w .tables .buckets) (txnAt w p .number) (freedList w p)))
       ≡ freed (view w .held) (txnAt w p .number)
@@ -200,10 +200,10 @@ ended-at w z p l rows buckets a o clock clock′ c x h e₁ e₂ e₃ e₄ r b t
     }
 
 module _ (w : Words) (z : Sized w) (g : Good (view w)) (n : ℕ) where
-  aborted-at : standing w n < mostLive → 1 ≤ txnAt w (standing w n) .number → (b : Bool) → leb 5 (rank (phaseView (txnAt w (standing w n) .phase))) ≡ b
+  aborted-at : standing w n < mostLive → 1 ≤ txnAt w (standing w n) .number → (b : Bool) → leb phaseInstalled (rank (phaseView (txnAt w (standing w n) .phase))) ≡ b
       → SameAt w (standing w n)
       (inAborted
-      (cond b (record { reply = refusedOf (txnAt w (standing w n)) 5; rows = w .tables .rows; buckets = w .tables .buckets })
+      (cond b (record { reply = refusedOf (txnAt w (standing w n)) (refusalNumber WrongPhase); rows = w .tables .rows; buckets = w .tables .buckets })
       (record {
         reply = record { answer = tell.Done; txn = idleOf (txnAt w (standing w n) .slot) };
         rows = unclaimAll (w .tables .rows) (txnAt w (standing w n) .number) (rowsWritten (w .tables .lists) (txnAt w (standing w n) .slot) (txnAt w (standing w n) .«writes_n»));
@@ -217,14 +217,14 @@ module _ (w : Words) (z : Sized w) (g : Good (view w)) (n : ℕ) where
       let q = standing w n in
       let t = txnAt w q in
       let rs = rowsWritten (w .tables .lists) (t .slot) (t .«writes_n») in
-      ended-at w z q l _ _ tell.Done machine.Done (w .clock) (w .clock) _ _ _ refl (abort-chains w (t .number) rs) (abort-index w (t .number) rs (freedList w q)) (abort-held w z g q a (leb-false 5 (rank (phaseView (t .phase))) e))
+      ended-at w z q l _ _ tell.Done machine.Done (w .clock) (w .clock) _ _ _ refl (abort-chains w (t .number) rs) (abort-index w (t .number) rs (freedList w q)) (abort-held w z g q a (leb-false phaseInstalled (rank (phaseView (t .phase))) e))
       (unclaim-all-length (w .sizes .rows) (t .number) (w .tables .rows) rs) (free-all-length (w .sizes .buckets) (t .number) (w .tables .buckets) (freedList w q)) refl refl
 
   -- buckets and claims are freed, and the record ends
   pub abort-same : Same w (ask.Abort n)
   unfolding checks refusal abortOf
-  abort-same = by-place w z (ask.Abort n) refl (ltb (rank (txnOf (view w) n .phase)) 5) [] refl
+  abort-same = by-place w z (ask.Abort n) refl (ltb (rank (txnOf (view w) n .phase)) phaseInstalled) [] refl
       (λ l d e.
       let q = standing w n in
       let a : 1 ≤ txnAt w q .number = live-at w n d e in
-      rw (freed-buckets w q z, ← late-test (rank (phaseView (txnAt w q .phase)))) (aborted-at l a (leb 5 (rank (phaseView (txnAt w q .phase)))) refl))
+      rw (freed-buckets w q z, ← late-test (rank (phaseView (txnAt w q .phase)))) (aborted-at l a (leb phaseInstalled (rank (phaseView (txnAt w q .phase)))) refl))

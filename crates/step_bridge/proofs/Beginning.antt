@@ -49,7 +49,7 @@ and-none : (b : Bool) → (b && false) ≡ false
 and-none true = refl
 and-none false = refl
 
-active-test : (n : ℕ) (ph : Phase) → (not (eqb n 0) && ltb (model.rank (phaseView ph)) 6) ≡ not (eqb (activeNumber n ph) 0)
+active-test : (n : ℕ) (ph : Phase) → (not (eqb n 0) && ltb (model.rank (phaseView ph)) model.phaseEnded) ≡ not (eqb (activeNumber n ph) 0)
 active-test n phase.Open = and-true (not (eqb n 0))
 active-test n (phase.Holding b k) = and-true (not (eqb n 0))
 active-test n (phase.Collected k) = and-true (not (eqb n 0))
@@ -57,7 +57,7 @@ active-test n phase.Prepared = and-true (not (eqb n 0))
 active-test n phase.Installed = and-true (not (eqb n 0))
 active-test n phase.Ended = and-none (not (eqb n 0))
 
-active-value : (n : ℕ) (ph : Phase) → (not (eqb n 0) && ltb (model.rank (phaseView ph)) 6) ≡ true → n ≡ activeNumber n ph
+active-value : (n : ℕ) (ph : Phase) → (not (eqb n 0) && ltb (model.rank (phaseView ph)) model.phaseEnded) ≡ true → n ≡ activeNumber n ph
 active-value n phase.Open e = refl
 active-value n (phase.Holding b k) e = refl
 active-value n (phase.Collected k) e = refl

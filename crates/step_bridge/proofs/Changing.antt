@@ -12,7 +12,7 @@ use borrow.Author.Tests.{leb-true, le-leb, eqb-true, eq-eqb}
 use Rattle.base_lists.specs.Lists.{join, Among}
 use Rattle.base_lists.specs.Table.{cond-elim}
 use Rattle.base_lists.proofs.ListLaws.{and-l, and-r, among-left, among-right, among-cases, join-which, which-join}
-use Rattle.model.specs.Store.{bucketIn, rank, sameKey}
+use Rattle.model.specs.Store.{bucketIn, rank, phaseInstalled, sameKey}
 use Rattle.model.specs.Steps.{keyBefore, newKey, keyBuckets, readBuckets, changedBuckets, pendingRows, madeRows, headedBy}
 use Rattle.model.specs.Holding.{Made, needs, Wants}
 use Rattle.model.proofs.Made.{made-writes, made-head, which-made}
@@ -117,7 +117,7 @@ module _ (w : Words) (z : Sized w) (g : Shaped w) (p : ℕ) (l : 1 ≤ txnAt w p
       let o = join-which (changes w p) (gotRows w p) b m in
       which-join (rowChanges w p) (rowsOf w p) b (o .0) (got-row (o .0) (o .1)) (rw (after-changes (o .0) (o .1)) (o .2))
 
-module _ (w : Words) (z : Sized w) (g : Good (view w)) (p : ℕ) (l : 1 ≤ txnAt w p .number) (k : 5 ≤ rank (phaseView (txnAt w p .phase))) where
+module _ (w : Words) (z : Sized w) (g : Good (view w)) (p : ℕ) (l : 1 ≤ txnAt w p .number) (k : phaseInstalled ≤ rank (phaseView (txnAt w p .phase))) where
   abbrev sh : Shaped w
   sh = shaped w z (right-shape (view w) g)
 

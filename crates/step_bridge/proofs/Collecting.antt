@@ -15,9 +15,9 @@ use Rattle.base_limits.specs.Limits.{mostLive, mostRows}
 use Rattle.base_lists.specs.Table.{update}
 use Rattle.base_lists.proofs.ListLaws.{pick-same, pick-few}
 use Rattle.model.specs.Store as model
-use Rattle.model.specs.Store.{sameKey, bucketIn, keyIn}
+use Rattle.model.specs.Store.{sameKey, bucketIn, keyIn, phaseHolding}
 use Rattle.model.specs.Steps.{postedRows}
-use Rattle.model.specs.Refusals.{WrongPhase, checks, refusal, inPhase}
+use Rattle.model.specs.Refusals.{refusalNumber, WrongPhase, checks, refusal, inPhase}
 use Rattle.model.specs.Machine.{accepted, afterRefusal, carried}
 use Rattle.model.proofs.Ranges.{good-sized}
 use Rattle.base_protocol.specs.declared.Step.the-variants as ask
@@ -100,7 +100,7 @@ module _ (w : Words) (z : Sized w) (g : Shaped w) where
   collected-at : (n : ℕ) → standing w n < mostLive → 1 ≤ txnAt w (standing w n) .number → (b : Bool)
       → SameAt w (standing w n)
       (inBuckets
-      (cond b (left (refusedOf (txnAt w (standing w n)) 5) (w .tables .buckets) (w .tables .lists))
+      (cond b (left (refusedOf (txnAt w (standing w n)) (refusalNumber WrongPhase)) (w .tables .buckets) (w .tables .lists))
       (collectedLeft (txnAt w (standing w n)) (bucketIn (phaseView (txnAt w (standing w n) .phase))) (keyIn (phaseView (txnAt w (standing w n) .phase))) (postedRows (view w) (keyIn (phaseView (txnAt w (standing w n) .phase)))) (w .tables .buckets) (w .tables .lists)))
       (w .clock) (w .used) (w .tables))
       (carried (view w) (asked (ask.Collect n)) (cond b (some WrongPhase) none))
@@ -125,5 +125,5 @@ module _ (w : Words) (z : Sized w) (g : Shaped w) where
   -- the posted rows are kept, and the bucket is free
   pub collect-same : (n : ℕ) → Same w (ask.Collect n)
   unfolding checks refusal collectOf
-  collect-same n = by-place w z (ask.Collect n) refl (inPhase (view w) n 2) [] refl
-      (λ l d e. rw (posted-same (keyIn (phaseView (txnAt w (standing w n) .phase)))) (collected-at n l (live-at w n d e) (not (eqb (model.rank (phaseView (txnAt w (standing w n) .phase))) 2))))
+  collect-same n = by-place w z (ask.Collect n) refl (inPhase (view w) n phaseHolding) [] refl
+      (λ l d e. rw (posted-same (keyIn (phaseView (txnAt w (standing w n) .phase)))) (collected-at n l (live-at w n d e) (not (eqb (model.rank (phaseView (txnAt w (standing w n) .phase))) model.phaseHolding))))

@@ -11,6 +11,7 @@ use lib.Dec.{ltb}
 use lib.ListN.{length, List·getD-eq-default}
 use Rattle.base_limits.specs.Limits.{mostLive, mostRows, mostRecords}
 use Rattle.base_lists.specs.Table.{update}
+use Rattle.model.specs.Store.{phaseCollected}
 use Rattle.model.specs.Store as model
 use Rattle.model.specs.Steps.{foundRows, recordsAfter}
 use Rattle.model.specs.Refusals.{WrongPhase, NoRoom, ManyRecords, rowsChecks, checks, refusal, inPhase, txnOf}
@@ -85,6 +86,6 @@ module _ (w : Words) (z : Sized w) (g : Shaped w) where
   unfolding checks refusal
   rows-same n room h =
       let x = txnOf (view w) n in
-      by-place w z (ask.Rows n room) refl (inPhase (view w) n 3) (rowsChecks (view w) x room) refl
-      (λ l d e. found-at n room l _ (not (inPhase (view w) n 3)) (ltb (min room mostRows) (length (foundRows (view w) x))) (ltb mostRecords (length (recordsAfter (view w) x)))
+      by-place w z (ask.Rows n room) refl (inPhase (view w) n phaseCollected) (rowsChecks (view w) x room) refl
+      (λ l d e. found-at n room l _ (not (inPhase (view w) n phaseCollected)) (ltb (min room mostRows) (length (foundRows (view w) x))) (ltb mostRecords (length (recordsAfter (view w) x)))
       (rows-model (view w) (w .tables .rows) (w .tables .versions) (w .tables .lists) (w .used) (txnAt w (standing w n)) chains-shown (good-sized (view w .sizes) (g .sizes) .rows-most) (lists-stand (standing w n) l) (w .tables .found) room h))

@@ -12,10 +12,10 @@ use borrow.Author.Tests.{eqb-false}
 use Rattle.base_limits.specs.Limits.{mostLive}
 use Rattle.base_lists.specs.Lists.{some-of, Among, join}
 use Rattle.base_lists.proofs.ListLaws.{same-test, some-which, which-some}
-use Rattle.model.specs.Store.{rank}
+use Rattle.model.specs.Store.{rank, phaseOpen, phasePrepared}
 use Rattle.model.specs.Verdict as judged
 use Rattle.model.specs.Steps.{pendingRows, neededBuckets, preparedHeld, versionRows}
-use Rattle.model.specs.Refusals.{WrongPhase, Taken, Conflict, NoVersions, byAnother, reservedBy, reserved, versionsAfter, prepareChecks, checks, refusal, inPhase, txnOf}
+use Rattle.model.specs.Refusals.{refusalNumber, WrongPhase, Taken, Conflict, NoVersions, byAnother, reservedBy, reserved, versionsAfter, prepareChecks, checks, refusal, inPhase, txnOf}
 use Rattle.model.specs.Machine.{accepted, afterRefusal, carried}
 use Rattle.base_protocol.specs.declared.Step.the-variants as ask
 use Rattle.base_protocol.specs.declared.Answer.the-variants as tell
@@ -85,7 +85,7 @@ module _ (w : Words) (z : Sized w) (g : Shaped w) where
 
   reserved-one : (i : ℕ) → versionsIn (w .tables .rows) (w .tables .versions) (w .tables .lists) i (getD (othersIn (w .txns) .prepared) i 0) ≡ reservedBy (view w .sizes) (view w .chains) (view w .txns i)
   unfolding reservedBy
-  reserved-one i = rw (List·getD-map preparedOf (w .txns) i (idleOf i)) (by (eqb (txnAt w i .number) 0) refl (eqb (rank (phaseView (txnAt w i .phase))) 4))
+  reserved-one i = rw (List·getD-map preparedOf (w .txns) i (idleOf i)) (by (eqb (txnAt w i .number) 0) refl (eqb (rank (phaseView (txnAt w i .phase))) phasePrepared))
     where
       by : (b : Bool) → eqb (txnAt w i .number) 0 ≡ b → (c : Bool) → versionsIn (w .tables .rows) (w .tables .versions) (w .tables .lists) i (cond b 0 (cond c (txnAt w i .«writes_n») 0)) ≡ cond (not b && c) (length (versionRows (view w .sizes) (view w .chains) (view w .txns i .writes))) 0
       by true e c = none-reserved (w .tables .rows) (w .tables .versions) (w .tables .lists) i
@@ -124,11 +124,11 @@ module _ (w : Words) (z : Sized w) (g : Shaped w) where
   prepared-at : (n : ℕ) → standing w n < mostLive → 1 ≤ txnAt w (standing w n) .number → (a b c d e : Bool)
       → SameAt w (standing w n)
       (inPrepared
-      (cond a (left (refusedOf (txnAt w (standing w n)) 5) (w .tables .rows) (w .tables .buckets))
-      (cond b (left (refusedOf (txnAt w (standing w n)) 7) (w .tables .rows) (w .tables .buckets))
-      (cond c (left (refusedOf (txnAt w (standing w n)) 7) (w .tables .rows) (w .tables .buckets))
-      (cond d (left (refusedOf (txnAt w (standing w n)) 14) (w .tables .rows) (w .tables .buckets))
-      (cond e (left (refusedOf (txnAt w (standing w n)) 13) (w .tables .rows) (w .tables .buckets))
+      (cond a (left (refusedOf (txnAt w (standing w n)) (refusalNumber WrongPhase)) (w .tables .rows) (w .tables .buckets))
+      (cond b (left (refusedOf (txnAt w (standing w n)) (refusalNumber Taken)) (w .tables .rows) (w .tables .buckets))
+      (cond c (left (refusedOf (txnAt w (standing w n)) (refusalNumber Taken)) (w .tables .rows) (w .tables .buckets))
+      (cond d (left (refusedOf (txnAt w (standing w n)) (refusalNumber Conflict)) (w .tables .rows) (w .tables .buckets))
+      (cond e (left (refusedOf (txnAt w (standing w n)) (refusalNumber NoVersions)) (w .tables .rows) (w .tables .buckets))
       (left (record { answer = tell.Done; txn = withPhase (txnAt w (standing w n)) phase.Prepared })
       (claimAll (w .tables .rows) (txnAt w (standing w n) .number) (rowsWritten (w .tables .lists) (txnAt w (standing w n) .slot) (txnAt w (standing w n) .«writes_n»)))
       (holdAll (w .tables .buckets) (txnAt w (standing w n) .number) (listedNeeds w (standing w n)))))))))
@@ -154,16 +154,16 @@ module _ (w : Words) (z : Sized w) (g : Shaped w) where
   -- the tests after the phase
   prepare-place : (n : ℕ) → standing w n < mostLive → 1 ≤ txnAt w (standing w n) .number
       → SameAt w (standing w n) (inPrepared (prepareOf (w .tables .versions) (w .tables .lists) (w .sizes .buckets) (w .sizes .versions) (w .used) (othersIn (w .txns) .prepared) (txnAt w (standing w n)) (w .tables .rows) (w .tables .buckets)) (w .clock) (w .used) (w .tables))
-      (carried (view w) (asked (ask.Prepare n)) (refusal ((not (inPhase (view w) n 1), WrongPhase) ∷ prepareChecks (view w) (txnOf (view w) n))))
+      (carried (view w) (asked (ask.Prepare n)) (refusal ((not (inPhase (view w) n phaseOpen), WrongPhase) ∷ prepareChecks (view w) (txnOf (view w) n))))
   unfolding prepareOf prepareWith lacks refusal
   prepare-place n l o =
       let q = standing w n in
       let t = txnAt w q in
       rw (needed-front q, taken-needs q o, claimed-rows q o, verdict-same w z g q o, clear-same (judged.verdict (view w .chains) (view w .index) (view w .txns q)), reserved-same, versions-counted w z g q o)
-      (prepared-at n l o (not (eqb (rank (phaseView (t .phase))) 1)) (some-of (byAnother (view w .held .holder) (t .number)) (neededBuckets (view w) (view w .txns q))) (some-of (byAnother (view w .held .claim) (t .number)) (pendingRows (view w .sizes) (view w .txns q .writes)))
+      (prepared-at n l o (not (eqb (rank (phaseView (t .phase))) phaseOpen)) (some-of (byAnother (view w .held .holder) (t .number)) (neededBuckets (view w) (view w .txns q))) (some-of (byAnother (view w .held .claim) (t .number)) (pendingRows (view w .sizes) (view w .txns q .writes)))
       (not (eqb (judged.verdictNumber (judged.verdict (view w .chains) (view w .index) (view w .txns q))) 0)) (ltb (w .sizes .versions) (versionsAfter (view w) (view w .txns q))))
 
   -- all that is needed is free, the verdict is clear, there are versions: all is taken
   pub prepare-same : (n : ℕ) → Same w (ask.Prepare n)
   unfolding checks
-  prepare-same n = by-place w z (ask.Prepare n) refl (inPhase (view w) n 1) (prepareChecks (view w) (txnOf (view w) n)) refl (λ l d e. prepare-place n l (live-at w n d e))
+  prepare-same n = by-place w z (ask.Prepare n) refl (inPhase (view w) n phaseOpen) (prepareChecks (view w) (txnOf (view w) n)) refl (λ l d e. prepare-place n l (live-at w n d e))

@@ -15,10 +15,10 @@ use Rattle.base_lists.specs.Lists.{member, pick, join, Among}
 use Rattle.base_lists.specs.Table.{updateAll}
 use Rattle.base_lists.proofs.ListLaws.{same-test, member-among, among-member, which-pick}
 use Rattle.model.specs.Store as model
-use Rattle.model.specs.Store.{bucketIn, rank}
+use Rattle.model.specs.Store.{bucketIn, rank, phaseInstalled, phaseEnded}
 use Rattle.model.specs.Seeing.{live}
 use Rattle.model.specs.Steps.{pendingRows, repost, changedBuckets, publishedIndex, freed}
-use Rattle.model.specs.Refusals.{WrongPhase, liveCount, checks, refusal, inPhase}
+use Rattle.model.specs.Refusals.{refusalNumber, WrongPhase, liveCount, checks, refusal, inPhase}
 use Rattle.model.specs.Machine.{accepted, afterRefusal, carried}
 use Rattle.model.specs.Machine as machine
 use Rattle.model.proofs.Move.{live-test}
@@ -141,24 +141,24 @@ unfolding liveCount
 clock-below w g p l a = omega (arith, g .numbers-left, some-long (pick (λ i. live (view w .txns i)) 0 mostLive) p (which-pick (λ i. live (view w .txns i)) 0 mostLive p (omega arith) l (live-test (view w .txns p) a)))
 
 -- in phase Ended all is installed
-phase-ended : (x : model.Phase) → not (eqb (rank x) 6) ≡ false → 5 ≤ rank x
-phase-ended x e = let r : rank x ≡ 6 = eqb-true (rank x) 6 (not-false (eqb (rank x) 6) e) in omega arith
+phase-ended : (x : model.Phase) → not (eqb (rank x) phaseEnded) ≡ false → phaseInstalled ≤ rank x
+phase-ended x e = let r : rank x ≡ phaseEnded = eqb-true (rank x) phaseEnded (not-false (eqb (rank x) phaseEnded) e) in omega arith
 
 module _ (w : Words) (z : Sized w) (g : Good (view w)) (n : ℕ) (l : standing w n < mostLive) (a : 1 ≤ txnAt w (standing w n) .number) where
   abbrev sh : Shaped w
   sh = shaped w z (right-shape (view w) g)
 
-  publish-held : 5 ≤ rank (phaseView (txnAt w (standing w n) .phase)) → heldView (rowsPart (sizesView (w .sizes)) (rowsAfter w (standing w n))) (bucketsPart (sizesView (w .sizes)) (bucketsAfter w (standing w n))) ≡ freed (view w .held) (txnAt w (standing w n) .number)
+  publish-held : phaseInstalled ≤ rank (phaseView (txnAt w (standing w n) .phase)) → heldView (rowsPart (sizesView (w .sizes)) (rowsAfter w (standing w n))) (bucketsPart (sizesView (w .sizes)) (bucketsAfter w (standing w n))) ≡ freed (view w .held) (txnAt w (standing w n) .number)
   publish-held k =
       let p = standing w n in
       two-held _ _ _ _ (holders-freed w z sh p a ∙ freed-release (txnAt w p .number) (view w .held .holder) (heldOf w p) (held-listed w z g p a k))
       (claims-freed w z sh p a ∙ freed-release (txnAt w p .number) (view w .held .claim) (rowsOf w p) (own-rows w z g p a))
 
-  published-at : (b : Bool) → not (eqb (rank (phaseView (txnAt w (standing w n) .phase))) 6) ≡ b
+  published-at : (b : Bool) → not (eqb (rank (phaseView (txnAt w (standing w n) .phase))) phaseEnded) ≡ b
       → SameAt w (standing w n)
       (inPublished
       (publishedFrom
-      (cond b (record { reply = refusedOf (txnAt w (standing w n)) 5; rows = w .tables .rows; buckets = w .tables .buckets })
+      (cond b (record { reply = refusedOf (txnAt w (standing w n)) (refusalNumber WrongPhase); rows = w .tables .rows; buckets = w .tables .buckets })
       (record { reply = record { answer = tell.Stamp (w .clock); txn = idleOf (txnAt w (standing w n) .slot) }; rows = rowsAfter w (standing w n); buckets = bucketsAfter w (standing w n) }))
       (w .clock) (w .used))
       (w .tables))
@@ -171,11 +171,11 @@ module _ (w : Words) (z : Sized w) (g : Good (view w)) (n : ℕ) (l : standing w
       ended-at w z q l _ _ (tell.Stamp (w .clock)) (machine.Stamp (w .clock)) (oneMore (w .clock)) (suc (w .clock)) _ _ _ (one-up (w .clock) (clock-below w sh q l a)) (publish-chains w z q) (publish-index w z sh q a) (publish-held k) (rows-long w z q) (buckets-long w z q) refl refl
 
   published-place : SameAt w (standing w n) (inPublished (publishStep (w .tables .versions) (w .tables .lists) (w .sizes .buckets) (txnAt w (standing w n)) (w .clock) (w .used) (w .tables .rows) (w .tables .buckets)) (w .tables))
-      (carried (view w) (asked (ask.Publish n)) (refusal ((not (inPhase (view w) n 6), WrongPhase) ∷ [])))
+      (carried (view w) (asked (ask.Publish n)) (refusal ((not (inPhase (view w) n phaseEnded), WrongPhase) ∷ [])))
   unfolding publishStep publishOf refusal
-  published-place = rw (stamped-is w z (standing w n), freed-is w z (standing w n) (stamped w (standing w n))) (published-at (not (eqb (rank (phaseView (txnAt w (standing w n) .phase))) 6)) refl)
+  published-place = rw (stamped-is w z (standing w n), freed-is w z (standing w n) (stamped w (standing w n))) (published-at (not (eqb (rank (phaseView (txnAt w (standing w n) .phase))) phaseEnded)) refl)
 
 -- changed buckets are stamped, postings moved, buckets and claims freed, and the record ends
 pub publish-same : (w : Words) → Sized w → Good (view w) → (n : ℕ) → Same w (ask.Publish n)
 unfolding checks
-publish-same w z g n = by-place w z (ask.Publish n) refl (inPhase (view w) n 6) [] refl (λ l d e. published-place w z g n l (live-at w n d e))
+publish-same w z g n = by-place w z (ask.Publish n) refl (inPhase (view w) n phaseEnded) [] refl (λ l d e. published-place w z g n l (live-at w n d e))

@@ -89,7 +89,7 @@ module _ (v : model.Store) (a : Asked) (t : ℕ) (ph : Bool) (more : List (Bool 
   found-model h = rw (e, h)
 
 module _ (w : Words) (z : Sized w) (s : Step) (b : isBegin s ≡ false) where
-  moved-none : (p : ℕ) → placeFor (w .txns) s ≡ p → p < mostLive → eqb (wantedOf s) 0 || not (eqb (txnAt w p .number) (wantedOf s)) ≡ true → movedBy w s ≡ unmoved w p (tell.Refused 4)
+  moved-none : (p : ℕ) → placeFor (w .txns) s ≡ p → p < mostLive → eqb (wantedOf s) 0 || not (eqb (txnAt w p .number) (wantedOf s)) ≡ true → movedBy w s ≡ unmoved w p (tell.Refused (refusalNumber NoSuch))
   unfolding movedBy stepOf missesOf
   moved-none p e l h = rw (e, default-any (w .txns) p (idleOf 0) (idleOf p) (omega (arith, z .eight)), b, h)
 
@@ -117,13 +117,13 @@ module _ (w : Words) (z : Sized w) (s : Step) (b : isBegin s ≡ false) where
       go (no n) (no l) =
           let k : mostLive ≤ standing w (wantedOf s) = omega (arith, l) in
           same-from w s 0 _ _ (nowhere w z s k)
-          (ap done (moved-none 0 (nowhere w z s k) (omega arith) (rw (ne-eqb (wantedOf s) 0 n, ne-eqb (txnAt w 0 .number) (wantedOf s) (not-there w z (wantedOf s) k 0 (omega arith))))) ∙ kept 0 (tell.Refused 4) (nowhere w z s k) (omega arith))
+          (ap done (moved-none 0 (nowhere w z s k) (omega arith) (rw (ne-eqb (wantedOf s) 0 n, ne-eqb (txnAt w 0 .number) (wantedOf s) (not-there w z (wantedOf s) k 0 (omega arith))))) ∙ kept 0 (tell.Refused (refusalNumber NoSuch)) (nowhere w z s k) (omega arith))
           (none-model (view w) (asked s) (wantedOf s) ph more e (rw (ne-eqb (wantedOf s) 0 n, le-ltb (standing w (wantedOf s)) mostLive k)))
           (refused-same w z 0 NoSuch)
       go (yes n) d =
           let l = place-in w z s in
           same-from w s (placeFor (w .txns) s) _ _ refl
-          (ap done (moved-none (placeFor (w .txns) s) refl l (rw (eq-eqb (wantedOf s) 0 n))) ∙ kept (placeFor (w .txns) s) (tell.Refused 4) refl l)
+          (ap done (moved-none (placeFor (w .txns) s) refl l (rw (eq-eqb (wantedOf s) 0 n))) ∙ kept (placeFor (w .txns) s) (tell.Refused (refusalNumber NoSuch)) refl l)
           (none-model (view w) (asked s) (wantedOf s) ph more e (rw (eq-eqb (wantedOf s) 0 n)))
           (refused-same w z (placeFor (w .txns) s) NoSuch)
 

@@ -13,9 +13,10 @@ use lib.Seq.{length-sets}
 use borrow.Author.Tests.{leb-false}
 use Rattle.base_limits.specs.Limits.{mostLive, mostWrites}
 use Rattle.base_lists.specs.Table.{update}
+use Rattle.model.specs.Store.{phaseOpen, phaseInstalled}
 use Rattle.model.specs.Store as model
 use Rattle.model.specs.Steps as does
-use Rattle.model.specs.Refusals.{Step as Asked, WrongPhase, Marked, NoRow, ManyWrites, checks, refusal, inPhase, txnOf, writeChecks}
+use Rattle.model.specs.Refusals.{refusalNumber, Step as Asked, WrongPhase, Marked, NoRow, ManyWrites, checks, refusal, inPhase, txnOf, writeChecks}
 use Rattle.model.specs.Machine.{gives, accepted, afterRefusal, carried}
 use Rattle.model.specs.Machine as machine
 use Rattle.base_protocol.specs.declared.Step.the-variants as ask
@@ -60,7 +61,7 @@ written-view xs p t z l h i x =
     )
 
 module _ (w : Words) (z : Sized w) (n : ℕ) (l : standing w n < mostLive) where
-  ended-at : (b : Bool) → SameAt w (standing w n) (stays (withClock (cond b (refusedOf (txnAt w (standing w n)) 5) (record { answer = tell.Done; txn = withPhase (txnAt w (standing w n)) phase.Ended })) (w .clock) (w .used)) (w .tables))
+  ended-at : (b : Bool) → SameAt w (standing w n) (stays (withClock (cond b (refusedOf (txnAt w (standing w n)) (refusalNumber WrongPhase)) (record { answer = tell.Done; txn = withPhase (txnAt w (standing w n)) phase.Ended })) (w .clock) (w .used)) (w .tables))
       (carried (view w) (asked (ask.End n)) (cond b (some WrongPhase) none))
   unfolding carried accepted afterRefusal
   ended-at true = refused-same w z (standing w n) WrongPhase
@@ -76,10 +77,10 @@ module _ (w : Words) (z : Sized w) (p : ℕ) (l : p < mostLive) (x : Write) (a :
   written-at : (b m c d : Bool) → leb mostWrites (txnAt w p .«writes_n») ≡ d
       → SameAt w p
       (inLists
-      (cond b (record { reply = refusedOf (txnAt w p) 5; lists = w .tables .lists })
-      (cond m (record { reply = refusedOf (txnAt w p) 8; lists = w .tables .lists })
-      (cond c (record { reply = refusedOf (txnAt w p) 6; lists = w .tables .lists })
-      (cond d (record { reply = refusedOf (txnAt w p) 12; lists = w .tables .lists })
+      (cond b (record { reply = refusedOf (txnAt w p) (refusalNumber WrongPhase); lists = w .tables .lists })
+      (cond m (record { reply = refusedOf (txnAt w p) (refusalNumber Marked); lists = w .tables .lists })
+      (cond c (record { reply = refusedOf (txnAt w p) (refusalNumber NoRow); lists = w .tables .lists })
+      (cond d (record { reply = refusedOf (txnAt w p) (refusalNumber ManyWrites); lists = w .tables .lists })
       (record { reply = record { answer = tell.Done; txn = withWrites (txnAt w p) (txnAt w p .«writes_n» + 1) }; lists = stored lists.writes (w .tables .lists) (txnAt w p .slot) (txnAt w p .«writes_n») (writeWords x) })))))
       (w .clock) (w .used) (w .tables))
       (carried (view w) a (cond b (some WrongPhase) (cond m (some Marked) (cond c (some NoRow) (cond d (some ManyWrites) none)))))
@@ -104,17 +105,17 @@ module _ (w : Words) (z : Sized w) (p : ℕ) (l : p < mostLive) (x : Write) (a :
 -- the number stops being active
 pub end-same : (w : Words) → Sized w → (n : ℕ) → Same w (ask.End n)
 unfolding checks endOf refusal
-end-same w z n = by-place w z (ask.End n) refl (inPhase (view w) n 5) [] refl (λ l d e. ended-at w z n l (not (eqb (model.rank (phaseView (txnAt w (standing w n) .phase))) 5)))
+end-same w z n = by-place w z (ask.End n) refl (inPhase (view w) n phaseInstalled) [] refl (λ l d e. ended-at w z n l (not (eqb (model.rank (phaseView (txnAt w (standing w n) .phase))) model.phaseInstalled)))
 
 -- a pending write is appended
 pub put-same : (w : Words) → Sized w → (n r k payload : ℕ) → Same w (ask.Put n r k payload)
 unfolding checks accepted writeOf refusal
-put-same w z n r k payload = by-place w z (ask.Put n r k payload) refl (inPhase (view w) n 1) (writeChecks (view w) (txnOf (view w) n) r) refl
+put-same w z n r k payload = by-place w z (ask.Put n r k payload) refl (inPhase (view w) n phaseOpen) (writeChecks (view w) (txnOf (view w) n) r) refl
     (λ l d e. rw (writes-length (w .tables .lists) (txnAt w (standing w n)))
-    (written-at w z (standing w n) l (record { row = r; keyed = 1; key = k; payload = payload }) (asked (ask.Put n r k payload)) refl (not (eqb (model.rank (phaseView (txnAt w (standing w n) .phase))) 1)) (txnAt w (standing w n) .marked) (not (ltb r (w .sizes .rows))) (leb mostWrites (txnAt w (standing w n) .«writes_n»)) refl))
+    (written-at w z (standing w n) l (record { row = r; keyed = 1; key = k; payload = payload }) (asked (ask.Put n r k payload)) refl (not (eqb (model.rank (phaseView (txnAt w (standing w n) .phase))) model.phaseOpen)) (txnAt w (standing w n) .marked) (not (ltb r (w .sizes .rows))) (leb mostWrites (txnAt w (standing w n) .«writes_n»)) refl))
 
 pub erase-same : (w : Words) → Sized w → (n r : ℕ) → Same w (ask.Erase n r)
 unfolding checks accepted writeOf refusal
-erase-same w z n r = by-place w z (ask.Erase n r) refl (inPhase (view w) n 1) (writeChecks (view w) (txnOf (view w) n) r) refl
+erase-same w z n r = by-place w z (ask.Erase n r) refl (inPhase (view w) n phaseOpen) (writeChecks (view w) (txnOf (view w) n) r) refl
     (λ l d e. rw (writes-length (w .tables .lists) (txnAt w (standing w n)))
-    (written-at w z (standing w n) l (record { row = r; keyed = 0; key = 0; payload = 0 }) (asked (ask.Erase n r)) refl (not (eqb (model.rank (phaseView (txnAt w (standing w n) .phase))) 1)) (txnAt w (standing w n) .marked) (not (ltb r (w .sizes .rows))) (leb mostWrites (txnAt w (standing w n) .«writes_n»)) refl))
+    (written-at w z (standing w n) l (record { row = r; keyed = 0; key = 0; payload = 0 }) (asked (ask.Erase n r)) refl (not (eqb (model.rank (phaseView (txnAt w (standing w n) .phase))) model.phaseOpen)) (txnAt w (standing w n) .marked) (not (ltb r (w .sizes .rows))) (leb mostWrites (txnAt w (standing w n) .«writes_n»)) refl))

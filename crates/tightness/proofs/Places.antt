@@ -8,7 +8,7 @@ use lib.Dec.{eqb}
 use lib.ListN.{length, getD, set, replicate}
 use Rattle.base_limits.specs.Limits.{mostLive}
 use Rattle.base_lists.specs.Lists.{first}
-use Rattle.model.specs.Store.{rank}
+use Rattle.model.specs.Store.{rank, phasePrepared, phaseInstalled}
 use Rattle.base_protocol.specs.declared.Step.{Step}
 use Rattle.base_protocol.specs.declared.Step.the-variants as ask
 use Rattle.txn.specs.View.{phaseView}
@@ -46,7 +46,7 @@ pub active-number-ended : Excludes {A = ℕ × Phase} (λ (n, ph). activeNumber 
 active-number-ended = apart (1, phase.Ended) itself refl
 
 -- `active_number`: an Installed transaction is not active
-pub active-number-installed : Excludes {A = ℕ × Phase} (λ (n, ph). activeNumber n ph) (λ (n, ph). cond (eqb (rank (phaseView ph)) 5) 0 n)
+pub active-number-installed : Excludes {A = ℕ × Phase} (λ (n, ph). activeNumber n ph) (λ (n, ph). cond (eqb (rank (phaseView ph)) phaseInstalled) 0 n)
 active-number-installed = apart (1, phase.Installed) itself refl
 
 -- `prepared_count`: an Open transaction has reserved versions
@@ -54,7 +54,7 @@ pub prepared-count-open : Excludes {A = ℕ × Phase × ℕ} (λ (n, ph, writes)
 prepared-count-open = apart (1, phase.Open, 1) itself refl
 
 -- `prepared_count`: a free place has reserved versions
-pub prepared-count-free : Excludes {A = ℕ × Phase × ℕ} (λ (n, ph, writes). preparedCount n ph writes) (λ (n, ph, writes). cond (eqb (rank (phaseView ph)) 4) writes 0)
+pub prepared-count-free : Excludes {A = ℕ × Phase × ℕ} (λ (n, ph, writes). preparedCount n ph writes) (λ (n, ph, writes). cond (eqb (rank (phaseView ph)) phasePrepared) writes 0)
 prepared-count-free = apart (0, phase.Prepared, 1) itself refl
 
 -- `live_count`: every place counts

@@ -8,7 +8,7 @@ use lib.Dec.{eqb, ltb}
 use lib.ListN.{getD, set, replicate}
 use Rattle.base_limits.specs.Limits.{mostLive, mostWrites}
 use Rattle.model.specs.Log.{total}
-use Rattle.model.specs.Store.{rank}
+use Rattle.model.specs.Store.{rank, phaseOpen}
 use Rattle.base_protocol.specs.declared.Answer.the-variants as tell
 use Rattle.table.specs.Fields.{rowWords}
 use Rattle.txn.specs.View.{phaseView}
@@ -52,7 +52,7 @@ validate-any-phase = apart ([], [], [], live 1 phase.Ended) (λ (a : Answered). 
 
 -- `validate`: a bucket that another holds is read
 pub validate-held-read : Excludes validates (λ (versions, buckets, lists, t).
-    cond (not (eqb (rank (phaseView (t .phase))) 1)) (refusedOf t 5)
+    cond (not (eqb (rank (phaseView (t .phase))) phaseOpen)) (refusedOf t 5)
     (record { answer = tell.Judged (verdictOf versions buckets lists t); txn = t }))
 unfolding computes
 validate-held-read = apart ([], heldBy 2, captured, reader) (λ (a : Answered). numberIn (a .answer)) refl

@@ -6,7 +6,7 @@ use mathlib.Core.Bool.{true, cond, not}
 use mathlib.Core.List.{List, [], _∷_}
 use lib.Dec.{eqb}
 use lib.ListN.{getD}
-use Rattle.model.specs.Store.{rank, bucketIn}
+use Rattle.model.specs.Store.{rank, phaseInstalled, bucketIn}
 use Rattle.base_protocol.specs.declared.Answer.the-variants as tell
 use Rattle.txn.specs.View.{phaseView}
 use Rattle.txn.specs.Methods.{withPhase, refusedOf}
@@ -26,7 +26,7 @@ unfolding computes
 end-any-phase = apart (live 1 phase.Open) (λ (a : Answered). numberIn (a .answer)) refl
 
 -- `end`: the transaction stays Installed
-pub end-stays-installed : Excludes endOf (λ t. cond (not (eqb (rank (phaseView (t .phase))) 5)) (refusedOf t 5) (record { answer = tell.Done; txn = t }))
+pub end-stays-installed : Excludes endOf (λ t. cond (not (eqb (rank (phaseView (t .phase))) phaseInstalled)) (refusedOf t 5) (record { answer = tell.Done; txn = t }))
 unfolding computes
 end-stays-installed = apart (live 1 phase.Installed) (λ (a : Answered). rank (phaseView (a .txn .phase))) refl
 

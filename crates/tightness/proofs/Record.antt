@@ -6,7 +6,7 @@ use mathlib.Core.Bool.{false, cond, not}
 use mathlib.Core.List.{List, [], _∷_}
 use lib.Dec.{eqb, leb}
 use lib.ListN.{getD}
-use Rattle.model.specs.Store.{rank, bucketIn, keyIn}
+use Rattle.model.specs.Store.{rank, phaseHolding, phaseInstalled, bucketIn, keyIn}
 use Rattle.table.specs.Lists.{writes}
 use Rattle.txn.specs.declared.Phase.{Phase}
 use Rattle.txn.specs.declared.Phase.the-variants as phase
@@ -24,7 +24,7 @@ pub phase-rank-from-0 : Excludes (λ ph. rank (phaseView ph)) (λ ph. rank (phas
 phase-rank-from-0 = apart phase.Open itself refl
 
 -- `phase_rank`: Ended counts as Installed
-pub phase-rank-ended-installed : Excludes (λ ph. rank (phaseView ph)) (λ ph. min (rank (phaseView ph)) 5)
+pub phase-rank-ended-installed : Excludes (λ ph. rank (phaseView ph)) (λ ph. min (rank (phaseView ph)) phaseInstalled)
 phase-rank-ended-installed = apart phase.Ended itself refl
 
 -- `bucket_in`: the key for the bucket
@@ -40,7 +40,7 @@ pub key-in-bucket : Excludes (λ ph. keyIn (phaseView ph)) (λ ph. bucketIn (pha
 key-in-bucket = either-way bucket-in-key
 
 -- `key_in`: Collected carries none
-pub key-in-holding-only : Excludes (λ ph. keyIn (phaseView ph)) (λ ph. cond (eqb (rank (phaseView ph)) 2) (keyIn (phaseView ph)) 0)
+pub key-in-holding-only : Excludes (λ ph. keyIn (phaseView ph)) (λ ph. cond (eqb (rank (phaseView ph)) phaseHolding) (keyIn (phaseView ph)) 0)
 key-in-holding-only = apart (phase.Collected 5) itself refl
 
 -- `idle`: always of slot 0

@@ -6,7 +6,7 @@ use mathlib.Core.Bool.{cond, not}
 use mathlib.Core.List.{List, [], _∷_, _++_}
 use lib.Dec.{eqb}
 use lib.ListN.{getD, replicate}
-use Rattle.model.specs.Store.{rank, keyIn}
+use Rattle.model.specs.Store.{rank, phaseCollected, keyIn}
 use Rattle.table.specs.Fields.{versionWords}
 use Rattle.txn.specs.View.{phaseView}
 use Rattle.txn.specs.Methods.{withCandidates}
@@ -42,7 +42,7 @@ seen = (1 ∷ 0 ∷ 1 ∷ 5 ∷ [], replicate versionWords 0 ++ 1 ∷ 0 ∷ 0 �
 
 -- `rows`: the version read is not recorded
 pub rows-unrecorded : Excludes reads (λ (rows, versions, lists, found, rowCount, used, room, t).
-    cond (not (eqb (rank (phaseView (t .phase))) 3)) (refusedRows t 5 lists found)
+    cond (not (eqb (rank (phaseView (t .phase))) phaseCollected)) (refusedRows t 5 lists found)
     (answerOf lists found t room (matchedRows (look rows versions lists used t (keyIn (phaseView (t .phase)))) rowCount) []))
 unfolding computes
 rows-unrecorded = apart seen (λ (l : LeftRows). l .reply .txn .«records_n») refl

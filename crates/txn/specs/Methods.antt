@@ -5,7 +5,8 @@ use mathlib.Core.List.{List, [], _∷_}
 use lib.Dec.{eqb, ltb, leb}
 use lib.ListN.{replicate, length}
 use Rattle.base_limits.specs.Limits.{mostActive, mostIndexReads, mostWrites}
-use Rattle.model.specs.Store.{rank, bucketIn, keyIn}
+use Rattle.model.specs.Store.{rank, phaseOpen, phaseHolding, bucketIn, keyIn}
+use Rattle.model.specs.Refusals.{WrongPhase, NoRow, Taken, Marked, ManyReads, ManyWrites, Stale, refusalNumber}
 use Rattle.base_protocol.specs.declared.Answer.the-variants as tell
 use Rattle.table.specs.Fields.{stampOf, holderOf, setHolder}
 use Rattle.table.specs.Lists.{reads, writes, stored}
@@ -96,11 +97,11 @@ heldLeft stamp h buckets = left (record { answer = tell.Stamp stamp; txn = h .tx
 -- capture of bucket b: wrong phase, mark, held by another, stale stamp, a 17th index read; else the bucket is taken
 unfoldable pub captureAt : Transaction → ℕ → ℕ → List ℕ → List ℕ → Left
 captureAt t b k buckets lists =
-    cond (not (eqb (rank (phaseView (t .phase))) 1)) (left (refusedOf t 5) buckets lists)
-    (cond (t .marked) (left (refusedOf t 8) buckets lists)
-    (cond (takenBy (holderOf buckets b) (t .number)) (left (refusedOf t 7) buckets lists)
-    (cond (not (precedes (stampOf buckets b) (t .number))) (left (refusedOf (withMark t) 8) buckets lists)
-    (cond (tooMany (readPrefix lists (t .slot) (t .«reads_n») b) (t .«reads_n»)) (left (refusedOf t 9) buckets lists)
+    cond (not (eqb (rank (phaseView (t .phase))) phaseOpen)) (left (refusedOf t (refusalNumber WrongPhase)) buckets lists)
+    (cond (t .marked) (left (refusedOf t (refusalNumber Marked)) buckets lists)
+    (cond (takenBy (holderOf buckets b) (t .number)) (left (refusedOf t (refusalNumber Taken)) buckets lists)
+    (cond (not (precedes (stampOf buckets b) (t .number))) (left (refusedOf (withMark t) (refusalNumber Stale)) buckets lists)
+    (cond (tooMany (readPrefix lists (t .slot) (t .«reads_n») b) (t .«reads_n»)) (left (refusedOf t (refusalNumber ManyReads)) buckets lists)
     (heldLeft (stampOf buckets b) (holdOf t (readPrefix lists (t .slot) (t .«reads_n») b) b k (stampOf buckets b) lists) (setHolder buckets b (t .number)))))))
 
 abbrev pub captureOf : ℕ → Transaction → ℕ → List ℕ → List ℕ → Left
@@ -109,10 +110,10 @@ captureOf bucketCount t k buckets lists = captureAt t (k % bucketCount) k bucket
 -- ---- put, erase: wrong phase, mark, row not below the row count, a 17th pending write; else it is appended
 unfoldable pub writeOf : ℕ → Transaction → Write → List ℕ → LeftLists
 writeOf rowCount t w lists =
-    cond (not (eqb (rank (phaseView (t .phase))) 1)) (record { reply = refusedOf t 5; lists = lists })
-    (cond (t .marked) (record { reply = refusedOf t 8; lists = lists })
-    (cond (not (ltb (w .row) rowCount)) (record { reply = refusedOf t 6; lists = lists })
-    (cond (leb mostWrites (t .«writes_n»)) (record { reply = refusedOf t 12; lists = lists })
+    cond (not (eqb (rank (phaseView (t .phase))) phaseOpen)) (record { reply = refusedOf t (refusalNumber WrongPhase); lists = lists })
+    (cond (t .marked) (record { reply = refusedOf t (refusalNumber Marked); lists = lists })
+    (cond (not (ltb (w .row) rowCount)) (record { reply = refusedOf t (refusalNumber NoRow); lists = lists })
+    (cond (leb mostWrites (t .«writes_n»)) (record { reply = refusedOf t (refusalNumber ManyWrites); lists = lists })
     (record {
       reply = record { answer = tell.Done; txn = withWrites t (t .«writes_n» + 1) };
       lists = stored writes lists (t .slot) (t .«writes_n») (w .row ∷ w .keyed ∷ w .key ∷ w .payload ∷ []);
@@ -128,5 +129,5 @@ collectedLeft t b k rs buckets lists =
 -- wrong phase; else the posted rows are kept and the bucket is free
 unfoldable pub collectOf : List ℕ → ℕ → Transaction → List ℕ → List ℕ → Left
 collectOf rows n t buckets lists =
-    cond (not (eqb (rank (phaseView (t .phase))) 2)) (left (refusedOf t 5) buckets lists)
+    cond (not (eqb (rank (phaseView (t .phase))) phaseHolding)) (left (refusedOf t (refusalNumber WrongPhase)) buckets lists)
     (collectedLeft t (bucketIn (phaseView (t .phase))) (keyIn (phaseView (t .phase))) (postedUpTo rows (keyIn (phaseView (t .phase))) n) buckets lists)

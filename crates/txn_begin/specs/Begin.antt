@@ -5,6 +5,7 @@ use mathlib.Core.List.{List, [], _∷_}
 use lib.Dec.{eqb, ltb, leb}
 use lib.ListN.{set, replicate}
 use Rattle.base_limits.specs.Limits.{mostActive, lastNumber}
+use Rattle.model.specs.Refusals.{NoNumbers, Full, refusalNumber}
 use Rattle.base_protocol.specs.declared.Answer.the-variants as tell
 use Rattle.table_chain.specs.declared.Snapshot.{Snapshot}
 use Rattle.txn.specs.declared.Phase.the-variants as phase
@@ -56,6 +57,6 @@ refusedBegin t clock why = record { answer = tell.Refused why; txn = t; clock = 
 -- no free place, no numbers left; else the transaction stands at the place of the record that came in
 unfoldable pub beginOf : List ℕ → ℕ → ℕ → Transaction → Begun
 beginOf active live clock t =
-    cond (not (eqb (t .number) 0)) (refusedBegin t clock 3)
-    (cond (spent clock live) (refusedBegin t clock 2)
+    cond (not (eqb (t .number) 0)) (refusedBegin t clock (refusalNumber Full))
+    (cond (spent clock live) (refusedBegin t clock (refusalNumber NoNumbers))
     (begunOf t (snapshotOf active clock) clock))

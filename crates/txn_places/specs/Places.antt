@@ -3,7 +3,7 @@ use Prim.Native.Nat.{ℕ, suc, _+_}
 use mathlib.Core.Bool.{Bool, true, false, cond, not, _&&_, _||_}
 use mathlib.Core.List.{List, [], _∷_}
 use lib.Dec.{eqb}
-use Rattle.model.specs.Store.{rank}
+use Rattle.model.specs.Store.{rank, phasePrepared, phaseEnded}
 use Rattle.base_protocol.specs.declared.Step.{Step}
 use Rattle.base_protocol.specs.declared.Step.the-variants as ask
 use Rattle.txn.specs.View.{phaseView}
@@ -52,11 +52,11 @@ placeIn numbers n = placeFrom 0 numbers n
 
 -- a place's number while it is active
 abbrev pub activeNumber : ℕ → Phase → ℕ
-activeNumber n ph = cond (eqb (rank (phaseView ph)) 6) 0 n
+activeNumber n ph = cond (eqb (rank (phaseView ph)) phaseEnded) 0 n
 
 -- the pending writes that a live Prepared transaction has reserved versions for
 abbrev pub preparedCount : ℕ → Phase → ℕ → ℕ
-preparedCount n ph writes = cond (eqb n 0) 0 (cond (eqb (rank (phaseView ph)) 4) writes 0)
+preparedCount n ph writes = cond (eqb n 0) 0 (cond (eqb (rank (phaseView ph)) phasePrepared) writes 0)
 
 -- how many places are not free
 abbrev pub oneLive : ℕ → ℕ → ℕ

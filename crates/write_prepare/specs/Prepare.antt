@@ -5,7 +5,8 @@ use mathlib.Core.List.{List, _++_}
 use lib.Dec.{eqb, ltb}
 use lib.ListN.{getD, replicate}
 use Rattle.base_limits.specs.Limits.{mostIndexReads, mostWrites}
-use Rattle.model.specs.Store.{rank}
+use Rattle.model.specs.Store.{rank, phaseOpen}
+use Rattle.model.specs.Refusals.{WrongPhase, Taken, NoVersions, Conflict, refusalNumber}
 use Rattle.base_protocol.specs.declared.Answer.the-variants as tell
 use Rattle.base_protocol.specs.declared.Verdict.{Verdict}
 use Rattle.base_protocol.specs.declared.Verdict.the-variants as verdict
@@ -30,8 +31,8 @@ readsTakenIn buckets lists slot reads number = anyTaken buckets number (front (l
 -- validate: wrong phase, a needed bucket held by another; else the verdict
 unfoldable pub validateOf : List ℕ → List ℕ → List ℕ → Transaction → Answered
 validateOf versions buckets lists t =
-    cond (not (eqb (rank (phaseView (t .phase))) 1)) (refusedOf t 5)
-    (cond (readsTakenIn buckets lists (t .slot) (t .«reads_n») (t .number)) (refusedOf t 7)
+    cond (not (eqb (rank (phaseView (t .phase))) phaseOpen)) (refusedOf t (refusalNumber WrongPhase))
+    (cond (readsTakenIn buckets lists (t .slot) (t .«reads_n») (t .number)) (refusedOf t (refusalNumber Taken))
     (record { answer = tell.Judged (verdictOf versions buckets lists t); txn = t }))
 
 -- no conflict
@@ -80,13 +81,13 @@ left a rows buckets = record { reply = a; rows = rows; buckets = buckets }
 -- prepare, with the needed buckets listed: wrong phase; a bucket held or a row claimed by another; a conflict; too few versions; else all is taken
 unfoldable pub prepareWith : List ℕ → List ℕ → ℕ → ℕ → List ℕ → Transaction → List ℕ → List ℕ → Listed → Left
 prepareWith versions lists limit used prepared t rows buckets needed =
-    cond (anyTaken buckets (t .number) (front needed)) (left (refusedOf t 7) rows buckets)
-    (cond (anyClaimed rows (t .number) (rowsWritten lists (t .slot) (t .«writes_n»))) (left (refusedOf t 7) rows buckets)
-    (cond (not (isClear (verdictOf versions buckets lists t))) (left (refusedOf t 14) rows buckets)
-    (cond (lacks rows versions lists prepared (t .slot) (t .«writes_n») used limit) (left (refusedOf t 13) rows buckets)
+    cond (anyTaken buckets (t .number) (front needed)) (left (refusedOf t (refusalNumber Taken)) rows buckets)
+    (cond (anyClaimed rows (t .number) (rowsWritten lists (t .slot) (t .«writes_n»))) (left (refusedOf t (refusalNumber Taken)) rows buckets)
+    (cond (not (isClear (verdictOf versions buckets lists t))) (left (refusedOf t (refusalNumber Conflict)) rows buckets)
+    (cond (lacks rows versions lists prepared (t .slot) (t .«writes_n») used limit) (left (refusedOf t (refusalNumber NoVersions)) rows buckets)
     (left (record { answer = tell.Done; txn = withPhase t phase.Prepared }) (claimAll rows (t .number) (rowsWritten lists (t .slot) (t .«writes_n»))) (holdAll buckets (t .number) (front needed))))))
 
 unfoldable pub prepareOf : List ℕ → List ℕ → ℕ → ℕ → ℕ → List ℕ → Transaction → List ℕ → List ℕ → Left
 prepareOf versions lists count limit used prepared t rows buckets =
-    cond (not (eqb (rank (phaseView (t .phase))) 1)) (left (refusedOf t 5) rows buckets)
+    cond (not (eqb (rank (phaseView (t .phase))) phaseOpen)) (left (refusedOf t (refusalNumber WrongPhase)) rows buckets)
     (prepareWith versions lists limit used prepared t rows buckets (neededInto rows versions lists count (t .slot) (t .«reads_n») (t .«writes_n») (replicate mostNeeded 0)))
