@@ -2,6 +2,7 @@
 use Prim.Native.Nat.{ℕ, min}
 use mathlib.Core.Path.{_≡_, refl, sym, ap, _∙_}
 use mathlib.Core.Bool.{cond}
+use mathlib.Core.Option.{none, some}
 use mathlib.Core.List.{List, [], _∷_, _++_, map, map-append}
 use native.Mathlib.Omega.{arith}
 use lib.Dec.{eqb}
@@ -9,7 +10,7 @@ use lib.ListN.{length, drop, length-replicate}
 use lib.Seq.{take-at}
 use Rattle.model.specs.Store.{Store, fresh}
 use Rattle.model.specs.Contents.{Content, shownTo, liveRow}
-use Rattle.model.specs.Refusals.{Step as Asked, begin, capture, collect, rows, put, erase, prepare, install, end, publish, validate, abort, txnOf}
+use Rattle.model.specs.Refusals.{Step as Asked, begin, capture, collect, rows, write, prepare, install, end, publish, validate, abort, txnOf}
 use Rattle.model.specs.Machine as machine
 use Rattle.model.specs.Machine.{lentAfter, actor, step, run}
 use Rattle.model_in_turn.specs.Done.{returned, Entry, whose, entryOf, entries}
@@ -38,8 +39,8 @@ asks-for begin = refl
 asks-for (capture t k) = refl
 asks-for (collect t) = refl
 asks-for (rows t room) = ap (rows t) (room-lent t room)
-asks-for (put t r k payload) = refl
-asks-for (erase t r) = refl
+asks-for (write t r (some c)) = refl
+asks-for (write t r none) = refl
 asks-for (prepare t) = refl
 asks-for (install t) = refl
 asks-for (end t) = refl

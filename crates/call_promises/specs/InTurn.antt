@@ -2,12 +2,13 @@
 use Prim.Native.Nat.{ℕ, _<_}
 use mathlib.Core.Path.{_≡_}
 use mathlib.Core.Bool.{cond}
+use mathlib.Core.Option.{none, some}
 use mathlib.Core.List.{List, [], _∷_, _++_, map}
 use lib.Dec.{eqb}
 use lib.ListN.{take, replicate}
 use Rattle.base_limits.specs.Limits.{mostLive}
 use Rattle.model.specs.Contents.{shownTo, liveRow}
-use Rattle.model.specs.Refusals.{Step as Asked, begin, capture, collect, rows, put, erase, prepare, install, end, publish, validate, abort, txnOf}
+use Rattle.model.specs.Refusals.{Step as Asked, begin, capture, collect, rows, write, prepare, install, end, publish, validate, abort, txnOf}
 use Rattle.model.specs.Machine.{actor}
 use Rattle.model_in_turn.specs.Done.{Entry, whose}
 use Rattle.model_in_turn.specs.InTurn.{oneByOne, stepsIn}
@@ -31,8 +32,8 @@ callFor begin = bare ask.Begin
 callFor (capture t k) = bare (ask.Capture t k)
 callFor (collect t) = bare (ask.Collect t)
 callFor (rows t room) = record { asks = ask.Rows t room; lent = replicate room 0 }
-callFor (put t r k payload) = bare (ask.Put t r k payload)
-callFor (erase t r) = bare (ask.Erase t r)
+callFor (write t r (some c)) = bare (ask.Put t r (c .0) (c .1))
+callFor (write t r none) = bare (ask.Erase t r)
 callFor (prepare t) = bare (ask.Prepare t)
 callFor (install t) = bare (ask.Install t)
 callFor (end t) = bare (ask.End t)

@@ -10,7 +10,7 @@ use native.Mathlib.Nat.{pow-succ'}
 use native.Mathlib.Omega.{arith}
 use lib.ListN.{length, take, drop, getD, length-append, length-drop, take-append-drop}
 use lib.Seq.{take-add, take-at, drop-at, drop-drop, length-take-le}
-use Rattle.model.specs.Refusals.{begin, capture, collect, rows, put, erase, prepare, install, end, publish, validate, abort}
+use Rattle.model.specs.Refusals.{begin, capture, collect, rows, write, prepare, install, end, publish, validate, abort}
 use Rattle.model.specs.Log.{Command, Opening, Asking, number, widths, total, fits, fields, fieldsOf, commandOf, lengthIn, kindIn, whole, readRecord}
 use Rattle.log.specs.Layout.{inBytes, Field, kindOf, fieldsIn, laidOut, framed, bytesOf, Fit, none-left, one-fits, Bytes, no-bytes, one-byte}
 use Rattle.log.specs.Records.{lengthOf, fieldIn}
@@ -116,8 +116,8 @@ of-kind (Asking begin) = (refl, refl, omega arith, omega arith)
 of-kind (Asking (capture t k)) = (refl, refl, omega arith, omega arith)
 of-kind (Asking (collect t)) = (refl, refl, omega arith, omega arith)
 of-kind (Asking (rows t room)) = (refl, refl, omega arith, omega arith)
-of-kind (Asking (put t r k payload)) = (refl, refl, omega arith, omega arith)
-of-kind (Asking (erase t r)) = (refl, refl, omega arith, omega arith)
+of-kind (Asking (write t r (some c))) = (refl, refl, omega arith, omega arith)
+of-kind (Asking (write t r none)) = (refl, refl, omega arith, omega arith)
 of-kind (Asking (prepare t)) = (refl, refl, omega arith, omega arith)
 of-kind (Asking (install t)) = (refl, refl, omega arith, omega arith)
 of-kind (Asking (end t)) = (refl, refl, omega arith, omega arith)

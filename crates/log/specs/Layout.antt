@@ -1,8 +1,9 @@
 -- The bytes of a record, as document 01 lays them out.
 use Prim.Native.Nat.{ℕ, zero, suc, _+_, _/_, _%_, _<_, _^_}
+use mathlib.Core.Option.{none, some}
 use mathlib.Core.List.{List, [], _∷_, _++_}
 use lib.ListN.{length}
-use Rattle.model.specs.Refusals.{begin, capture, collect, rows, put, erase, prepare, install, end, publish, validate, abort}
+use Rattle.model.specs.Refusals.{begin, capture, collect, rows, write, prepare, install, end, publish, validate, abort}
 use Rattle.model.specs.Log.{Command, Opening, Asking}
 
 -- n in w bytes, the lowest first
@@ -28,8 +29,8 @@ kindOf (Asking begin) = 2
 kindOf (Asking (capture t k)) = 3
 kindOf (Asking (collect t)) = 4
 kindOf (Asking (rows t room)) = 5
-kindOf (Asking (put t r k payload)) = 6
-kindOf (Asking (erase t r)) = 7
+kindOf (Asking (write t r (some c))) = 6
+kindOf (Asking (write t r none)) = 7
 kindOf (Asking (prepare t)) = 8
 kindOf (Asking (install t)) = 9
 kindOf (Asking (end t)) = 10
@@ -44,8 +45,8 @@ fieldsIn (Asking begin) = []
 fieldsIn (Asking (capture t k)) = eight t ∷ eight k ∷ []
 fieldsIn (Asking (collect t)) = eight t ∷ []
 fieldsIn (Asking (rows t room)) = eight t ∷ four room ∷ []
-fieldsIn (Asking (put t r k payload)) = eight t ∷ four r ∷ eight k ∷ eight payload ∷ []
-fieldsIn (Asking (erase t r)) = eight t ∷ four r ∷ []
+fieldsIn (Asking (write t r (some c))) = eight t ∷ four r ∷ eight (c .0) ∷ eight (c .1) ∷ []
+fieldsIn (Asking (write t r none)) = eight t ∷ four r ∷ []
 fieldsIn (Asking (prepare t)) = eight t ∷ []
 fieldsIn (Asking (install t)) = eight t ∷ []
 fieldsIn (Asking (end t)) = eight t ∷ []

@@ -2,6 +2,7 @@
 use mathlib.Core.Path.{_≡_, refl}
 use mathlib.Core.Bool.{Bool, true, false, cond, not, _&&_}
 use mathlib.Core.Logic.{inl, inr, ⊎-elim}
+use mathlib.Core.Option.{none, some}
 use mathlib.Core.List.{List, [], _∷_, map}
 use Prim.Native.Nat.{ℕ, _+_, _≤_}
 use native.Mathlib.Omega.{arith}
@@ -11,12 +12,12 @@ use Rattle.base_limits.specs.Limits.{lastNumber}
 use Rattle.base_lists.specs.Lists.{Among}
 use Rattle.base_lists.proofs.ListLaws.{among-cases, map-among}
 use Rattle.model.specs.Store.{Sizes, Store, fresh}
-use Rattle.model.specs.Refusals.{Step, begin, capture, collect, rows, put, erase, prepare, install, end, publish, validate, abort}
+use Rattle.model.specs.Refusals.{Step, begin, capture, collect, rows, write, prepare, install, end, publish, validate, abort}
 use Rattle.model.specs.Machine.{step, run, canOpen}
 use Rattle.model.specs.Given.{number, Lives}
 use Rattle.model.specs.Log.{Opening, Asking}
 use Rattle.model.proofs.Good.{Good, good-run, opened-good}
-use Rattle.model.proofs.Refused.{capture-0, collect-0, rows-0, put-0, erase-0, prepare-0, install-0, end-0, publish-0, validate-0, abort-0}
+use Rattle.model.proofs.Refused.{capture-0, collect-0, rows-0, write-0, prepare-0, install-0, end-0, publish-0, validate-0, abort-0}
 use Rattle.log.specs.Layout.{Field, eight, fieldsIn, Fit, none-left, one-fits}
 use Rattle.model_in_turn.specs.Done.{Entry, whose, entryOf, entries}
 use Rattle.model_in_turn.specs.InTurn.{endOrder, isPublish, doneBy, renumbered, asNumber, wholeOf, inTurn, oneByOne, stepsIn, turnOf}
@@ -33,8 +34,7 @@ module _ (s : Store) (g : Good s) where
   whose-small (capture t k) e = live-small t (capture-0 s t k .0 e .0 .1)
   whose-small (collect t) e = live-small t (collect-0 s t .0 e .1)
   whose-small (rows t room) e = live-small t (rows-0 s t room .0 e .0 .1)
-  whose-small (put t r k payload) e = live-small t (put-0 s t r k payload .0 e .0 .1)
-  whose-small (erase t r) e = live-small t (erase-0 s t r .0 e .0 .1)
+  whose-small (write t r c) e = live-small t (write-0 s t r c .0 e .0 .1)
   whose-small (prepare t) e = live-small t (prepare-0 s t .0 e .0 .1)
   whose-small (install t) e = live-small t (install-0 s t .0 e .1)
   whose-small (end t) e = live-small t (end-0 s t .0 e .1)
@@ -75,8 +75,8 @@ renumbered-fits m begin l f = f
 renumbered-fits m (capture t k) l (one-fits h more) = eight-fits m _ l more
 renumbered-fits m (collect t) l (one-fits h more) = eight-fits m _ l more
 renumbered-fits m (rows t room) l (one-fits h more) = eight-fits m _ l more
-renumbered-fits m (put t r k payload) l (one-fits h more) = eight-fits m _ l more
-renumbered-fits m (erase t r) l (one-fits h more) = eight-fits m _ l more
+renumbered-fits m (write t r (some c)) l (one-fits h more) = eight-fits m _ l more
+renumbered-fits m (write t r none) l (one-fits h more) = eight-fits m _ l more
 renumbered-fits m (prepare t) l (one-fits h more) = eight-fits m _ l more
 renumbered-fits m (install t) l (one-fits h more) = eight-fits m _ l more
 renumbered-fits m (end t) l (one-fits h more) = eight-fits m _ l more

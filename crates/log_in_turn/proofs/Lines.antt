@@ -1,6 +1,7 @@
 -- A report's lines: each is found whole where it was written, and its first digit is 0 where the step was done. Assumes nothing.
 use mathlib.Core.Path.{_≡_, refl, ap, _∙_}
 use mathlib.Core.Bool.{Bool, true, false, cond, not}
+use mathlib.Core.Option.{none, some}
 use mathlib.Core.List.{List, [], _∷_, _++_, append-assoc}
 use Prim.Native.Nat.{ℕ, zero, suc, _+_, _/_, _%_}
 use native.Mathlib.Omega.{arith}
@@ -10,7 +11,7 @@ use lib.Seq.{getD-append-add}
 use borrow.Author.Tests.{not-true, ne-eqb}
 use Rattle.base_lists.specs.Lists.{all-of}
 use Rattle.base_lists.proofs.ListLaws.{and-l, and-r, and-both}
-use Rattle.model.specs.Refusals.{Refusal, WrongSize, NoNumbers, Full, NoSuch, WrongPhase, NoRow, Taken, Stale, Marked, ManyReads, NoRoom, ManyRecords, ManyWrites, NoVersions, Conflict, Malformed, WrongShape, refusalNumber, Step, begin, capture, collect, rows, put, erase, prepare, install, end, publish, validate, abort}
+use Rattle.model.specs.Refusals.{Refusal, WrongSize, NoNumbers, Full, NoSuch, WrongPhase, NoRow, Taken, Stale, Marked, ManyReads, NoRoom, ManyRecords, ManyWrites, NoVersions, Conflict, Malformed, WrongShape, refusalNumber, Step, begin, capture, collect, rows, write, prepare, install, end, publish, validate, abort}
 use Rattle.model.specs.Machine.{Answer, Done, Number, Stamp, Count, Rows, Judged, Refused, answerNumber, answerValues}
 use Rattle.model.specs.Log.{Asking}
 use Rattle.model.specs.Report.{digitsStep, digitsFor, decimal, openWord, wordOf, spaced, line, answerLine}
@@ -58,8 +59,8 @@ word-unbroken begin = refl
 word-unbroken (capture t k) = refl
 word-unbroken (collect t) = refl
 word-unbroken (rows t room) = refl
-word-unbroken (put t r k payload) = refl
-word-unbroken (erase t r) = refl
+word-unbroken (write t r (some c)) = refl
+word-unbroken (write t r none) = refl
 word-unbroken (prepare t) = refl
 word-unbroken (install t) = refl
 word-unbroken (end t) = refl

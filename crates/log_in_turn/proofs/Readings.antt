@@ -9,7 +9,7 @@ use borrow.Author.Tests.{eqb-true}
 use Rattle.model.specs.Store.{Sizes, Store, fresh}
 use Rattle.model.specs.Contents.{Content, shownTo}
 use Rattle.model.specs.Steps.{foundRows}
-use Rattle.model.specs.Refusals.{Step, begin, capture, collect, rows, put, erase, prepare, install, end, publish, validate, abort, txnOf}
+use Rattle.model.specs.Refusals.{Step, begin, capture, collect, rows, write, prepare, install, end, publish, validate, abort, txnOf}
 use Rattle.model.specs.Machine.{step}
 use Rattle.model.specs.Given.{number}
 use Rattle.model.specs.Log.{Asking}
@@ -69,8 +69,7 @@ one-read s (collect t) test more e = refl
 one-read s (rows t room) test more e =
     let rs = foundRows s (txnOf s t) in
     rw (answers s (rows t room) e, rows-again (λ r. shownTo (s .chains) (txnOf s t) r) rs) refl
-one-read s (put t r k payload) test more e = refl
-one-read s (erase t r) test more e = refl
+one-read s (write t r c) test more e = refl
 one-read s (prepare t) test more e = refl
 one-read s (install t) test more e = refl
 one-read s (end t) test more e = refl
@@ -100,8 +99,7 @@ read-by s n begin = refl
 read-by s n (capture t k) = refl
 read-by s n (collect t) = refl
 read-by s n (rows t room) = sym (and-true (eqb t n))
-read-by s n (put t r k payload) = refl
-read-by s n (erase t r) = refl
+read-by s n (write t r c) = refl
 read-by s n (prepare t) = refl
 read-by s n (install t) = refl
 read-by s n (end t) = refl
@@ -154,8 +152,7 @@ still-read m begin = refl
 still-read m (capture t k) = refl
 still-read m (collect t) = refl
 still-read m (rows t room) = refl
-still-read m (put t r k payload) = refl
-still-read m (erase t r) = refl
+still-read m (write t r c) = refl
 still-read m (prepare t) = refl
 still-read m (install t) = refl
 still-read m (end t) = refl

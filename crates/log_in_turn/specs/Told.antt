@@ -5,7 +5,7 @@ use mathlib.Core.Option.{Option, none, some}
 use mathlib.Core.List.{List, [], _∷_, _++_, zip, flatMap}
 use lib.Dec.{eqb}
 use lib.ListN.{length, getD}
-use Rattle.model.specs.Refusals.{begin, capture, collect, rows, put, erase, prepare, install, end, publish, validate, abort}
+use Rattle.model.specs.Refusals.{begin, capture, collect, rows, write, prepare, install, end, publish, validate, abort}
 use Rattle.model.specs.Log.{Command, Opening, Asking, readRecord}
 use Rattle.model.specs.Report.{openWord, wordOf}
 use Rattle.model_in_turn.specs.InTurn.{endIn}
@@ -64,8 +64,7 @@ isRead test (Asking begin) = false
 isRead test (Asking (capture t k)) = false
 isRead test (Asking (collect t)) = false
 isRead test (Asking (rows t room)) = test t
-isRead test (Asking (put t r k payload)) = false
-isRead test (Asking (erase t r)) = false
+isRead test (Asking (write t r c)) = false
 isRead test (Asking (prepare t)) = false
 isRead test (Asking (install t)) = false
 isRead test (Asking (end t)) = false

@@ -16,7 +16,7 @@ use Rattle.base_lists.specs.Table.{cond-elim}
 use Rattle.base_lists.proofs.ListLaws.{and-l, and-r, or-cases, is-false, or-r}
 use Rattle.model.specs.Store.{Sizes, Store, rank, phaseInstalled}
 use Rattle.model.specs.Steps.{hasRead, pendingRows}
-use Rattle.model.specs.Refusals.{Refusal, WrongSize, NoNumbers, Full, NoSuch, WrongPhase, NoRow, Taken, Stale, Marked, ManyReads, NoRoom, ManyRecords, ManyWrites, NoVersions, Conflict, Malformed, WrongShape, refusalNumber, Step, begin, capture, collect, rows, put, erase, prepare, install, end, publish, validate, abort, placeOf, txnOf, byAnother, found, bucketsTaken, rowsClaimed, checks, refusal}
+use Rattle.model.specs.Refusals.{Refusal, WrongSize, NoNumbers, Full, NoSuch, WrongPhase, NoRow, Taken, Stale, Marked, ManyReads, NoRoom, ManyRecords, ManyWrites, NoVersions, Conflict, Malformed, WrongShape, refusalNumber, Step, begin, capture, collect, rows, write, prepare, install, end, publish, validate, abort, placeOf, txnOf, byAnother, found, bucketsTaken, rowsClaimed, checks, refusal}
 use Rattle.model.specs.Shape.{within, goodSizes, distinctNumbers, rightShape}
 use Rattle.model.specs.Machine.{Answer, Done, Number, Stamp, Count, Rows, Judged, Refused, answerNumber, actor, gives, accepted, carried, step, stepIn, canOpen}
 use Rattle.model.specs.Given.{_and_, number, RightPhase, Outside, ByAnother, Shaped, Lives, bucketFor, RowTaken, stampFor, BucketTaken, Free, Ready, Seventeenth, RowsFree, RoomForRead, BucketsFree}
@@ -104,8 +104,7 @@ no-sixteen s begin = refl
 no-sixteen s (capture t k) = refl
 no-sixteen s (collect t) = refl
 no-sixteen s (rows t room) = refl
-no-sixteen s (put t r k payload) = refl
-no-sixteen s (erase t r) = refl
+no-sixteen s (write t r c) = refl
 no-sixteen s (prepare t) = refl
 no-sixteen s (install t) = refl
 no-sixteen s (end t) = refl

@@ -15,7 +15,7 @@ use Rattle.base_lists.specs.Table.{update, updateAll, update-same, update-other
 use Rattle.base_lists.proofs.ListLaws.{and-l, and-r, and-both, same-test, member-among, among-member, pick-which, which-pick, rising-above, pick-rising}
 use Rattle.model.specs.Store.{Sizes, Txn, Store, fresh, rank, phaseEnded, sameKey}
 use Rattle.model.specs.Steps.{postedRows, pendingRows, keyBefore, newKey, keyBuckets, repost, changedBuckets, published, madeRows}
-use Rattle.model.specs.Refusals.{Step, begin, capture, collect, rows, put, erase, prepare, install, end, publish, validate, abort, txnOf}
+use Rattle.model.specs.Refusals.{Step, begin, capture, collect, rows, write, prepare, install, end, publish, validate, abort, txnOf}
 use Rattle.model.specs.Machine.{at, accepted, step, run, canOpen}
 use Rattle.model.specs.Upstream.{Event, Postings, postingsOf, remove, insert, postingStep, postingReplay, liveRows, Coherent, stampAt, rawCandidates}
 use Rattle.model.specs.History.{eventOf, addEvents, stepEvents, historyOver, history, changing}
@@ -191,8 +191,7 @@ recorded-step s begin es g h = recorded-kept s (step s begin .store) es (index-k
 recorded-step s (capture t k) es g h = recorded-kept s (step s (capture t k) .store) es (index-kept s (capture t k) refl) (sizes-kept s (capture t k)) h
 recorded-step s (collect t) es g h = recorded-kept s (step s (collect t) .store) es (index-kept s (collect t) refl) (sizes-kept s (collect t)) h
 recorded-step s (rows t room) es g h = recorded-kept s (step s (rows t room) .store) es (index-kept s (rows t room) refl) (sizes-kept s (rows t room)) h
-recorded-step s (put t r k payload) es g h = recorded-kept s (step s (put t r k payload) .store) es (index-kept s (put t r k payload) refl) (sizes-kept s (put t r k payload)) h
-recorded-step s (erase t r) es g h = recorded-kept s (step s (erase t r) .store) es (index-kept s (erase t r) refl) (sizes-kept s (erase t r)) h
+recorded-step s (write t r c) es g h = recorded-kept s (step s (write t r c) .store) es (index-kept s (write t r c) refl) (sizes-kept s (write t r c)) h
 recorded-step s (prepare t) es g h = recorded-kept s (step s (prepare t) .store) es (index-kept s (prepare t) refl) (sizes-kept s (prepare t)) h
 recorded-step s (install t) es g h = recorded-kept s (step s (install t) .store) es (index-kept s (install t) refl) (sizes-kept s (install t)) h
 recorded-step s (end t) es g h = recorded-kept s (step s (end t) .store) es (index-kept s (end t) refl) (sizes-kept s (end t)) h

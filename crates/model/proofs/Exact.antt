@@ -11,7 +11,7 @@ use Rattle.base_limits.specs.Limits.{mostRows, mostLive, mostRecords, mostWrite
 use Rattle.base_lists.specs.Lists.{all-of}
 use Rattle.model.specs.Store.{Sizes, Store, phaseOpen, phaseHolding, phaseCollected, phasePrepared, phaseInstalled, phaseEnded}
 use Rattle.model.specs.Steps.{foundRows, recordsAfter, readBuckets, neededBuckets}
-use Rattle.model.specs.Refusals.{Refusal, Stale, WrongShape, NoSuch, WrongPhase, NoRow, Marked, ManyWrites, refusalNumber, Step, begin, capture, collect, rows, put, erase, prepare, install, end, publish, validate, abort, txnOf, liveCount, versionsAfter, found, writeChecks, checks, refusal}
+use Rattle.model.specs.Refusals.{Refusal, Stale, WrongShape, NoSuch, WrongPhase, NoRow, Marked, ManyWrites, refusalNumber, Step, begin, capture, collect, rows, write, prepare, install, end, publish, validate, abort, txnOf, liveCount, versionsAfter, found, writeChecks, checks, refusal}
 use Rattle.model.specs.Shape.{rightShape}
 use Rattle.model.specs.Machine.{Refused, actor, isStale, gives, carried, step, stepIn, canOpen}
 use Rattle.model.specs.Given.{number, Lives, RightPhase, bucketFor, verdictOf, openNumber, given, named, writing, Given, GivenOpen, StaleStamp}
@@ -50,8 +50,7 @@ given-exactly s (capture t k) n = rw (number-is s (capture t k)) (named-lines n 
 given-exactly s (collect t) n = rw (number-is s (collect t)) (named-lines n s (collect t) _ _ (in-phase s t phaseHolding) (λ l. no-line n))
 given-exactly s (rows t room) n = rw (number-is s (rows t room)) (named-lines n s (rows t room) _ _ (in-phase s t phaseCollected) (λ l.
     line n _ _ _ (less (min room mostRows) (length (foundRows s (txnOf s t)))) (λ f. line n _ _ _ (less mostRecords (length (recordsAfter s (txnOf s t)))) (λ o. no-line n))))
-given-exactly s (put t r k payload) n = rw (number-is s (put t r k payload)) (named-lines n s (put t r k payload) _ _ (in-phase s t phaseOpen) (λ l. write-lines n s t r))
-given-exactly s (erase t r) n = rw (number-is s (erase t r)) (named-lines n s (erase t r) _ _ (in-phase s t phaseOpen) (λ l. write-lines n s t r))
+given-exactly s (write t r c) n = rw (number-is s (write t r c)) (named-lines n s (write t r c) _ _ (in-phase s t phaseOpen) (λ l. write-lines n s t r))
 given-exactly s (prepare t) n = rw (number-is s (prepare t)) (named-lines n s (prepare t) _ _ (in-phase s t phaseOpen) (λ l.
     line n _ _ _ (either (bucket-taken s t (neededBuckets s (txnOf s t)) l) (row-taken s t l)) (λ f. line n _ _ _ (opposite (equal (verdictOf s t) 0)) (λ v. line n _ _ _ (less (s .sizes .versions) (versionsAfter s (txnOf s t))) (λ o. no-line n)))))
 given-exactly s (install t) n = rw (number-is s (install t)) (named-lines n s (install t) _ _ (in-phase s t phasePrepared) (λ l. no-line n))
@@ -84,8 +83,7 @@ only-stale-marks s begin = (never-marks s begin refl, λ w. absurd w)
 only-stale-marks s (capture t k) = capture-stale s t k
 only-stale-marks s (collect t) = (never-marks s (collect t) refl, λ w. absurd w)
 only-stale-marks s (rows t room) = (never-marks s (rows t room) refl, λ w. absurd w)
-only-stale-marks s (put t r k payload) = (never-marks s (put t r k payload) refl, λ w. absurd w)
-only-stale-marks s (erase t r) = (never-marks s (erase t r) refl, λ w. absurd w)
+only-stale-marks s (write t r c) = (never-marks s (write t r c) refl, λ w. absurd w)
 only-stale-marks s (prepare t) = (never-marks s (prepare t) refl, λ w. absurd w)
 only-stale-marks s (install t) = (never-marks s (install t) refl, λ w. absurd w)
 only-stale-marks s (end t) = (never-marks s (end t) refl, λ w. absurd w)

@@ -14,7 +14,7 @@ use Rattle.base_lists.proofs.ListLaws.{and-l, and-r, is-false, among-left, amon
 use Rattle.model.specs.Store.{Sizes, Open, Write, Txn, Store, rank, phaseOpen, bucketIn, sameKey, bucketOf}
 use Rattle.model.specs.Seeing.{pending, writtenKey, activeNumbers}
 use Rattle.model.specs.Steps.{withPhase, newTxn, hasRead, addRead, capturedTxn, writtenTxn, pendingRows, keyBefore, newKey, versionRows, madeRows, keyBuckets, neededBuckets, preparedHeld, repost, changedBuckets, publishedIndex, release, freed}
-use Rattle.model.specs.Refusals.{Step, begin, capture, collect, rows, put, erase, prepare, install, end, publish, validate, abort, txnOf}
+use Rattle.model.specs.Refusals.{Step, begin, capture, collect, rows, write, prepare, install, end, publish, validate, abort, txnOf}
 use Rattle.model.specs.Shape.{goodChains, rightShape}
 use Rattle.model.specs.Machine.{at, accepted, actor, step}
 use Rattle.model.specs.Holding.{Gets}
@@ -27,7 +27,7 @@ use Rattle.model.proofs.SeeingLaws.{same-key, key-same, key-bucket, rea
 use Rattle.model.proofs.Made.{gets-writes}
 use Rattle.model.proofs.Making.{last-write, makes-all, makes-none}
 use Rattle.model.proofs.Conditions.{lives-number, each-below}
-use Rattle.model.proofs.Refused.{capture-0, put-0, erase-0, prepare-0, validate-0, install-0, publish-0, abort-0}
+use Rattle.model.proofs.Refused.{capture-0, write-0, prepare-0, validate-0, install-0, publish-0, abort-0}
 use Rattle.model.proofs.Outcomes.{done-does}
 
 -- THE SNAPSHOT THAT BEGIN TAKES
@@ -216,7 +216,7 @@ adds s t k = (
   λ n. rw (is-false (hasRead (txnOf s t .reads) (bucketFor s k)) (λ h. let w = read-bucket (txnOf s t .reads) (bucketFor s k) h in n (w .0) (w .1) (w .2))),
 )
 
--- put, erase and validate leave the phase, which is Open
+-- a write and validate leave the phase, which is Open
 still-open : (s : Store) (a : Step) (x : Txn) → withPhase x Open ≡ askerAfter s a (txnOf s (actor a)) → rank (x .phase) ≡ phaseOpen → x ≡ askerAfter s a (txnOf s (actor a))
 still-open s a x same e = ap (withPhase x) (open-is (x .phase) e) ∙ same
 
@@ -266,24 +266,13 @@ leaves s (rows t room) e = rw (done-does s (rows t room) e) (record {
   read-added = tt;
   others-stay = others s (at s t) _;
 })
-leaves s (put t r k payload) e = rw (done-does s (put t r k payload) e) (record {
+leaves s (write t r c) e = rw (done-does s (write t r c) e) (record {
   sizes-stay = refl;
   clock-is = refl;
   versions-are = makes-none _ (s .chains);
-  index-is = quiet-index s (put t r k payload) (λ b w. w) refl;
-  held-is = quiet-held s (put t r k payload) nothing;
-  asker-is = asker s (at s t) _ ∙ still-open s (put t r k payload) (writtenTxn (txnOf s t) _) refl (put-0 s t r k payload .0 e .0 .2);
-  snapshot-taken = tt;
-  read-added = tt;
-  others-stay = others s (at s t) _;
-})
-leaves s (erase t r) e = rw (done-does s (erase t r) e) (record {
-  sizes-stay = refl;
-  clock-is = refl;
-  versions-are = makes-none _ (s .chains);
-  index-is = quiet-index s (erase t r) (λ b w. w) refl;
-  held-is = quiet-held s (erase t r) nothing;
-  asker-is = asker s (at s t) _ ∙ still-open s (erase t r) (writtenTxn (txnOf s t) _) refl (erase-0 s t r .0 e .0 .2);
+  index-is = quiet-index s (write t r c) (λ b w. w) refl;
+  held-is = quiet-held s (write t r c) nothing;
+  asker-is = asker s (at s t) _ ∙ still-open s (write t r c) (writtenTxn (txnOf s t) _) refl (write-0 s t r c .0 e .0 .2);
   snapshot-taken = tt;
   read-added = tt;
   others-stay = others s (at s t) _;

@@ -12,7 +12,7 @@ use Rattle.base_lists.specs.Lists.{Among}
 use Rattle.base_lists.specs.Table.{update, update-elim}
 use Rattle.model.specs.Store.{Sizes, Phase, Open, Holding, Collected, Prepared, Installed, Ended, Txn, Store, fresh, rank, phaseOpen}
 use Rattle.model.specs.Verdict.{Mark, verdict, verdictNumber}
-use Rattle.model.specs.Refusals.{Step, begin, capture, collect, rows, put, erase, prepare, install, end, publish, validate, abort, placeOf, txnOf}
+use Rattle.model.specs.Refusals.{Step, begin, capture, collect, rows, write, prepare, install, end, publish, validate, abort, placeOf, txnOf}
 use Rattle.model.specs.Machine.{Judged, at, actor, accepted, step, run, canOpen}
 use Rattle.model.specs.Given.{number, Shaped, Lives, Names, RightPhase, StaleStamp}
 use Rattle.model.specs.Demands.{MarkedOpen, MarkedGives, NoMoreWork}
@@ -20,7 +20,7 @@ use Rattle.model.proofs.Move.{Move, stay, did-begin, did-mark, did-capt
 use Rattle.model.proofs.Good.{Good, good-move, right-shape, opened-good}
 use Rattle.model.proofs.Cleared.{clear-number, cleared}
 use Rattle.model.proofs.Conditions.{lives-test, lives-number, the-one}
-use Rattle.model.proofs.Refused.{every-4, every-5, capture-8, put-8, erase-8, abort-0}
+use Rattle.model.proofs.Refused.{every-4, every-5, capture-8, write-8, abort-0}
 use Rattle.model.proofs.Outcomes.{done-does, answers, free-place}
 use Rattle.model.proofs.Exact.{given-exactly}
 use Rattle.model.proofs.Leaving.{leaves}
@@ -100,8 +100,7 @@ module _ (s : Store) (t : ℕ) (g : Shaped s) (o : MarkedOpen s) (l : Lives s t)
   gives (capture u k) named e = rw e (capture-8 s t k .1 ((g, l, is-open), inl m))
   gives (collect u) named e = five (collect u) named e (not-rank u 2 e (omega arith))
   gives (rows u room) named e = five (rows u room) named e (not-rank u 3 e (omega arith))
-  gives (put u r k payload) named e = rw e (put-8 s t r k payload .1 ((g, l, is-open), m))
-  gives (erase u r) named e = rw e (erase-8 s t r .1 ((g, l, is-open), m))
+  gives (write u r c) named e = rw e (write-8 s t r c .1 ((g, l, is-open), m))
   gives (prepare u) named e = rw e prepare-gives
   gives (install u) named e = five (install u) named e (not-rank u 4 e (omega arith))
   gives (end u) named e = five (end u) named e (not-rank u 5 e (omega arith))
@@ -127,8 +126,7 @@ module _ (s : Store) (t : ℕ) (g : Shaped s) (o : MarkedOpen s) (l : Lives s t)
   at-place (capture u k) d z p = absurd (omega (arith, z, gives (capture u k) tt (asks (capture u k) tt z p)))
   at-place (collect u) d z p = absurd (omega (arith, z, gives (collect u) tt (asks (collect u) tt z p)))
   at-place (rows u room) d z p = absurd (omega (arith, z, gives (rows u room) tt (asks (rows u room) tt z p)))
-  at-place (put u r k payload) d z p = absurd (omega (arith, z, gives (put u r k payload) tt (asks (put u r k payload) tt z p)))
-  at-place (erase u r) d z p = absurd (omega (arith, z, gives (erase u r) tt (asks (erase u r) tt z p)))
+  at-place (write u r c) d z p = absurd (omega (arith, z, gives (write u r c) tt (asks (write u r c) tt z p)))
   at-place (prepare u) d z p = absurd (⊎-elim (λ w. omega (arith, z, w .1)) (λ w. omega (arith, z, w .1)) (gives (prepare u) tt (asks (prepare u) tt z p)))
   at-place (install u) d z p = absurd (omega (arith, z, gives (install u) tt (asks (install u) tt z p)))
   at-place (end u) d z p = absurd (omega (arith, z, gives (end u) tt (asks (end u) tt z p)))

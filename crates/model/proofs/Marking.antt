@@ -9,7 +9,7 @@ use native.Mathlib.Decide.{ℕ-discrete}
 use Rattle.base_lists.specs.Table.{update-same, update-other}
 use Rattle.model.specs.Store.{Txn, Store}
 use Rattle.model.specs.Seeing.{Live}
-use Rattle.model.specs.Refusals.{Refusal, Step, begin, capture, collect, rows, put, erase, prepare, install, end, publish, validate, abort, txnOf}
+use Rattle.model.specs.Refusals.{Refusal, Step, begin, capture, collect, rows, write, prepare, install, end, publish, validate, abort, txnOf}
 use Rattle.model.specs.Machine.{Answer, Done, Number, Stamp, Count, Rows, Judged, Refused, answerNumber, lentAfter, at, actor, step}
 use Rattle.model.specs.Given.{number, StaleStamp}
 use Rattle.model.specs.Leaves.{part, MarksOnly}
@@ -50,8 +50,7 @@ stale-or-not s (capture t k) = elim (ℕ-discrete (number s (capture t k)) 8) [
 ]
 stale-or-not s (collect t) = inr (λ w. w)
 stale-or-not s (rows t room) = inr (λ w. w)
-stale-or-not s (put t r k payload) = inr (λ w. w)
-stale-or-not s (erase t r) = inr (λ w. w)
+stale-or-not s (write t r c) = inr (λ w. w)
 stale-or-not s (prepare t) = inr (λ w. w)
 stale-or-not s (install t) = inr (λ w. w)
 stale-or-not s (end t) = inr (λ w. w)
@@ -85,8 +84,7 @@ kept-part s begin x z f l n = absurd (omega (arith, f refl))
 kept-part s (capture t k) x z f l n = refl
 kept-part s (collect t) x z f l n = refl
 kept-part s (rows t room) x z f l n = refl
-kept-part s (put t r k payload) x z f l n = refl
-kept-part s (erase t r) x z f l n = refl
+kept-part s (write t r c) x z f l n = refl
 kept-part s (prepare t) x z f l n = refl
 kept-part s (install t) x z f l n = refl
 kept-part s (end t) x z f l n = refl

@@ -17,7 +17,7 @@ use Rattle.model.specs.Store.{Ended, Write, Txn, Store, rank, phaseOpen,
 use Rattle.model.specs.Seeing.{live, Live}
 use Rattle.model.specs.Verdict.{verdictNumber, verdict}
 use Rattle.model.specs.Steps.{becomes, begun, stale, hasRead, captured, collected, recordsAfter, readDone, written, pendingRows, neededBuckets, prepared, installed, ended, published}
-use Rattle.model.specs.Refusals.{Refusal, Step, begin, capture, collect, rows, put, erase, prepare, install, end, publish, validate, abort, placeOf, txnOf, liveCount, byAnother, versionsAfter, writeChecks, found, inPhase, checks, refusal}
+use Rattle.model.specs.Refusals.{Refusal, Step, begin, capture, collect, rows, write, prepare, install, end, publish, validate, abort, placeOf, txnOf, liveCount, byAnother, versionsAfter, writeChecks, found, inPhase, checks, refusal}
 use Rattle.model.specs.Shape.{rightShape}
 use Rattle.model.specs.Machine.{at, accepted, actor, isStale, afterRefusal, carried, stepIn, step, run}
 
@@ -168,7 +168,6 @@ rows-move s t room = plain-move s (rows t room) refl λ e.
     let b = passes _ _ _ (a .1) in
     did-rows (at s t) (f .alive) (eqb-true _ _ (f .phase-is)) (ltb-false _ _ (b .0))
 
--- put and erase have the same tests
 write-move : (s : Store) (t : ℕ) (w : Write) → refusal (found s t (inPhase s t phaseOpen) (writeChecks s (txnOf s t) (w .row))) ≡ none → Move s (at s t) (written s (at s t) w)
 write-move s t w e =
     let f = finds s t _ _ e in
@@ -183,8 +182,7 @@ in-move s begin = begin-move s
 in-move s (capture t k) = capture-move s t k
 in-move s (collect t) = plain-move s (collect t) refl λ e. let f = finds s t _ _ e in did-collect (at s t) (f .alive) (eqb-true _ _ (f .phase-is))
 in-move s (rows t room) = rows-move s t room
-in-move s (put t r k payload) = plain-move s (put t r k payload) refl λ e. write-move s t _ e
-in-move s (erase t r) = plain-move s (erase t r) refl λ e. write-move s t _ e
+in-move s (write t r c) = plain-move s (write t r c) refl λ e. write-move s t _ e
 in-move s (prepare t) = prepare-move s t
 in-move s (install t) = plain-move s (install t) refl λ e. let f = finds s t _ _ e in did-install (at s t) (f .alive) (eqb-true _ _ (f .phase-is))
 in-move s (end t) = plain-move s (end t) refl λ e. let f = finds s t _ _ e in did-end (at s t) (f .alive) (eqb-true _ _ (f .phase-is))

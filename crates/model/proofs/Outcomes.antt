@@ -14,7 +14,7 @@ use Rattle.base_lists.specs.Table.{cond-elim}
 use Rattle.base_lists.proofs.ListLaws.{first-free}
 use Rattle.model.specs.Store.{Store, phaseOpen}
 use Rattle.model.specs.Steps.{stale}
-use Rattle.model.specs.Refusals.{Refusal, WrongSize, NoNumbers, Full, NoSuch, WrongPhase, NoRow, Taken, Stale, Marked, ManyReads, NoRoom, ManyRecords, ManyWrites, NoVersions, Conflict, Malformed, WrongShape, Step, begin, capture, collect, rows, put, erase, prepare, install, end, publish, validate, abort, txnOf, checks, refusal, liveCount, placeOf}
+use Rattle.model.specs.Refusals.{Refusal, WrongSize, NoNumbers, Full, NoSuch, WrongPhase, NoRow, Taken, Stale, Marked, ManyReads, NoRoom, ManyRecords, ManyWrites, NoVersions, Conflict, Malformed, WrongShape, Step, begin, capture, collect, rows, write, prepare, install, end, publish, validate, abort, txnOf, checks, refusal, liveCount, placeOf}
 use Rattle.model.specs.Shape.{rightShape}
 use Rattle.model.specs.Machine.{Rows, Refused, answerNumber, lentAfter, at, actor, isStale, gives, accepted, afterRefusal, carried, step, stepIn}
 use Rattle.model.specs.Given.{_and_, number, Ready, Free, bucketFor, stampFor, documented}
@@ -114,8 +114,7 @@ answers s begin e = ap (λ w. w .answer) (done-does s begin e)
 answers s (capture t k) e = ap (λ w. w .answer) (done-does s (capture t k) e)
 answers s (collect t) e = ap (λ w. w .answer) (done-does s (collect t) e)
 answers s (rows t room) e = ap (λ w. w .answer) (done-does s (rows t room) e)
-answers s (put t r k payload) e = ap (λ w. w .answer) (done-does s (put t r k payload) e)
-answers s (erase t r) e = ap (λ w. w .answer) (done-does s (erase t r) e)
+answers s (write t r c) e = ap (λ w. w .answer) (done-does s (write t r c) e)
 answers s (prepare t) e = ap (λ w. w .answer) (done-does s (prepare t) e)
 answers s (install t) e = ap (λ w. w .answer) (done-does s (install t) e)
 answers s (end t) e = ap (λ w. w .answer) (done-does s (end t) e)

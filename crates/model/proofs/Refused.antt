@@ -10,7 +10,8 @@ use Rattle.base_limits.specs.Limits.{mostRows, mostVersions, mostBuckets, mostL
 use Rattle.base_lists.specs.Lists.{all-of, Among}
 use Rattle.model.specs.Store.{Sizes, Store, phaseOpen, phaseHolding, phaseCollected, phasePrepared, phaseInstalled, phaseEnded}
 use Rattle.model.specs.Steps.{foundRows, recordsAfter, readBuckets, neededBuckets}
-use Rattle.model.specs.Refusals.{Step, begin, capture, collect, rows, put, erase, prepare, install, end, publish, validate, abort, txnOf, liveCount, versionsAfter, checks}
+use Rattle.model.specs.Contents.{Content}
+use Rattle.model.specs.Refusals.{Step, begin, capture, collect, rows, write, prepare, install, end, publish, validate, abort, txnOf, liveCount, versionsAfter, checks}
 use Rattle.model.specs.Shape.{rightShape}
 use Rattle.model.specs.Machine.{actor, canOpen}
 use Rattle.model.specs.Given.{_and_, number, Shaped, Lives, Names, RightPhase, Ready, ByAnother, Free, BucketTaken, BucketsFree, RowTaken, RowsFree, bucketFor, stampFor, Seventeenth, RoomForRead, verdictOf, Outside, openNumber}
@@ -23,8 +24,7 @@ inOrder begin = 16 ∷ 3 ∷ 2 ∷ 0 ∷ []
 inOrder (capture t k) = 16 ∷ 4 ∷ 5 ∷ 8 ∷ 7 ∷ 8 ∷ 9 ∷ 0 ∷ []
 inOrder (collect t) = 16 ∷ 4 ∷ 5 ∷ 0 ∷ []
 inOrder (rows t room) = 16 ∷ 4 ∷ 5 ∷ 10 ∷ 11 ∷ 0 ∷ []
-inOrder (put t r k payload) = 16 ∷ 4 ∷ 5 ∷ 8 ∷ 6 ∷ 12 ∷ 0 ∷ []
-inOrder (erase t r) = 16 ∷ 4 ∷ 5 ∷ 8 ∷ 6 ∷ 12 ∷ 0 ∷ []
+inOrder (write t r c) = 16 ∷ 4 ∷ 5 ∷ 8 ∷ 6 ∷ 12 ∷ 0 ∷ []
 inOrder (prepare t) = 16 ∷ 4 ∷ 5 ∷ 7 ∷ 14 ∷ 13 ∷ 0 ∷ []
 inOrder (install t) = 16 ∷ 4 ∷ 5 ∷ 0 ∷ []
 inOrder (end t) = 16 ∷ 4 ∷ 5 ∷ 0 ∷ []
@@ -38,8 +38,7 @@ gives-only s begin = rw (number-is s begin) (given-among (all-tests s begin))
 gives-only s (capture t k) = rw (number-is s (capture t k)) (given-among (all-tests s (capture t k)))
 gives-only s (collect t) = rw (number-is s (collect t)) (given-among (all-tests s (collect t)))
 gives-only s (rows t room) = rw (number-is s (rows t room)) (given-among (all-tests s (rows t room)))
-gives-only s (put t r k payload) = rw (number-is s (put t r k payload)) (given-among (all-tests s (put t r k payload)))
-gives-only s (erase t r) = rw (number-is s (erase t r)) (given-among (all-tests s (erase t r)))
+gives-only s (write t r c) = rw (number-is s (write t r c)) (given-among (all-tests s (write t r c)))
 gives-only s (prepare t) = rw (number-is s (prepare t)) (given-among (all-tests s (prepare t)))
 gives-only s (install t) = rw (number-is s (install t)) (given-among (all-tests s (install t)))
 gives-only s (end t) = rw (number-is s (end t)) (given-among (all-tests s (end t)))
@@ -58,8 +57,7 @@ every-4 s begin no-name = absurd no-name
 every-4 s (capture t k) named = rw (number-is s (capture t k)) (unknown s (capture t k) _ _ (in-phase s t phaseOpen) refl)
 every-4 s (collect t) named = rw (number-is s (collect t)) (unknown s (collect t) _ _ (in-phase s t phaseHolding) refl)
 every-4 s (rows t room) named = rw (number-is s (rows t room)) (unknown s (rows t room) _ _ (in-phase s t phaseCollected) refl)
-every-4 s (put t r k payload) named = rw (number-is s (put t r k payload)) (unknown s (put t r k payload) _ _ (in-phase s t phaseOpen) refl)
-every-4 s (erase t r) named = rw (number-is s (erase t r)) (unknown s (erase t r) _ _ (in-phase s t phaseOpen) refl)
+every-4 s (write t r c) named = rw (number-is s (write t r c)) (unknown s (write t r c) _ _ (in-phase s t phaseOpen) refl)
 every-4 s (prepare t) named = rw (number-is s (prepare t)) (unknown s (prepare t) _ _ (in-phase s t phaseOpen) refl)
 every-4 s (install t) named = rw (number-is s (install t)) (unknown s (install t) _ _ (in-phase s t phasePrepared) refl)
 every-4 s (end t) named = rw (number-is s (end t)) (unknown s (end t) _ _ (in-phase s t phaseInstalled) refl)
@@ -74,8 +72,7 @@ every-5 s begin no-name = absurd no-name
 every-5 s (capture t k) named = rw (number-is s (capture t k)) (wrong-phase s (capture t k) _ _ (in-phase s t phaseOpen) refl)
 every-5 s (collect t) named = rw (number-is s (collect t)) (wrong-phase s (collect t) _ _ (in-phase s t phaseHolding) refl)
 every-5 s (rows t room) named = rw (number-is s (rows t room)) (wrong-phase s (rows t room) _ _ (in-phase s t phaseCollected) refl)
-every-5 s (put t r k payload) named = rw (number-is s (put t r k payload)) (wrong-phase s (put t r k payload) _ _ (in-phase s t phaseOpen) refl)
-every-5 s (erase t r) named = rw (number-is s (erase t r)) (wrong-phase s (erase t r) _ _ (in-phase s t phaseOpen) refl)
+every-5 s (write t r c) named = rw (number-is s (write t r c)) (wrong-phase s (write t r c) _ _ (in-phase s t phaseOpen) refl)
 every-5 s (prepare t) named = rw (number-is s (prepare t)) (wrong-phase s (prepare t) _ _ (in-phase s t phaseOpen) refl)
 every-5 s (install t) named = rw (number-is s (install t)) (wrong-phase s (install t) _ _ (in-phase s t phasePrepared) refl)
 every-5 s (end t) named = rw (number-is s (end t)) (wrong-phase s (end t) _ _ (in-phase s t phaseInstalled) refl)
@@ -126,38 +123,22 @@ pub rows-0 : (s : Store) (t room : ℕ) → number s (rows t room) ≡ 0 ↔ Rea
 unfolding checks all-of
 rows-0 s t room = rw (number-is s (rows t room)) (past 0 s (rows t room) _ _ (omega arith) (in-phase s t phaseCollected) (λ l. skip 0 _ _ _ (less (min room mostRows) (length (foundRows s (txnOf s t)))) (omega arith) (λ f. pass _ _ (less mostRecords (length (recordsAfter s (txnOf s t)))) (omega arith))))
 
--- put, erase: 8 by the mark, then 6 where the row is not below the row count, then 12 for a 17th pending write
-pub put-8 : (s : Store) (t r k payload : ℕ) → number s (put t r k payload) ≡ 8 ↔ Ready s (put t r k payload) and (txnOf s t .marked ≡ true)
+-- a write: 8 by the mark, then 6 where the row is not below the row count, then 12 for a 17th pending write
+pub write-8 : (s : Store) (t r : ℕ) (c : Content) → number s (write t r c) ≡ 8 ↔ Ready s (write t r c) and (txnOf s t .marked ≡ true)
 unfolding checks all-of
-put-8 s t r k payload = rw (number-is s (put t r k payload)) (past 8 s (put t r k payload) _ _ (omega arith) (in-phase s t phaseOpen) (λ l. stop 8 _ _ _ (itself (txnOf s t .marked)) (omega arith) refl))
+write-8 s t r c = rw (number-is s (write t r c)) (past 8 s (write t r c) _ _ (omega arith) (in-phase s t phaseOpen) (λ l. stop 8 _ _ _ (itself (txnOf s t .marked)) (omega arith) refl))
 
-pub put-6 : (s : Store) (t r k payload : ℕ) → number s (put t r k payload) ≡ 6 ↔ Ready s (put t r k payload) and (txnOf s t .marked ≡ false) and (s .sizes .rows ≤ r)
+pub write-6 : (s : Store) (t r : ℕ) (c : Content) → number s (write t r c) ≡ 6 ↔ Ready s (write t r c) and (txnOf s t .marked ≡ false) and (s .sizes .rows ≤ r)
 unfolding checks all-of
-put-6 s t r k payload = rw (number-is s (put t r k payload)) (past 6 s (put t r k payload) _ _ (omega arith) (in-phase s t phaseOpen) (λ l. skip 6 _ _ _ (itself (txnOf s t .marked)) (omega arith) (λ m. stop 6 _ _ _ (opposite (less r (s .sizes .rows))) (omega arith) refl)))
+write-6 s t r c = rw (number-is s (write t r c)) (past 6 s (write t r c) _ _ (omega arith) (in-phase s t phaseOpen) (λ l. skip 6 _ _ _ (itself (txnOf s t .marked)) (omega arith) (λ m. stop 6 _ _ _ (opposite (less r (s .sizes .rows))) (omega arith) refl)))
 
-pub put-12 : (s : Store) (t r k payload : ℕ) → number s (put t r k payload) ≡ 12 ↔ Ready s (put t r k payload) and (txnOf s t .marked ≡ false) and (r < s .sizes .rows) and (mostWrites ≤ length (txnOf s t .writes))
+pub write-12 : (s : Store) (t r : ℕ) (c : Content) → number s (write t r c) ≡ 12 ↔ Ready s (write t r c) and (txnOf s t .marked ≡ false) and (r < s .sizes .rows) and (mostWrites ≤ length (txnOf s t .writes))
 unfolding checks all-of
-put-12 s t r k payload = rw (number-is s (put t r k payload)) (past 12 s (put t r k payload) _ _ (omega arith) (in-phase s t phaseOpen) (λ l. skip 12 _ _ _ (itself (txnOf s t .marked)) (omega arith) (λ m. skip 12 _ _ _ (opposite (less r (s .sizes .rows))) (omega arith) (λ i. stop 12 _ _ _ (at-most mostWrites (length (txnOf s t .writes))) (omega arith) refl))))
+write-12 s t r c = rw (number-is s (write t r c)) (past 12 s (write t r c) _ _ (omega arith) (in-phase s t phaseOpen) (λ l. skip 12 _ _ _ (itself (txnOf s t .marked)) (omega arith) (λ m. skip 12 _ _ _ (opposite (less r (s .sizes .rows))) (omega arith) (λ i. stop 12 _ _ _ (at-most mostWrites (length (txnOf s t .writes))) (omega arith) refl))))
 
-pub put-0 : (s : Store) (t r k payload : ℕ) → number s (put t r k payload) ≡ 0 ↔ Ready s (put t r k payload) and (txnOf s t .marked ≡ false) and (r < s .sizes .rows) and (length (txnOf s t .writes) < mostWrites)
+pub write-0 : (s : Store) (t r : ℕ) (c : Content) → number s (write t r c) ≡ 0 ↔ Ready s (write t r c) and (txnOf s t .marked ≡ false) and (r < s .sizes .rows) and (length (txnOf s t .writes) < mostWrites)
 unfolding checks all-of
-put-0 s t r k payload = rw (number-is s (put t r k payload)) (past 0 s (put t r k payload) _ _ (omega arith) (in-phase s t phaseOpen) (λ l. skip 0 _ _ _ (itself (txnOf s t .marked)) (omega arith) (λ m. skip 0 _ _ _ (opposite (less r (s .sizes .rows))) (omega arith) (λ i. pass _ _ (at-most mostWrites (length (txnOf s t .writes))) (omega arith)))))
-
-pub erase-8 : (s : Store) (t r : ℕ) → number s (erase t r) ≡ 8 ↔ Ready s (erase t r) and (txnOf s t .marked ≡ true)
-unfolding checks all-of
-erase-8 s t r = rw (number-is s (erase t r)) (past 8 s (erase t r) _ _ (omega arith) (in-phase s t phaseOpen) (λ l. stop 8 _ _ _ (itself (txnOf s t .marked)) (omega arith) refl))
-
-pub erase-6 : (s : Store) (t r : ℕ) → number s (erase t r) ≡ 6 ↔ Ready s (erase t r) and (txnOf s t .marked ≡ false) and (s .sizes .rows ≤ r)
-unfolding checks all-of
-erase-6 s t r = rw (number-is s (erase t r)) (past 6 s (erase t r) _ _ (omega arith) (in-phase s t phaseOpen) (λ l. skip 6 _ _ _ (itself (txnOf s t .marked)) (omega arith) (λ m. stop 6 _ _ _ (opposite (less r (s .sizes .rows))) (omega arith) refl)))
-
-pub erase-12 : (s : Store) (t r : ℕ) → number s (erase t r) ≡ 12 ↔ Ready s (erase t r) and (txnOf s t .marked ≡ false) and (r < s .sizes .rows) and (mostWrites ≤ length (txnOf s t .writes))
-unfolding checks all-of
-erase-12 s t r = rw (number-is s (erase t r)) (past 12 s (erase t r) _ _ (omega arith) (in-phase s t phaseOpen) (λ l. skip 12 _ _ _ (itself (txnOf s t .marked)) (omega arith) (λ m. skip 12 _ _ _ (opposite (less r (s .sizes .rows))) (omega arith) (λ i. stop 12 _ _ _ (at-most mostWrites (length (txnOf s t .writes))) (omega arith) refl))))
-
-pub erase-0 : (s : Store) (t r : ℕ) → number s (erase t r) ≡ 0 ↔ Ready s (erase t r) and (txnOf s t .marked ≡ false) and (r < s .sizes .rows) and (length (txnOf s t .writes) < mostWrites)
-unfolding checks all-of
-erase-0 s t r = rw (number-is s (erase t r)) (past 0 s (erase t r) _ _ (omega arith) (in-phase s t phaseOpen) (λ l. skip 0 _ _ _ (itself (txnOf s t .marked)) (omega arith) (λ m. skip 0 _ _ _ (opposite (less r (s .sizes .rows))) (omega arith) (λ i. pass _ _ (at-most mostWrites (length (txnOf s t .writes))) (omega arith)))))
+write-0 s t r c = rw (number-is s (write t r c)) (past 0 s (write t r c) _ _ (omega arith) (in-phase s t phaseOpen) (λ l. skip 0 _ _ _ (itself (txnOf s t .marked)) (omega arith) (λ m. skip 0 _ _ _ (opposite (less r (s .sizes .rows))) (omega arith) (λ i. pass _ _ (at-most mostWrites (length (txnOf s t .writes))) (omega arith)))))
 
 -- prepare: 7 where a needed bucket or a pending row is another's, 14 where the verdict is not 0, 13 where versions run out
 pub prepare-7 : (s : Store) (t : ℕ) → number s (prepare t) ≡ 7 ↔ Ready s (prepare t) and (BucketTaken s t (neededBuckets s (txnOf s t)) ⊎ RowTaken s t)

@@ -15,7 +15,7 @@ use Rattle.base_lists.proofs.ListLaws.{rising-above, pick-rising, member-among,
 use Rattle.model.specs.Store.{Sizes, Chains, Installed, Txn, Store, noTxn, fresh, rank, phasePrepared, phaseInstalled, phaseEnded}
 use Rattle.model.specs.Steps.{withPhase, newKey, installed, published, versionRows, madeRows}
 use Rattle.model.specs.Upstream.{Event}
-use Rattle.model.specs.Refusals.{Step, begin, capture, collect, rows, put, erase, prepare, install, end, publish, validate, abort, txnOf}
+use Rattle.model.specs.Refusals.{Step, begin, capture, collect, rows, write, prepare, install, end, publish, validate, abort, txnOf}
 use Rattle.model.specs.Machine.{at, actor, accepted, step, run, canOpen}
 use Rattle.model.specs.History.{eventOf, addEvents, stepEvents, historyOver, history}
 use Rattle.model.specs.Seeing.{Live}
@@ -29,7 +29,7 @@ use Rattle.model.proofs.Grown.{Grown}
 use Rattle.model.proofs.Written.{Mine, installs, made-new, made-old, made-still}
 use Rattle.model.proofs.Good.{Good, good-run, opened-good}
 use Rattle.model.proofs.Conditions.{lives-number}
-use Rattle.model.proofs.Refused.{capture-0, collect-0, rows-0, put-0, erase-0, prepare-0, install-0, end-0, publish-0, abort-0}
+use Rattle.model.proofs.Refused.{capture-0, collect-0, rows-0, write-0, prepare-0, install-0, end-0, publish-0, abort-0}
 use Rattle.model.proofs.Outcomes.{refused-store, done-does, free-place}
 use Rattle.model.proofs.Snapshots.{Traced, start, own, other, RowTraced, whole, waiting, TracedAt}
 
@@ -169,8 +169,7 @@ module _ (s : Store) (es : List Event) (g : Good s) (h : TracedAt s es) where
   traced-step (capture t k) = no-event s (capture t k) es h (λ z. early (at s t) _ (λ l. omega (arith, capture-0 s t k .0 z .0 .2)) (omega arith))
   traced-step (collect t) = no-event s (collect t) es h (λ z. early (at s t) _ (λ l. omega (arith, collect-0 s t .0 z .2)) (omega arith))
   traced-step (rows t room) = no-event s (rows t room) es h (λ z. early (at s t) _ (λ l. omega (arith, rows-0 s t room .0 z .0 .2)) (omega arith))
-  traced-step (put t r k payload) = no-event s (put t r k payload) es h (λ z. early (at s t) _ (λ l. omega (arith, put-0 s t r k payload .0 z .0 .2)) (omega (arith, put-0 s t r k payload .0 z .0 .2)))
-  traced-step (erase t r) = no-event s (erase t r) es h (λ z. early (at s t) _ (λ l. omega (arith, erase-0 s t r .0 z .0 .2)) (omega (arith, erase-0 s t r .0 z .0 .2)))
+  traced-step (write t r c) = no-event s (write t r c) es h (λ z. early (at s t) _ (λ l. omega (arith, write-0 s t r c .0 z .0 .2)) (omega (arith, write-0 s t r c .0 z .0 .2)))
   traced-step (prepare t) = no-event s (prepare t) es h (λ z. early (at s t) _ (λ l. omega (arith, prepare-0 s t .0 z .0 .2)) (omega arith))
   traced-step (install t) = no-event s (install t) es h (λ z. let w = install-0 s t .0 z in traced-install s es g h (at s t) (ready-live s (install t) w) (w .2))
   traced-step (end t) = no-event s (end t) es h (λ z r. row-on (s .sizes) (s .chains) (s .txns) es r (at s t) _ refl refl (λ v. omega (arith, end-0 s t .0 z .2)) (λ v. omega arith) (h r))

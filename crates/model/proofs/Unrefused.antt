@@ -11,7 +11,7 @@ use Rattle.base_limits.specs.Limits.{lastNumber}
 use Rattle.base_lists.specs.Lists.{all-of}
 use Rattle.base_lists.proofs.ListLaws.{and-l, and-r}
 use Rattle.model.specs.Store.{Sizes, Store, fresh}
-use Rattle.model.specs.Refusals.{Step, begin, capture, collect, rows, put, erase, prepare, install, end, publish, validate, abort, Refusal, WrongShape, refusalNumber, liveCount, checks, refusal}
+use Rattle.model.specs.Refusals.{Step, begin, capture, collect, rows, write, prepare, install, end, publish, validate, abort, Refusal, WrongShape, refusalNumber, liveCount, checks, refusal}
 use Rattle.model.specs.Shape.{goodSizes, rightShape}
 use Rattle.model.specs.Machine.{Answer, Done, Number, Stamp, Count, Rows, Judged, Refused, gives, accepted, carried, step, stepIn, run}
 use Rattle.model.proofs.Good.{Good, good-fresh, good-run, step-in}
@@ -77,8 +77,7 @@ tests-below s begin = refl
 tests-below s (capture t k) = refl
 tests-below s (collect t) = refl
 tests-below s (rows t room) = refl
-tests-below s (put t r k payload) = refl
-tests-below s (erase t r) = refl
+tests-below s (write t r c) = refl
 tests-below s (prepare t) = refl
 tests-below s (install t) = refl
 tests-below s (end t) = refl
@@ -92,8 +91,7 @@ accepted-answers s begin = refl
 accepted-answers s (capture t k) = refl
 accepted-answers s (collect t) = refl
 accepted-answers s (rows t room) = refl
-accepted-answers s (put t r k payload) = refl
-accepted-answers s (erase t r) = refl
+accepted-answers s (write t r c) = refl
 accepted-answers s (prepare t) = refl
 accepted-answers s (install t) = refl
 accepted-answers s (end t) = refl

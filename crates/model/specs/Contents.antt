@@ -2,7 +2,7 @@
 use Prim.Native.Nat.{ℕ}
 use mathlib.Core.Bool.{cond}
 use mathlib.Core.Option.{Option, none, some}
-use Rattle.model.specs.Store.{Chains, Snapshot, Txn, Store}
+use Rattle.model.specs.Store.{Chains, Snapshot, Write, Txn, Store}
 use Rattle.model.specs.Seeing.{versionOf, keyAt, lastWrite, pending, snapshotNow}
 use Rattle.model.specs.Steps.{newKey, writtenPayload}
 
@@ -14,6 +14,19 @@ Content = Option (ℕ × ℕ)
 abbrev pub content : Option ℕ → ℕ → Content
 content none payload = none
 content (some k) payload = some (k, payload)
+
+-- the key that is held, and the payload; where nothing is, none and 0
+abbrev pub keyHeld : Content → Option ℕ
+keyHeld none = none
+keyHeld (some held) = some (held .0)
+
+abbrev pub payloadHeld : Content → ℕ
+payloadHeld none = 0
+payloadHeld (some held) = held .1
+
+-- a pending write of a row: of a key with its payload, or of nothing
+abbrev pub pendingWrite : ℕ → Content → Write
+pendingWrite r c = record { row = r; key = keyHeld c; payload = payloadHeld c }
 
 -- what a snapshot shows of a row
 unfoldable pub contentOf : Chains → Snapshot → ℕ → Content

@@ -12,7 +12,7 @@ use Rattle.model.specs.Verdict.{Mark}
 use Rattle.model.specs.Seeing.{Live, seen, visible, firstVisible, versionOf, keyAt, pending, matches, recordOf, shows, snapshotNow}
 use Rattle.model.specs.Steps.{hasRead, postedRows, versionRows, madeRows, oldKey, keyBefore, readBuckets, neededBuckets}
 use Rattle.model.specs.Upstream.{creatorVisible, rowVisible, firstRow, pointer, matchesRow, Event, postingsOf, postingReplay, liveRows, snapshotRows, Coherent, stampAt, rawCandidates}
-use Rattle.model.specs.Refusals.{Step, begin, capture, collect, rows, put, erase, prepare, install, end, publish, validate, abort, Refusal, WrongShape, txnOf}
+use Rattle.model.specs.Refusals.{Step, begin, capture, collect, rows, write, prepare, install, end, publish, validate, abort, Refusal, WrongShape, txnOf}
 use Rattle.model.specs.Shape.{rightShape}
 use Rattle.model.specs.Machine.{Judged, Refused, lentAfter, at, actor, accepted, step, stepIn, run}
 use Rattle.model.specs.History.{changing}
@@ -96,8 +96,7 @@ MarkedGives s begin n = ⊥
 MarkedGives s (capture t k) n = n ≡ 8
 MarkedGives s (collect t) n = n ≡ 5
 MarkedGives s (rows t room) n = n ≡ 5
-MarkedGives s (put t r k payload) n = n ≡ 8
-MarkedGives s (erase t r) n = n ≡ 8
+MarkedGives s (write t r c) n = n ≡ 8
 MarkedGives s (prepare t) n = given 7 (BucketTaken s t (neededBuckets s (txnOf s t)) ⊎ RowTaken s t) n (n ≡ 14)
 MarkedGives s (install t) n = n ≡ 5
 MarkedGives s (end t) n = n ≡ 5

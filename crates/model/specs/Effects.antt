@@ -8,7 +8,7 @@ use lib.ListN.{length}
 use Rattle.base_lists.specs.Lists.{Among}
 use Rattle.model.specs.Store.{Sizes, Chains, Write, Txn, Store, bucketIn, bucketOf}
 use Rattle.model.specs.Steps.{pendingRows, versionRows, madeRows, neededBuckets, keyBefore, newKey}
-use Rattle.model.specs.Refusals.{Step, begin, capture, collect, rows, put, erase, prepare, install, end, publish, validate, abort, txnOf}
+use Rattle.model.specs.Refusals.{Step, begin, capture, collect, rows, write, prepare, install, end, publish, validate, abort, txnOf}
 use Rattle.model.specs.Given.{bucketFor}
 
 -- the clock: up by 1 at begin and publish
@@ -17,8 +17,7 @@ clockAfter begin n = suc n
 clockAfter (capture t k) n = n
 clockAfter (collect t) n = n
 clockAfter (rows t room) n = n
-clockAfter (put t r k payload) n = n
-clockAfter (erase t r) n = n
+clockAfter (write t r c) n = n
 clockAfter (prepare t) n = n
 clockAfter (install t) n = n
 clockAfter (end t) n = n
@@ -34,8 +33,7 @@ makes s begin = []
 makes s (capture t k) = []
 makes s (collect t) = []
 makes s (rows t room) = []
-makes s (put t r k payload) = []
-makes s (erase t r) = []
+makes s (write t r c) = []
 makes s (prepare t) = []
 makes s (install t) = versionRows (s .sizes) (s .chains) (txnOf s t .writes)
 makes s (end t) = []
@@ -99,8 +97,7 @@ Stamps s begin b = ⊥
 Stamps s (capture t k) b = ⊥
 Stamps s (collect t) b = ⊥
 Stamps s (rows t room) b = ⊥
-Stamps s (put t r k payload) b = ⊥
-Stamps s (erase t r) b = ⊥
+Stamps s (write t r c) b = ⊥
 Stamps s (prepare t) b = ⊥
 Stamps s (install t) b = ⊥
 Stamps s (end t) b = ⊥
@@ -115,8 +112,7 @@ posts s begin = []
 posts s (capture t k) = []
 posts s (collect t) = []
 posts s (rows t room) = []
-posts s (put t r k payload) = []
-posts s (erase t r) = []
+posts s (write t r c) = []
 posts s (prepare t) = []
 posts s (install t) = []
 posts s (end t) = []
@@ -132,8 +128,7 @@ Takes s begin b = ⊥
 Takes s (capture t k) b = b ≡ bucketFor s k
 Takes s (collect t) b = ⊥
 Takes s (rows t room) b = ⊥
-Takes s (put t r k payload) b = ⊥
-Takes s (erase t r) b = ⊥
+Takes s (write t r c) b = ⊥
 Takes s (prepare t) b = Among b (neededBuckets s (txnOf s t))
 Takes s (install t) b = ⊥
 Takes s (end t) b = ⊥
@@ -147,8 +142,7 @@ Frees s begin b = ⊥
 Frees s (capture t k) b = ⊥
 Frees s (collect t) b = b ≡ bucketIn (txnOf s t .phase)
 Frees s (rows t room) b = ⊥
-Frees s (put t r k payload) b = ⊥
-Frees s (erase t r) b = ⊥
+Frees s (write t r c) b = ⊥
 Frees s (prepare t) b = ⊥
 Frees s (install t) b = ⊥
 Frees s (end t) b = ⊥
@@ -162,8 +156,7 @@ Claimed s begin r = ⊥
 Claimed s (capture t k) r = ⊥
 Claimed s (collect t) r = ⊥
 Claimed s (rows t room) r = ⊥
-Claimed s (put t q k payload) r = ⊥
-Claimed s (erase t q) r = ⊥
+Claimed s (write t q c) r = ⊥
 Claimed s (prepare t) r = Among r (pendingRows (s .sizes) (txnOf s t .writes))
 Claimed s (install t) r = ⊥
 Claimed s (end t) r = ⊥
@@ -177,8 +170,7 @@ Unclaimed s begin r = ⊥
 Unclaimed s (capture t k) r = ⊥
 Unclaimed s (collect t) r = ⊥
 Unclaimed s (rows t room) r = ⊥
-Unclaimed s (put t q k payload) r = ⊥
-Unclaimed s (erase t q) r = ⊥
+Unclaimed s (write t q c) r = ⊥
 Unclaimed s (prepare t) r = ⊥
 Unclaimed s (install t) r = ⊥
 Unclaimed s (end t) r = ⊥

@@ -10,7 +10,7 @@ use Rattle.base_lists.specs.Lists.{Among}
 use Rattle.model.specs.Store.{Sizes, Store, phaseOpen, phaseHolding, phaseCollected, phasePrepared, phaseInstalled, phaseEnded, rank, keyIn, bucketOf}
 use Rattle.model.specs.Verdict.{verdict, verdictNumber}
 use Rattle.model.specs.Steps.{hasRead, postedRows, foundRows, recordsAfter, pendingRows, readBuckets, neededBuckets}
-use Rattle.model.specs.Refusals.{WrongSize, refusalNumber, Step, begin, capture, collect, rows, put, erase, prepare, install, end, publish, validate, abort, txnOf, liveCount, versionsAfter}
+use Rattle.model.specs.Refusals.{WrongSize, refusalNumber, Step, begin, capture, collect, rows, write, prepare, install, end, publish, validate, abort, txnOf, liveCount, versionsAfter}
 use Rattle.model.specs.Shape.{rightShape}
 use Rattle.model.specs.Machine.{Answer, Done, Number, Stamp, Count, Rows, Judged, answerNumber, actor, step, canOpen}
 
@@ -37,8 +37,7 @@ Names begin = ⊥
 Names (capture t k) = Unit {0}
 Names (collect t) = Unit {0}
 Names (rows t room) = Unit {0}
-Names (put t r k payload) = Unit {0}
-Names (erase t r) = Unit {0}
+Names (write t r c) = Unit {0}
 Names (prepare t) = Unit {0}
 Names (install t) = Unit {0}
 Names (end t) = Unit {0}
@@ -52,8 +51,7 @@ Right begin n = Unit {0}
 Right (capture t k) n = n ≡ phaseOpen
 Right (collect t) n = n ≡ phaseHolding
 Right (rows t room) n = n ≡ phaseCollected
-Right (put t r k payload) n = n ≡ phaseOpen
-Right (erase t r) n = n ≡ phaseOpen
+Right (write t r c) n = n ≡ phaseOpen
 Right (prepare t) n = n ≡ phaseOpen
 Right (install t) n = n ≡ phasePrepared
 Right (end t) n = n ≡ phaseInstalled
@@ -123,7 +121,7 @@ given number Case n below = (Case × (n ≡ number)) ⊎ ((Case → ⊥) × belo
 abbrev pub named : Store → Step → ℕ → Type 0 → Type 0
 named s a n below = given 16 (rightShape s ≡ false) n (given 4 (Lives s (actor a) → ⊥) n (given 5 (RightPhase s a → ⊥) n below))
 
--- put, erase: the mark, then the row, then a 17th pending write
+-- a write: the mark, then the row, then a 17th pending write
 abbrev pub writing : Store → ℕ → ℕ → ℕ → Type 0
 writing s t r n = given 8 (txnOf s t .marked ≡ true) n (given 6 (s .sizes .rows ≤ r) n (given 12 (mostWrites ≤ length (txnOf s t .writes)) n (n ≡ 0)))
 
@@ -141,8 +139,7 @@ Given s (rows t room) n = named s (rows t room) n
     (given 10 (min room mostRows < length (foundRows s (txnOf s t))) n
     (given 11 (mostRecords < length (recordsAfter s (txnOf s t))) n
     (n ≡ 0)))
-Given s (put t r k payload) n = named s (put t r k payload) n (writing s t r n)
-Given s (erase t r) n = named s (erase t r) n (writing s t r n)
+Given s (write t r c) n = named s (write t r c) n (writing s t r n)
 Given s (prepare t) n = named s (prepare t) n
     (given 7 (BucketTaken s t (neededBuckets s (txnOf s t)) ⊎ RowTaken s t) n
     (given 14 (verdictOf s t ≢ 0) n
@@ -164,8 +161,7 @@ StaleStamp s begin = ⊥
 StaleStamp s (capture t k) = Ready s (capture t k) and (txnOf s t .marked ≡ false) and Free (s .held .holder) t (bucketFor s k) and (t ≤ stampFor s k)
 StaleStamp s (collect t) = ⊥
 StaleStamp s (rows t room) = ⊥
-StaleStamp s (put t r k payload) = ⊥
-StaleStamp s (erase t r) = ⊥
+StaleStamp s (write t r c) = ⊥
 StaleStamp s (prepare t) = ⊥
 StaleStamp s (install t) = ⊥
 StaleStamp s (end t) = ⊥
@@ -179,8 +175,7 @@ documented s begin = Number (s .clock)
 documented s (capture t k) = Stamp (stampFor s k)
 documented s (collect t) = Count (length (postedRows s (keyIn (txnOf s t .phase))))
 documented s (rows t room) = Rows (foundRows s (txnOf s t))
-documented s (put t r k payload) = Done
-documented s (erase t r) = Done
+documented s (write t r c) = Done
 documented s (prepare t) = Done
 documented s (install t) = Done
 documented s (end t) = Done

@@ -6,7 +6,7 @@ use lib.Dec.{eqb}
 use Rattle.model.specs.Store.{Txn, Store, sameKey}
 use Rattle.model.specs.Steps.{madeRows, keyBefore, newKey}
 use Rattle.model.specs.Upstream.{Event}
-use Rattle.model.specs.Refusals.{Step, begin, capture, collect, rows, put, erase, prepare, install, end, publish, validate, abort, txnOf}
+use Rattle.model.specs.Refusals.{Step, begin, capture, collect, rows, write, prepare, install, end, publish, validate, abort, txnOf}
 use Rattle.model.specs.Machine.{answerNumber, step}
 
 -- a row's key before and its new key, by the transaction's number, stamped with the clock
@@ -23,8 +23,7 @@ stepEvents s begin older = older
 stepEvents s (capture t k) older = older
 stepEvents s (collect t) older = older
 stepEvents s (rows t room) older = older
-stepEvents s (put t r k payload) older = older
-stepEvents s (erase t r) older = older
+stepEvents s (write t r c) older = older
 stepEvents s (prepare t) older = older
 stepEvents s (install t) older = older
 stepEvents s (end t) older = older

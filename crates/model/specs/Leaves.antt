@@ -3,14 +3,14 @@ use Prim.Native.Nat.{ℕ, suc, _≤_, _<_}
 use mathlib.Core.Path.{_≡_}
 use mathlib.Core.Bool.{true, false}
 use mathlib.Core.Logic.{_↔_, _≢_, _⊎_}
-use mathlib.Core.Option.{none, some}
 use mathlib.Core.List.{List, [], _∷_, _++_}
 use Rattle.base_limits.specs.Limits.{mostLive}
 use Rattle.base_lists.specs.Lists.{Among}
 use Rattle.model.specs.Store.{Index, Held, Snapshot, Phase, Open, Holding, Collected, Prepared, Installed, Ended, IndexRead, Write, ReadRecord, Txn, Store, noTxn, rank, phaseEnded, keyIn}
 use Rattle.model.specs.Seeing.{Live}
+use Rattle.model.specs.Contents.{keyHeld, payloadHeld}
 use Rattle.model.specs.Steps.{newTxn, addRead, postedRows, recordsAfter}
-use Rattle.model.specs.Refusals.{Step, begin, capture, collect, rows, put, erase, prepare, install, end, publish, validate, abort, txnOf}
+use Rattle.model.specs.Refusals.{Step, begin, capture, collect, rows, write, prepare, install, end, publish, validate, abort, txnOf}
 use Rattle.model.specs.Machine.{at, actor}
 use Rattle.model.specs.Given.{bucketFor, stampFor}
 use Rattle.model.specs.Effects.{clockAfter, makes, LastWrite, VersionsAfter, Stamps, posts, Takes, Frees, Claimed, Unclaimed}
@@ -22,8 +22,7 @@ module _ {A : Type 0} where
   part new none-left kept (capture t k) = kept
   part new none-left kept (collect t) = kept
   part new none-left kept (rows t room) = kept
-  part new none-left kept (put t r k payload) = kept
-  part new none-left kept (erase t r) = kept
+  part new none-left kept (write t r c) = kept
   part new none-left kept (prepare t) = kept
   part new none-left kept (install t) = kept
   part new none-left kept (end t) = kept
@@ -37,8 +36,7 @@ phaseAfter s begin = Open
 phaseAfter s (capture t k) = Holding (bucketFor s k) k
 phaseAfter s (collect t) = Collected (keyIn (txnOf s t .phase))
 phaseAfter s (rows t room) = Open
-phaseAfter s (put t r k payload) = Open
-phaseAfter s (erase t r) = Open
+phaseAfter s (write t r c) = Open
 phaseAfter s (prepare t) = Prepared
 phaseAfter s (install t) = Installed
 phaseAfter s (end t) = Ended
@@ -52,8 +50,7 @@ readsAfter s begin rs = []
 readsAfter s (capture t k) rs = addRead rs (bucketFor s k) (stampFor s k)
 readsAfter s (collect t) rs = rs
 readsAfter s (rows t room) rs = rs
-readsAfter s (put t r k payload) rs = rs
-readsAfter s (erase t r) rs = rs
+readsAfter s (write t r c) rs = rs
 readsAfter s (prepare t) rs = rs
 readsAfter s (install t) rs = rs
 readsAfter s (end t) rs = rs
@@ -68,8 +65,7 @@ Captures s (capture t k) rs rs′ = ((r : IndexRead) → Among r rs → r .bucke
     × (((r : IndexRead) → Among r rs → r .bucket ≢ bucketFor s k) → rs′ ≡ rs ++ (record { bucket = bucketFor s k; stamp = stampFor s k } ∷ []))
 Captures s (collect t) rs rs′ = Unit {0}
 Captures s (rows t room) rs rs′ = Unit {0}
-Captures s (put t r k payload) rs rs′ = Unit {0}
-Captures s (erase t r) rs rs′ = Unit {0}
+Captures s (write t r c) rs rs′ = Unit {0}
 Captures s (prepare t) rs rs′ = Unit {0}
 Captures s (install t) rs rs′ = Unit {0}
 Captures s (end t) rs rs′ = Unit {0}
@@ -77,14 +73,13 @@ Captures s (publish t) rs rs′ = Unit {0}
 Captures s (validate t) rs rs′ = Unit {0}
 Captures s (abort t) rs rs′ = Unit {0}
 
--- the pending writes: put and erase append
+-- the pending writes: a write appends its row with the key and the payload, or with none
 abbrev pub writesAfter : Step → List Write → List Write
 writesAfter begin ws = []
 writesAfter (capture t k) ws = ws
 writesAfter (collect t) ws = ws
 writesAfter (rows t room) ws = ws
-writesAfter (put t r k payload) ws = ws ++ (record { row = r; key = some k; payload = payload } ∷ [])
-writesAfter (erase t r) ws = ws ++ (record { row = r; key = none; payload = 0 } ∷ [])
+writesAfter (write t r c) ws = ws ++ (record { row = r; key = keyHeld c; payload = payloadHeld c } ∷ [])
 writesAfter (prepare t) ws = ws
 writesAfter (install t) ws = ws
 writesAfter (end t) ws = ws
@@ -98,8 +93,7 @@ readRecordsAfter s begin qs = []
 readRecordsAfter s (capture t k) qs = qs
 readRecordsAfter s (collect t) qs = qs
 readRecordsAfter s (rows t room) qs = recordsAfter s (txnOf s t)
-readRecordsAfter s (put t r k payload) qs = qs
-readRecordsAfter s (erase t r) qs = qs
+readRecordsAfter s (write t r c) qs = qs
 readRecordsAfter s (prepare t) qs = qs
 readRecordsAfter s (install t) qs = qs
 readRecordsAfter s (end t) qs = qs
@@ -113,8 +107,7 @@ candidatesAfter s begin rs = []
 candidatesAfter s (capture t k) rs = rs
 candidatesAfter s (collect t) rs = postedRows s (keyIn (txnOf s t .phase))
 candidatesAfter s (rows t room) rs = []
-candidatesAfter s (put t r k payload) rs = rs
-candidatesAfter s (erase t r) rs = rs
+candidatesAfter s (write t r c) rs = rs
 candidatesAfter s (prepare t) rs = rs
 candidatesAfter s (install t) rs = rs
 candidatesAfter s (end t) rs = rs
@@ -135,8 +128,7 @@ AtBegin begin P = P
 AtBegin (capture t k) P = Unit {0}
 AtBegin (collect t) P = Unit {0}
 AtBegin (rows t room) P = Unit {0}
-AtBegin (put t r k payload) P = Unit {0}
-AtBegin (erase t r) P = Unit {0}
+AtBegin (write t r c) P = Unit {0}
 AtBegin (prepare t) P = Unit {0}
 AtBegin (install t) P = Unit {0}
 AtBegin (end t) P = Unit {0}

@@ -8,7 +8,8 @@ use lib.ListN.{length, drop}
 use Rattle.model.specs.Store.{Sizes, Store, Ended, keyIn, bucketOf}
 use Rattle.model.specs.Verdict.{Verdict, verdict, verdictNumber, verdictValues}
 use Rattle.model.specs.Steps.{begun, stale, captured, collected, postedRows, foundRows, readDone, written, prepared, installed, becomes, published, ended}
-use Rattle.model.specs.Refusals.{Refusal, WrongSize, NoNumbers, Full, NoSuch, WrongPhase, NoRow, Taken, Stale, Marked, ManyReads, NoRoom, ManyRecords, ManyWrites, NoVersions, Conflict, Malformed, WrongShape, refusalNumber, Step, begin, capture, collect, rows, put, erase, prepare, install, end, publish, validate, abort, placeOf, txnOf, checks, refusal}
+use Rattle.model.specs.Contents.{pendingWrite}
+use Rattle.model.specs.Refusals.{Refusal, WrongSize, NoNumbers, Full, NoSuch, WrongPhase, NoRow, Taken, Stale, Marked, ManyReads, NoRoom, ManyRecords, ManyWrites, NoVersions, Conflict, Malformed, WrongShape, refusalNumber, Step, begin, capture, collect, rows, write, prepare, install, end, publish, validate, abort, placeOf, txnOf, checks, refusal}
 use Rattle.model.specs.Shape.{goodSizes, rightShape}
 
 -- what a step answers
@@ -68,8 +69,7 @@ accepted s begin = gives (begun s (at s 0)) (Number (s .clock))
 accepted s (capture t k) = gives (captured s (at s t) k) (Stamp (s .index .stamp (bucketOf (s .sizes) k)))
 accepted s (collect t) = gives (collected s (at s t)) (Count (length (postedRows s (keyIn (txnOf s t .phase)))))
 accepted s (rows t room) = gives (readDone s (at s t)) (Rows (foundRows s (txnOf s t)))
-accepted s (put t r k payload) = gives (written s (at s t) (record { row = r; key = some k; payload = payload })) Done
-accepted s (erase t r) = gives (written s (at s t) (record { row = r; key = none; payload = 0 })) Done
+accepted s (write t r c) = gives (written s (at s t) (pendingWrite r c)) Done
 accepted s (prepare t) = gives (prepared s (at s t)) Done
 accepted s (install t) = gives (installed s (at s t)) Done
 accepted s (end t) = gives (becomes s (at s t) Ended) Done
@@ -83,8 +83,7 @@ actor begin = 0
 actor (capture t k) = t
 actor (collect t) = t
 actor (rows t room) = t
-actor (put t r k payload) = t
-actor (erase t r) = t
+actor (write t r c) = t
 actor (prepare t) = t
 actor (install t) = t
 actor (end t) = t

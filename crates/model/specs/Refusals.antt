@@ -10,6 +10,7 @@ use Rattle.base_lists.specs.Lists.{pick, first, some-of}
 use Rattle.model.specs.Store.{Sizes, Chains, Txn, Store, rank, phaseOpen, phaseHolding, phaseCollected, phasePrepared, phaseInstalled, phaseEnded, bucketOf}
 use Rattle.model.specs.Seeing.{live}
 use Rattle.model.specs.Verdict.{verdict, verdictNumber}
+use Rattle.model.specs.Contents.{Content}
 use Rattle.model.specs.Steps.{hasRead, foundRows, recordsAfter, pendingRows, versionRows, readBuckets, neededBuckets}
 
 pub data Refusal : Type 0 where
@@ -35,20 +36,26 @@ refusalNumber Conflict = 14
 refusalNumber Malformed = 15
 refusalNumber WrongShape = 16
 
--- the steps that a store is asked for; T is a transaction number
+-- the steps that a store is asked for: the first number is the transaction's; a write is of a row, and of its key and payload or of nothing
 pub data Step : Type 0 where
   begin : Step
   capture : ℕ → ℕ → Step
   collect : ℕ → Step
   rows : ℕ → ℕ → Step
-  put : ℕ → ℕ → ℕ → ℕ → Step
-  erase : ℕ → ℕ → Step
+  write : ℕ → ℕ → Content → Step
   prepare : ℕ → Step
   install : ℕ → Step
   end : ℕ → Step
   publish : ℕ → Step
   validate : ℕ → Step
   abort : ℕ → Step
+
+-- put and erase: a write of a key with its payload, and of nothing
+abbrev pub put : ℕ → ℕ → ℕ → ℕ → Step
+put t r k payload = write t r (some (k, payload))
+
+abbrev pub erase : ℕ → ℕ → Step
+erase t r = write t r none
 
 -- the first place whose transaction has this number, 8 where there is none; 0 is the number of a free place
 unfoldable pub placeOf : (ℕ → Txn) → ℕ → ℕ
@@ -108,7 +115,7 @@ rowsChecks s x room =
     ∷ (ltb mostRecords (length (recordsAfter s x)), ManyRecords)
     ∷ []
 
--- put, erase: not marked, a row below the row count, and not a 17th pending write
+-- a write: not marked, a row below the row count, and not a 17th pending write
 abbrev pub writeChecks : Store → Txn → ℕ → List (Bool × Refusal)
 writeChecks s x r = (x .marked, Marked) ∷ (not (ltb r (s .sizes .rows)), NoRow) ∷ (leb mostWrites (length (x .writes)), ManyWrites) ∷ []
 
@@ -133,8 +140,7 @@ checks s begin =
 checks s (capture t k) = found s t (inPhase s t phaseOpen) (captureChecks s (txnOf s t) k)
 checks s (collect t) = found s t (inPhase s t phaseHolding) []
 checks s (rows t room) = found s t (inPhase s t phaseCollected) (rowsChecks s (txnOf s t) room)
-checks s (put t r k payload) = found s t (inPhase s t phaseOpen) (writeChecks s (txnOf s t) r)
-checks s (erase t r) = found s t (inPhase s t phaseOpen) (writeChecks s (txnOf s t) r)
+checks s (write t r c) = found s t (inPhase s t phaseOpen) (writeChecks s (txnOf s t) r)
 checks s (prepare t) = found s t (inPhase s t phaseOpen) (prepareChecks s (txnOf s t))
 checks s (install t) = found s t (inPhase s t phasePrepared) []
 checks s (end t) = found s t (inPhase s t phaseInstalled) []

@@ -1,9 +1,10 @@
 -- The report: lines of a fixed word and numbers, decimal, single spaces, LF.
 use Prim.Native.Nat.{ℕ, zero, suc, _+_, _/_, _%_}
 use mathlib.Core.Bool.{cond}
+use mathlib.Core.Option.{none, some}
 use mathlib.Core.List.{List, [], _∷_, _++_}
 use lib.Dec.{ltb}
-use Rattle.model.specs.Refusals.{Step, begin, capture, collect, rows, put, erase, prepare, install, end, publish, validate, abort}
+use Rattle.model.specs.Refusals.{Step, begin, capture, collect, rows, write, prepare, install, end, publish, validate, abort}
 use Rattle.model.specs.Machine.{Answer, answerNumber, answerValues}
 
 -- one step of writing a number: the last digit, after what `rest` makes of the others
@@ -30,8 +31,8 @@ wordOf begin = 98 ∷ 101 ∷ 103 ∷ 105 ∷ 110 ∷ []
 wordOf (capture t k) = 99 ∷ 97 ∷ 112 ∷ 116 ∷ 117 ∷ 114 ∷ 101 ∷ []
 wordOf (collect t) = 99 ∷ 111 ∷ 108 ∷ 108 ∷ 101 ∷ 99 ∷ 116 ∷ []
 wordOf (rows t room) = 114 ∷ 111 ∷ 119 ∷ 115 ∷ []
-wordOf (put t r k payload) = 112 ∷ 117 ∷ 116 ∷ []
-wordOf (erase t r) = 101 ∷ 114 ∷ 97 ∷ 115 ∷ 101 ∷ []
+wordOf (write t r (some c)) = 112 ∷ 117 ∷ 116 ∷ []
+wordOf (write t r none) = 101 ∷ 114 ∷ 97 ∷ 115 ∷ 101 ∷ []
 wordOf (prepare t) = 112 ∷ 114 ∷ 101 ∷ 112 ∷ 97 ∷ 114 ∷ 101 ∷ []
 wordOf (install t) = 105 ∷ 110 ∷ 115 ∷ 116 ∷ 97 ∷ 108 ∷ 108 ∷ []
 wordOf (end t) = 101 ∷ 110 ∷ 100 ∷ []

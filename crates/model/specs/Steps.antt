@@ -126,7 +126,7 @@ readTxn s x = record { number = x .number; snapshot = x .snapshot; marked = x .m
 abbrev pub readDone : Store → ℕ → Store
 readDone s i = withTxn s i (readTxn s (s .txns i))
 
--- put, erase: append a pending write
+-- a write is appended to the pending ones
 abbrev pub writtenTxn : Txn → Write → Txn
 writtenTxn x w = record { number = x .number; snapshot = x .snapshot; marked = x .marked; phase = x .phase; reads = x .reads; writes = x .writes ++ (w ∷ []); records = x .records; candidates = x .candidates }
 

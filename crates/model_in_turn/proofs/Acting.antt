@@ -2,7 +2,6 @@
 use mathlib.Core.Path.{_≡_, refl, sym, ap, _∙_}
 use mathlib.Core.Bool.{Bool, true, false, cond}
 use mathlib.Core.Logic.{_⊎_, ⊎-elim}
-use mathlib.Core.Option.{none, some}
 use mathlib.Core.List.{List, [], _∷_, _++_, map, map-append}
 use Prim.Native.Nat.{ℕ, _+_, _≤_, _<_, min}
 use native.Mathlib.Omega.{arith}
@@ -16,14 +15,14 @@ use Rattle.base_lists.proofs.ListLaws.{same-test, among-last}
 use Rattle.model.specs.Store.{Index, Open, Holding, Collected, IndexRead, Write, ReadRecord, Txn, Store, rank, phaseCollected, phaseInstalled, keyIn, bucketOf}
 use Rattle.model.specs.Seeing.{versionOf, Live}
 use Rattle.model.specs.Steps.{hasRead, addRead, captured, collected, foundRows, recordsAfter, readDone, written}
-use Rattle.model.specs.Contents.{Content, shownTo, liveRow}
-use Rattle.model.specs.Refusals.{Step, capture, collect, rows, put, erase, validate, txnOf}
+use Rattle.model.specs.Contents.{Content, shownTo, liveRow, pendingWrite}
+use Rattle.model.specs.Refusals.{Step, capture, collect, rows, write, validate, txnOf}
 use Rattle.model.specs.Machine.{at, accepted, actor, step}
 use Rattle.model.specs.Given.{number}
 use Rattle.model.proofs.Move.{step-move}
 use Rattle.model.proofs.SeeingLaws.{keyAt-pos, match-version, found-which}
 use Rattle.model.proofs.Good.{Good, good-move, right-shape}
-use Rattle.model.proofs.Refused.{capture-0, rows-0, put-0, erase-0, validate-0, collect-0}
+use Rattle.model.proofs.Refused.{capture-0, rows-0, write-0, validate-0, collect-0}
 use Rattle.model.proofs.Outcomes.{done-does}
 use Rattle.model_in_turn.specs.Done.{returned}
 use Rattle.model_in_turn.proofs.ByItself.{rowsIn, readIn, recordRows, addBucket, Local, phased, writing}
@@ -167,30 +166,22 @@ module _ (s : Store) (q : Quiet s) (x : Local) (t : Store) (a : Alone s x t) whe
       after = alone-set (readDone t 0) _ _ (rw store-is at (good-move t _ (a .good) (step-move t (rows (s .clock) room)))) refl refl refl refl refl refl refl refl refl (omega arith)
           (a .buckets-are) (a .stamps-are) (a .writes-are) recorded
 
-  -- a write is appended, and nothing is read
-  write-acts : (a : Step) (w : Write) → x .phase ≡ Open → number t a ≡ 0 → step t a .store ≡ written t 0 w → returned t (actor a) (step t a .answer) ≡ [] → Acts s (writing x w) t a []
-  write-acts b w p ok store-is none-read = record { done = ok; reads-are = none-read; next = rw store-is after }
-    where
-      after : Alone s (writing x w) (written t 0 w)
-      after = alone-set (written t 0 w) _ _ (rw store-is at (good-move t _ (a .good) (step-move t b))) refl refl refl refl refl refl refl refl (a .phase-is) (a .early) (a .buckets-are) (a .stamps-are) (ap (λ ws. ws ++ (w ∷ [])) (a .writes-are)) (a .records-are)
+  -- a write is appended
+  after-write : (w : Write) → Good (written t 0 w) → Alone s (writing x w) (written t 0 w)
+  after-write w g = alone-set (written t 0 w) _ _ g refl refl refl refl refl refl refl refl (a .phase-is) (a .early) (a .buckets-are) (a .stamps-are) (ap (λ ws. ws ++ (w ∷ [])) (a .writes-are)) (a .records-are)
 
   -- it is ready, unmarked, and has room
   can-write : (r : ℕ) → r < s .sizes .rows → length (x .writes) < mostWrites → (txnOf t (s .clock) .marked ≡ false) × ((r < t .sizes .rows) × (length (txnOf t (s .clock) .writes) < mostWrites))
   can-write r u v = (ap (λ (w : Txn). w .marked) (txn-is s q x t a) ∙ a .unmarked, (rw (a .sizes-are) u, rw (txn-is s q x t a, a .writes-are) v))
 
-  pub put-acts : (r k payload : ℕ) → x .phase ≡ Open → r < s .sizes .rows → length (x .writes) < mostWrites → Acts s (writing x (record { row = r; key = some k; payload = payload })) t (put (s .clock) r k payload) []
+  pub write-acts : (r : ℕ) (c : Content) → x .phase ≡ Open → r < s .sizes .rows → length (x .writes) < mostWrites
+      → Acts s (writing x (pendingWrite r c)) t (write (s .clock) r c) []
   unfolding accepted
-  put-acts r k payload p u v =
-      let ok = put-0 t (s .clock) r k payload .1 ((right-shape t (a .good), lives s q x t a, phase-of ∙ ap rank p), can-write r u v) in
-      let does = done-does t (put (s .clock) r k payload) ok in
-      write-acts (put (s .clock) r k payload) (record { row = r; key = some k; payload = payload }) p ok (ap (λ v. v .store) does ∙ ap (λ i. written t i (record { row = r; key = some k; payload = payload })) (place s q x t a)) (ap (λ v. returned t (s .clock) (v .answer)) does)
-
-  pub erase-acts : (r : ℕ) → x .phase ≡ Open → r < s .sizes .rows → length (x .writes) < mostWrites → Acts s (writing x (record { row = r; key = none; payload = 0 })) t (erase (s .clock) r) []
-  unfolding accepted
-  erase-acts r p u v =
-      let ok = erase-0 t (s .clock) r .1 ((right-shape t (a .good), lives s q x t a, phase-of ∙ ap rank p), can-write r u v) in
-      let does = done-does t (erase (s .clock) r) ok in
-      write-acts (erase (s .clock) r) (record { row = r; key = none; payload = 0 }) p ok (ap (λ v. v .store) does ∙ ap (λ i. written t i (record { row = r; key = none; payload = 0 })) (place s q x t a)) (ap (λ v. returned t (s .clock) (v .answer)) does)
+  write-acts r c p u v =
+      let ok = write-0 t (s .clock) r c .1 ((right-shape t (a .good), lives s q x t a, phase-of ∙ ap rank p), can-write r u v) in
+      let does = done-does t (write (s .clock) r c) ok in
+      let store-is = ap (λ v. v .store) does ∙ ap (λ i. written t i (pendingWrite r c)) (place s q x t a) in
+      record { done = ok; reads-are = ap (λ v. returned t (s .clock) (v .answer)) does; next = rw store-is (after-write (pendingWrite r c) (rw store-is at (good-move t _ (a .good) (step-move t (write (s .clock) r c))))) }
 
   pub validate-acts : x .phase ≡ Open → Acts s x t (validate (s .clock)) []
   unfolding accepted

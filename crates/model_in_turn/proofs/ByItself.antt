@@ -13,8 +13,8 @@ use Rattle.base_lists.proofs.ListLaws.{same-test, among-left, among-right, pick
 use Rattle.model.specs.Store.{Sizes, Phase, Open, Holding, Collected, Prepared, Installed, Ended, Write, sameKey, bucketOf}
 use Rattle.model.specs.Seeing.{lastWrite, pending, writtenKey}
 use Rattle.model.specs.Steps.{writtenPayload}
-use Rattle.model.specs.Contents.{Content, content}
-use Rattle.model.specs.Refusals.{Step, begin, capture, collect, rows, put, erase, prepare, install, end, validate}
+use Rattle.model.specs.Contents.{Content, content, pendingWrite}
+use Rattle.model.specs.Refusals.{Step, begin, capture, collect, rows, write, prepare, install, end, validate}
 use Rattle.model_in_turn.specs.Done.{Entry}
 
 -- the key of a content
@@ -75,8 +75,7 @@ pub data Plays (z : Sizes) (m : ℕ → Content) (n : ℕ) (x : Local) : Step �
   plays-rows : (room k : ℕ) (rs : List ℕ) (read : List (ℕ × Content)) → x .phase ≡ Collected k → rs ≡ rowsIn z m (x .writes) k → read ≡ readIn z m (x .writes) k
       → length rs ≤ min room mostRows → length (recordRows (x .writes) (x .records) rs) ≤ mostRecords
       → Plays z m n x (rows n room) read (record { phase = Open; buckets = x .buckets; writes = x .writes; records = recordRows (x .writes) (x .records) rs; done = x .done ++ ((k, x .writes) ∷ []) })
-  plays-put : (r k payload : ℕ) → x .phase ≡ Open → r < z .rows → length (x .writes) < mostWrites → Plays z m n x (put n r k payload) [] (writing x (record { row = r; key = some k; payload = payload }))
-  plays-erase : (r : ℕ) → x .phase ≡ Open → r < z .rows → length (x .writes) < mostWrites → Plays z m n x (erase n r) [] (writing x (record { row = r; key = none; payload = 0 }))
+  plays-write : (r : ℕ) (c : Content) → x .phase ≡ Open → r < z .rows → length (x .writes) < mostWrites → Plays z m n x (write n r c) [] (writing x (pendingWrite r c))
   plays-validate : x .phase ≡ Open → Plays z m n x (validate n) [] x
   plays-prepare : x .phase ≡ Open → Plays z m n x (prepare n) [] (phased x Prepared)
   plays-install : x .phase ≡ Prepared → Plays z m n x (install n) [] (phased x Installed)
@@ -100,8 +99,7 @@ done-kept : (z : Sizes) (m : ℕ → Content) (n : ℕ) (x y : Local) (a : Step)
 done-kept z m n x y a read (plays-capture k p o) q i = i
 done-kept z m n x y a read (plays-collect b k p) q i = i
 done-kept z m n x y a read (plays-rows room k rs e p f g u v) q i = among-left q (x .done) _ i
-done-kept z m n x y a read (plays-put r k payload p u v) q i = i
-done-kept z m n x y a read (plays-erase r p u v) q i = i
+done-kept z m n x y a read (plays-write r c p u v) q i = i
 done-kept z m n x y a read (plays-validate p) q i = i
 done-kept z m n x y a read (plays-prepare p) q i = i
 done-kept z m n x y a read (plays-install p) q i = i
@@ -140,8 +138,7 @@ plays-switch z m m′ n x y a read h (plays-collect b k p) = plays-collect b k p
 plays-switch z m m′ n x y a read h (plays-rows room k rs e p f g u v) =
     let same = h (k, x .writes) (among-right (k, x .writes) (x .done) _ (inl refl)) in
     plays-rows room k rs e p (f ∙ rows-same z m m′ (x .writes) k same) (g ∙ reads-same z m m′ (x .writes) k same) u v
-plays-switch z m m′ n x y a read h (plays-put r k payload p u v) = plays-put r k payload p u v
-plays-switch z m m′ n x y a read h (plays-erase r p u v) = plays-erase r p u v
+plays-switch z m m′ n x y a read h (plays-write r c p u v) = plays-write r c p u v
 plays-switch z m m′ n x y a read h (plays-validate p) = plays-validate p
 plays-switch z m m′ n x y a read h (plays-prepare p) = plays-prepare p
 plays-switch z m m′ n x y a read h (plays-install p) = plays-install p

@@ -14,7 +14,7 @@ use Rattle.model.specs.Contents.{Content}
 use Rattle.model.specs.Refusals.{Step}
 use Rattle.model_in_turn.specs.Done.{Entry}
 use Rattle.model_in_turn.specs.InTurn.{endIn, endOrder, isPublish, doneBy, renumbered, asNumber, wholeOf, inTurn}
-use Rattle.model_in_turn.proofs.ByItself.{Local, Plays, plays-capture, plays-collect, plays-rows, plays-put, plays-erase, plays-validate, plays-prepare, plays-install, plays-end, Played, begins, then}
+use Rattle.model_in_turn.proofs.ByItself.{Local, Plays, plays-capture, plays-collect, plays-rows, plays-write, plays-validate, plays-prepare, plays-install, plays-end, Played, begins, then}
 
 -- one entry more
 pub mine-more : (n : ℕ) (es : List Entry) (e : Entry) → e .who ≡ n → isPublish (e .what) ≡ false → doneBy n (es ++ (e ∷ [])) ≡ doneBy n es ++ (e ∷ [])
@@ -58,8 +58,7 @@ plays-again : (z : Sizes) (m : ℕ → Content) (n k : ℕ) (x y : Local) (a : S
 plays-again z m n k x y a read (plays-capture j p o) = plays-capture j p o
 plays-again z m n k x y a read (plays-collect b j p) = plays-collect b j p
 plays-again z m n k x y a read (plays-rows room j rs rd p e f u v) = plays-rows room j rs rd p e f u v
-plays-again z m n k x y a read (plays-put r j payload p u v) = plays-put r j payload p u v
-plays-again z m n k x y a read (plays-erase r p u v) = plays-erase r p u v
+plays-again z m n k x y a read (plays-write r c p u v) = plays-write r c p u v
 plays-again z m n k x y a read (plays-validate p) = plays-validate p
 plays-again z m n k x y a read (plays-prepare p) = plays-prepare p
 plays-again z m n k x y a read (plays-install p) = plays-install p

@@ -13,7 +13,7 @@ use Rattle.base_lists.proofs.ListLaws.{and-l, and-r}
 use Rattle.model.specs.Store.{Sizes, Store, fresh}
 use Rattle.model.specs.Steps.{stale}
 use Rattle.model.specs.Contents.{liveRow}
-use Rattle.model.specs.Refusals.{Step, begin, capture, collect, rows, put, erase, prepare, install, end, publish, validate, abort, liveCount}
+use Rattle.model.specs.Refusals.{Step, begin, capture, collect, rows, write, prepare, install, end, publish, validate, abort, liveCount}
 use Rattle.model.specs.Shape.{goodSizes, rightShape}
 use Rattle.model.specs.Machine.{at, actor, step, run}
 use Rattle.model.specs.Given.{number}
@@ -27,7 +27,7 @@ use Rattle.model_in_turn.specs.InTurn.{endOrder, inTurn, oneByOne, steps
 use Rattle.model_in_turn.proofs.Whole.{entries-append, one-entry}
 use Rattle.model_in_turn.proofs.Counting.{waiting, running, over, Counts, count-free}
 use Rattle.model_in_turn.proofs.Beside.{SideBySide}
-use Rattle.model_in_turn.proofs.StepsBeside.{beside-capture, beside-collect, beside-rows, beside-put, beside-erase, beside-validate, beside-prepare, beside-install, beside-publish, beside-abort, beside-begin}
+use Rattle.model_in_turn.proofs.StepsBeside.{beside-capture, beside-collect, beside-rows, beside-write, beside-validate, beside-prepare, beside-install, beside-publish, beside-abort, beside-begin}
 use Rattle.model_in_turn.proofs.MarksBeside.{beside-stale}
 use Rattle.model_in_turn.proofs.EndsBeside.{beside-end}
 
@@ -37,8 +37,7 @@ module _ (z : Sizes) (c₀ : ℕ) where
   beside-accepted s es h (capture t k) ok = beside-capture z c₀ s es h t k ok
   beside-accepted s es h (collect t) ok = beside-collect z c₀ s es h t ok
   beside-accepted s es h (rows t room) ok = beside-rows z c₀ s es h t room ok
-  beside-accepted s es h (put t r k payload) ok = beside-put z c₀ s es h t r k payload ok
-  beside-accepted s es h (erase t r) ok = beside-erase z c₀ s es h t r ok
+  beside-accepted s es h (write t r c) ok = beside-write z c₀ s es h t r c ok
   beside-accepted s es h (prepare t) ok = beside-prepare z c₀ s es h t ok
   beside-accepted s es h (install t) ok = beside-install z c₀ s es h t ok
   beside-accepted s es h (end t) ok = beside-end z c₀ s es h t ok

@@ -2,7 +2,7 @@
 use mathlib.Core.Path.{_≡_, refl, sym, ap, _∙_}
 use mathlib.Core.Bool.{true, false}
 use mathlib.Core.Logic.{_⊎_, ⊎-elim}
-use mathlib.Core.Option.{none, some}
+use mathlib.Core.Option.{some}
 use mathlib.Core.List.{List, [], _∷_, _++_, map}
 use Prim.Native.Nat.{ℕ, _+_, _≤_, _<_, min}
 use native.Mathlib.Omega.{arith}
@@ -14,8 +14,8 @@ use Rattle.base_lists.proofs.ListLaws.{among-left, among-last, which-pick}
 use Rattle.model.specs.Store.{Open, Holding, Collected, Prepared, Installed, Ended, IndexRead, Write, ReadRecord, Txn, Store, rank, phaseOpen, phaseHolding, phaseCollected, phasePrepared, phaseInstalled, bucketIn, keyIn, bucketOf}
 use Rattle.model.specs.Seeing.{versionOf, keyAt, pending, matches, Live}
 use Rattle.model.specs.Steps.{withPhase, becomes, hasRead, captured, collected, foundRows, recordsAfter, readTxn, readDone, written, readBuckets, neededBuckets, prepared, installed}
-use Rattle.model.specs.Contents.{Content, contentOf, shownTo, liveRow}
-use Rattle.model.specs.Refusals.{Step, capture, collect, rows, put, erase, prepare, install, end, validate, txnOf, byAnother}
+use Rattle.model.specs.Contents.{Content, contentOf, shownTo, liveRow, pendingWrite}
+use Rattle.model.specs.Refusals.{Step, capture, collect, rows, write, prepare, install, end, validate, txnOf, byAnother}
 use Rattle.model.specs.Machine.{Stepped, at, accepted, step}
 use Rattle.model.specs.Given.{number}
 use Rattle.model.proofs.Phases.{open-is, holding-is, collected-is, prepared-is, installed-is}
@@ -27,11 +27,11 @@ use Rattle.model.proofs.Finished.{found-whole, found-recorded}
 use Rattle.model.proofs.Cleared.{clear-number, Cleared, cleared}
 use Rattle.model.proofs.Relied.{Relied}
 use Rattle.model.proofs.Conditions.{the-one, another}
-use Rattle.model.proofs.Refused.{capture-0, rows-0, put-0, erase-0, prepare-0, validate-0, collect-0, install-0, end-0}
+use Rattle.model.proofs.Refused.{capture-0, rows-0, write-0, prepare-0, validate-0, collect-0, install-0, end-0}
 use Rattle.model.proofs.Outcomes.{done-does}
 use Rattle.model.proofs.LiveRows.{live-set, live-install}
 use Rattle.model_in_turn.specs.Done.{returned, Entry, entryOf}
-use Rattle.model_in_turn.proofs.ByItself.{rowsIn, readIn, recordRows, addBucket, Local, phased, writing, Plays, plays-capture, plays-collect, plays-rows, plays-put, plays-erase, plays-validate, plays-prepare, plays-install, plays-end, Played, then, Agreeing, played-switch}
+use Rattle.model_in_turn.proofs.ByItself.{rowsIn, readIn, recordRows, addBucket, Local, phased, writing, Plays, plays-capture, plays-collect, plays-rows, plays-write, plays-validate, plays-prepare, plays-install, plays-end, Played, then, Agreeing, played-switch}
 use Rattle.model_in_turn.proofs.Returned.{found-is, read-is, records-is}
 use Rattle.model_in_turn.proofs.ReadsHold.{agrees}
 use Rattle.model_in_turn.proofs.Acting.{bucketsOf, has-member, buckets-add}
@@ -197,8 +197,8 @@ module _ (s : Store) (g : Good s) (i n : ℕ) (script : List Entry) (x : Local) 
       kept-all : (q : ℕ × List Write) → Among q (x .done ++ ((keyIn (x .phase), x .writes) ∷ [])) → Relied (s .sizes) (s .chains) (readTxn s (s .txns i)) (q .0) (q .1)
       kept-all q o = ⊎-elim (λ d. kept-on (readTxn s (s .txns i)) refl (λ b h. h) (λ r c. recordAll-keeps (s .chains) (s .txns i) (s .txns i .records) (foundRows s (s .txns i)) r c) (q .0) (q .1) (f .kept (omega (arith, third)) q d)) (λ e. rw e this) (among-last q (keyIn (x .phase), x .writes) (x .done) o)
 
-  own-write : (a : Step) (w : Write) → step s a .store ≡ written s i w → entryOf s a ≡ record { who = n; what = a; read = [] } → rank (x .phase) ≡ phaseOpen → Plays (s .sizes) m n x a [] (writing x w) → (y : Local) × Followed (step s a .store) i n (script ++ (entryOf s a ∷ [])) y
-  own-write a w store-is entry-is first d = (
+  appended : (a : Step) (w : Write) → step s a .store ≡ written s i w → entryOf s a ≡ record { who = n; what = a; read = [] } → rank (x .phase) ≡ phaseOpen → Plays (s .sizes) m n x a [] (writing x w) → (y : Local) × Followed (step s a .store) i n (script ++ (entryOf s a ∷ [])) y
+  appended a w store-is entry-is first d = (
     writing x w,
     (
       m,
@@ -207,27 +207,16 @@ module _ (s : Store) (g : Good s) (i n : ℕ) (script : List Entry) (x : Local) 
     ),
   )
 
-  pub own-put : (r k payload : ℕ) → number s (put n r k payload) ≡ 0 → (y : Local) × Followed (step s (put n r k payload) .store) i n (script ++ (entryOf s (put n r k payload) ∷ [])) y
+  pub own-write : (r : ℕ) (c : Content) → number s (write n r c) ≡ 0 → (y : Local) × Followed (step s (write n r c) .store) i n (script ++ (entryOf s (write n r c) ∷ [])) y
   unfolding accepted
-  own-put r k payload ok =
-      let c = put-0 s n r k payload .0 ok in
-      let does = done-does s (put n r k payload) ok in
-      let first = rank-of 1 (c .0 .2) in
-      own-write (put n r k payload) (record { row = r; key = some k; payload = payload })
-      (ap (λ v. v .store) does ∙ ap (λ j. written s j (record { row = r; key = some k; payload = payload })) placed)
-      (ap (λ (v : Stepped). record { who = n; what = put n r k payload; read = returned s n (v .answer) }) does)
-      first (plays-put r k payload (open-is (x .phase) first) (c .1 .1 .0) (rw (txn-of, f .writes-are) at (c .1 .1 .1)))
-
-  pub own-erase : (r : ℕ) → number s (erase n r) ≡ 0 → (y : Local) × Followed (step s (erase n r) .store) i n (script ++ (entryOf s (erase n r) ∷ [])) y
-  unfolding accepted
-  own-erase r ok =
-      let c = erase-0 s n r .0 ok in
-      let does = done-does s (erase n r) ok in
-      let first = rank-of 1 (c .0 .2) in
-      own-write (erase n r) (record { row = r; key = none; payload = 0 })
-      (ap (λ v. v .store) does ∙ ap (λ j. written s j (record { row = r; key = none; payload = 0 })) placed)
-      (ap (λ (v : Stepped). record { who = n; what = erase n r; read = returned s n (v .answer) }) does)
-      first (plays-erase r (open-is (x .phase) first) (c .1 .1 .0) (rw (txn-of, f .writes-are) at (c .1 .1 .1)))
+  own-write r c ok =
+      let d = write-0 s n r c .0 ok in
+      let does = done-does s (write n r c) ok in
+      let first = rank-of phaseOpen (d .0 .2) in
+      appended (write n r c) (pendingWrite r c)
+      (ap (λ v. v .store) does ∙ ap (λ j. written s j (pendingWrite r c)) placed)
+      (ap (λ (v : Stepped). record { who = n; what = write n r c; read = returned s n (v .answer) }) does)
+      first (plays-write r c (open-is (x .phase) first) (d .1 .1 .0) (rw (txn-of, f .writes-are) at (d .1 .1 .1)))
 
   pub own-validate : number s (validate n) ≡ 0 → (y : Local) × Followed (step s (validate n) .store) i n (script ++ (entryOf s (validate n) ∷ [])) y
   unfolding accepted

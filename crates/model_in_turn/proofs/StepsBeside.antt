@@ -13,20 +13,20 @@ use Rattle.model.specs.Store.{Sizes, IndexRead, ReadRecord, Txn, Store, noTxn, 
 use Rattle.model.specs.Seeing.{Live}
 use Rattle.model.specs.Steps.{newTxn, begun}
 use Rattle.model.specs.Contents.{Content, contentOf}
-use Rattle.model.specs.Refusals.{Step, begin, capture, collect, rows, put, erase, prepare, install, publish, validate, abort, placeOf, txnOf, liveCount}
+use Rattle.model.specs.Refusals.{Step, begin, capture, collect, rows, write, prepare, install, publish, validate, abort, placeOf, txnOf, liveCount}
 use Rattle.model.specs.Machine.{Stepped, at, accepted, step}
 use Rattle.model.specs.Given.{number, Lives}
 use Rattle.model.proofs.Move.{Move, place-number, step-move}
 use Rattle.model.proofs.Numbers.{kept, clock-move}
 use Rattle.model.proofs.Conditions.{lives-number}
-use Rattle.model.proofs.Refused.{begin-0, capture-0, rows-0, put-0, erase-0, prepare-0, validate-0, collect-0, install-0, publish-0, abort-0}
+use Rattle.model.proofs.Refused.{begin-0, capture-0, rows-0, write-0, prepare-0, validate-0, collect-0, install-0, publish-0, abort-0}
 use Rattle.model.proofs.Outcomes.{done-does}
 use Rattle.model_in_turn.specs.Done.{returned, Entry, entryOf}
 use Rattle.model_in_turn.specs.InTurn.{endIn, isPublish, doneBy}
 use Rattle.model_in_turn.proofs.ByItself.{Local, started, begins}
 use Rattle.model_in_turn.proofs.Entries.{mine-more, none-yet}
 use Rattle.model_in_turn.proofs.Following.{Follow, Followed}
-use Rattle.model_in_turn.proofs.OwnSteps.{own-capture, own-collect, own-rows, own-put, own-erase, own-validate, own-prepare, own-install}
+use Rattle.model_in_turn.proofs.OwnSteps.{own-capture, own-collect, own-rows, own-write, own-validate, own-prepare, own-install}
 use Rattle.model_in_turn.proofs.Beside.{renamed, SideBySide, beside-move}
 
 module _ (z : Sizes) (c₀ : ℕ) where
@@ -57,11 +57,11 @@ module _ (z : Sizes) (c₀ : ℕ) where
   pub beside-rows : (s : Store) (es : List Entry) → SideBySide z c₀ s es → (t room : ℕ) → number s (rows t room) ≡ 0 → SideBySide z c₀ (step s (rows t room) .store) (es ++ (entryOf s (rows t room) ∷ []))
   beside-rows s es h t room ok = let c = rows-0 s t room .0 ok .0 in beside-named s es h (rows t room) t (step-move s (rows t room)) refl refl refl (c .1) (omega (arith, c .2)) (λ x m f. own-rows s (h .good) (at s t) t (doneBy t es) x m f room ok)
 
-  pub beside-put : (s : Store) (es : List Entry) → SideBySide z c₀ s es → (t r k payload : ℕ) → number s (put t r k payload) ≡ 0 → SideBySide z c₀ (step s (put t r k payload) .store) (es ++ (entryOf s (put t r k payload) ∷ []))
-  beside-put s es h t r k payload ok = let c = put-0 s t r k payload .0 ok .0 in beside-named s es h (put t r k payload) t (step-move s (put t r k payload)) refl refl refl (c .1) (omega (arith, c .2)) (λ x m f. own-put s (h .good) (at s t) t (doneBy t es) x m f r k payload ok)
-
-  pub beside-erase : (s : Store) (es : List Entry) → SideBySide z c₀ s es → (t r : ℕ) → number s (erase t r) ≡ 0 → SideBySide z c₀ (step s (erase t r) .store) (es ++ (entryOf s (erase t r) ∷ []))
-  beside-erase s es h t r ok = let c = erase-0 s t r .0 ok .0 in beside-named s es h (erase t r) t (step-move s (erase t r)) refl refl refl (c .1) (omega (arith, c .2)) (λ x m f. own-erase s (h .good) (at s t) t (doneBy t es) x m f r ok)
+  pub beside-write : (s : Store) (es : List Entry) → SideBySide z c₀ s es → (t r : ℕ) (c : Content) → number s (write t r c) ≡ 0
+      → SideBySide z c₀ (step s (write t r c) .store) (es ++ (entryOf s (write t r c) ∷ []))
+  beside-write s es h t r c ok =
+      let d = write-0 s t r c .0 ok .0 in
+      beside-named s es h (write t r c) t (step-move s (write t r c)) refl refl refl (d .1) (omega (arith, d .2)) (λ x m f. own-write s (h .good) (at s t) t (doneBy t es) x m f r c ok)
 
   pub beside-validate : (s : Store) (es : List Entry) → SideBySide z c₀ s es → (t : ℕ) → number s (validate t) ≡ 0 → SideBySide z c₀ (step s (validate t) .store) (es ++ (entryOf s (validate t) ∷ []))
   beside-validate s es h t ok = let c = validate-0 s t .0 ok .0 in beside-named s es h (validate t) t (step-move s (validate t)) refl refl refl (c .1) (omega (arith, c .2)) (λ x m f. own-validate s (h .good) (at s t) t (doneBy t es) x m f ok)

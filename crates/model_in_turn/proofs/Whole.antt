@@ -10,16 +10,16 @@ use Rattle.base_limits.specs.Limits.{lastNumber}
 use Rattle.model.specs.Store.{Sizes, Prepared, Installed, Ended, Write, Store, rank, phasePrepared}
 use Rattle.model.specs.Steps.{becomes, versionRows, installed}
 use Rattle.model.specs.Contents.{Content, liveRow}
-use Rattle.model.specs.Refusals.{Step, begin, capture, collect, rows, put, erase, prepare, install, end, publish, validate}
+use Rattle.model.specs.Refusals.{Step, begin, capture, collect, rows, write, prepare, install, end, publish, validate}
 use Rattle.model.specs.Machine.{Stepped, accepted, step, run}
 use Rattle.model.specs.Given.{number}
 use Rattle.model.proofs.Move.{run-append}
 use Rattle.model.proofs.Outcomes.{done-does}
 use Rattle.model_in_turn.specs.Done.{returned, Entry, entryOf, entries}
 use Rattle.model_in_turn.specs.InTurn.{stepsIn}
-use Rattle.model_in_turn.proofs.ByItself.{Local, phased, Plays, plays-capture, plays-collect, plays-rows, plays-put, plays-erase, plays-validate, plays-prepare, plays-install, plays-end, Played, begins, then}
+use Rattle.model_in_turn.proofs.ByItself.{Local, phased, Plays, plays-capture, plays-collect, plays-rows, plays-write, plays-validate, plays-prepare, plays-install, plays-end, Played, begins, then}
 use Rattle.model_in_turn.proofs.Alone.{Quiet, Alone}
-use Rattle.model_in_turn.proofs.Acting.{capture-acts, collect-acts, rows-acts, put-acts, erase-acts, validate-acts}
+use Rattle.model_in_turn.proofs.Acting.{capture-acts, collect-acts, rows-acts, write-acts, validate-acts}
 use Rattle.model_in_turn.proofs.Preparing.{prepare-acts, begin-done, begin-alone}
 use Rattle.model_in_turn.proofs.Finishing.{Finished, install-done, install-is, end-done, end-is, publish-done, publish-is, finished}
 
@@ -72,8 +72,7 @@ module _ (s : Store) (q : Quiet s) where
   from-early x y t a read l (plays-capture k p o) h = let w = capture-acts s q x t l k p o in record { done = w .done; entry-is = ap (λ r. record { who = n; what = capture n k; read = r }) (w .reads-are); stage = early-on (w .next) }
   from-early x y t a read l (plays-collect b k p) h = let w = collect-acts s q x t l b k p in record { done = w .done; entry-is = ap (λ r. record { who = n; what = collect n; read = r }) (w .reads-are); stage = early-on (w .next) }
   from-early x y t a read l (plays-rows room k rs rd p e f u v) h = let w = rows-acts s q x t l room k rs rd p e f u v in record { done = w .done; entry-is = ap (λ r. record { who = n; what = rows n room; read = r }) (w .reads-are); stage = early-on (w .next) }
-  from-early x y t a read l (plays-put r k payload p u v) h = let w = put-acts s q x t l r k payload p u v in record { done = w .done; entry-is = ap (λ o. record { who = n; what = put n r k payload; read = o }) (w .reads-are); stage = early-on (w .next) }
-  from-early x y t a read l (plays-erase r p u v) h = let w = erase-acts s q x t l r p u v in record { done = w .done; entry-is = ap (λ o. record { who = n; what = erase n r; read = o }) (w .reads-are); stage = early-on (w .next) }
+  from-early x y t a read l (plays-write r c p u v) h = let w = write-acts s q x t l r c p u v in record { done = w .done; entry-is = ap (λ o. record { who = n; what = write n r c; read = o }) (w .reads-are); stage = early-on (w .next) }
   from-early x y t a read l (plays-validate p) h = let w = validate-acts s q x t l p in record { done = w .done; entry-is = ap (λ r. record { who = n; what = validate n; read = r }) (w .reads-are); stage = early-on (w .next) }
   from-early x y t a read l (plays-prepare p) h = let w = prepare-acts s q x t l p (h (omega arith)) in record { done = w .done; entry-is = ap (λ r. record { who = n; what = prepare n; read = r }) (w .reads-are); stage = early-on (w .next) }
   from-early x y t a read l (plays-install p) h = record {
@@ -89,8 +88,7 @@ module _ (s : Store) (q : Quiet s) where
   from-installed x y t t′ a read l p e (plays-capture k d o) = absurd (omega (arith, ap rank d))
   from-installed x y t t′ a read l p e (plays-collect b k d) = absurd (omega (arith, ap rank d))
   from-installed x y t t′ a read l p e (plays-rows room k rs rd d f g u v) = absurd (omega (arith, ap rank d))
-  from-installed x y t t′ a read l p e (plays-put r k payload d u v) = absurd (omega (arith, ap rank d))
-  from-installed x y t t′ a read l p e (plays-erase r d u v) = absurd (omega (arith, ap rank d))
+  from-installed x y t t′ a read l p e (plays-write r c d u v) = absurd (omega (arith, ap rank d))
   from-installed x y t t′ a read l p e (plays-validate d) = absurd (omega (arith, ap rank d))
   from-installed x y t t′ a read l p e (plays-prepare d) = absurd (omega (arith, ap rank d))
   from-installed x y t t′ a read l p e (plays-install d) = absurd (omega (arith, ap rank d))
@@ -105,8 +103,7 @@ module _ (s : Store) (q : Quiet s) where
   from-ended x y a read (plays-capture k d o) = omega (arith, ap rank d)
   from-ended x y a read (plays-collect b k d) = omega (arith, ap rank d)
   from-ended x y a read (plays-rows room k rs rd d f g u v) = omega (arith, ap rank d)
-  from-ended x y a read (plays-put r k payload d u v) = omega (arith, ap rank d)
-  from-ended x y a read (plays-erase r d u v) = omega (arith, ap rank d)
+  from-ended x y a read (plays-write r c d u v) = omega (arith, ap rank d)
   from-ended x y a read (plays-validate d) = omega (arith, ap rank d)
   from-ended x y a read (plays-prepare d) = omega (arith, ap rank d)
   from-ended x y a read (plays-install d) = omega (arith, ap rank d)
@@ -122,8 +119,7 @@ writes-stay : (z : Sizes) (m : ℕ → Content) (n : ℕ) (x y : Local) (a : Ste
 writes-stay z m n x y a read (plays-capture k p o) l = absurd (omega (arith, ap rank p))
 writes-stay z m n x y a read (plays-collect b k p) l = absurd (omega (arith, ap rank p))
 writes-stay z m n x y a read (plays-rows room k rs rd p e f u v) l = absurd (omega (arith, ap rank p))
-writes-stay z m n x y a read (plays-put r k payload p u v) l = absurd (omega (arith, ap rank p))
-writes-stay z m n x y a read (plays-erase r p u v) l = absurd (omega (arith, ap rank p))
+writes-stay z m n x y a read (plays-write r c p u v) l = absurd (omega (arith, ap rank p))
 writes-stay z m n x y a read (plays-validate p) l = absurd (omega (arith, ap rank p))
 writes-stay z m n x y a read (plays-prepare p) l = absurd (omega (arith, ap rank p))
 writes-stay z m n x y a read (plays-install p) l = (omega arith, refl)

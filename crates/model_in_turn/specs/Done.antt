@@ -5,7 +5,7 @@ use mathlib.Core.List.{List, [], _∷_, map}
 use lib.Dec.{eqb}
 use Rattle.model.specs.Store.{Store}
 use Rattle.model.specs.Contents.{Content, shownTo}
-use Rattle.model.specs.Refusals.{Step, begin, capture, collect, rows, put, erase, prepare, install, end, publish, validate, abort, txnOf}
+use Rattle.model.specs.Refusals.{Step, begin, capture, collect, rows, write, prepare, install, end, publish, validate, abort, txnOf}
 use Rattle.model.specs.Machine.{Answer, Done, Number, Stamp, Count, Rows, Judged, Refused, actor, step}
 use Rattle.model.specs.Given.{number}
 
@@ -31,8 +31,7 @@ whose s begin = s .clock
 whose s (capture t k) = t
 whose s (collect t) = t
 whose s (rows t room) = t
-whose s (put t r k payload) = t
-whose s (erase t r) = t
+whose s (write t r c) = t
 whose s (prepare t) = t
 whose s (install t) = t
 whose s (end t) = t

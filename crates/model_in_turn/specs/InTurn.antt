@@ -6,7 +6,7 @@ use mathlib.Core.List.{List, [], _∷_, _++_, map}
 use lib.Dec.{eqb}
 use Rattle.model.specs.Store.{Sizes, Store, fresh}
 use Rattle.model.specs.Contents.{liveRow}
-use Rattle.model.specs.Refusals.{Step, begin, capture, collect, rows, put, erase, prepare, install, end, publish, validate, abort}
+use Rattle.model.specs.Refusals.{Step, begin, capture, collect, rows, write, prepare, install, end, publish, validate, abort}
 use Rattle.model.specs.Machine.{run}
 use Rattle.model_in_turn.specs.Done.{Entry, entries}
 
@@ -16,8 +16,7 @@ endIn begin = []
 endIn (capture t k) = []
 endIn (collect t) = []
 endIn (rows t room) = []
-endIn (put t r k payload) = []
-endIn (erase t r) = []
+endIn (write t r c) = []
 endIn (prepare t) = []
 endIn (install t) = []
 endIn (end t) = t ∷ []
@@ -36,8 +35,7 @@ isPublish begin = false
 isPublish (capture t k) = false
 isPublish (collect t) = false
 isPublish (rows t room) = false
-isPublish (put t r k payload) = false
-isPublish (erase t r) = false
+isPublish (write t r c) = false
 isPublish (prepare t) = false
 isPublish (install t) = false
 isPublish (end t) = false
@@ -56,8 +54,7 @@ renumbered m begin = begin
 renumbered m (capture t k) = capture m k
 renumbered m (collect t) = collect m
 renumbered m (rows t room) = rows m room
-renumbered m (put t r k payload) = put m r k payload
-renumbered m (erase t r) = erase m r
+renumbered m (write t r c) = write m r c
 renumbered m (prepare t) = prepare m
 renumbered m (install t) = install m
 renumbered m (end t) = end m

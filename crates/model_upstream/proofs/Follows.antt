@@ -20,7 +20,7 @@ use Rattle.model.specs.Seeing.{live, activeNumbers, Live}
 use Rattle.model.specs.Steps.{madeRows, newTxn}
 use Rattle.model.specs.Upstream.{Event}
 use Rattle.model.specs.History.{eventOf, addEvents, stepEvents, historyOver, history}
-use Rattle.model.specs.Refusals.{Step, begin, capture, collect, rows, put, erase, prepare, install, end, publish, validate, abort, placeOf, txnOf, liveCount}
+use Rattle.model.specs.Refusals.{Step, begin, capture, collect, rows, write, prepare, install, end, publish, validate, abort, placeOf, txnOf, liveCount}
 use Rattle.model.specs.Machine.{at, actor, accepted, step, run, canOpen}
 use Rattle.model.specs.Given.{number, Ready}
 use Rattle.model.proofs.Move.{live-test, place-number}
@@ -214,8 +214,7 @@ module _ (clock : ℕ) (s : Store) (es : List Event) (acts : List Action) (g : G
   done-beside (capture t k) z = calm _ (calm-set (s .txns) (at s t) _ refl refl (λ q. absurd (omega (arith, capture-0 s t k .0 z .0 .2))) (λ q. omega arith))
   done-beside (collect t) z = calm _ (calm-set (s .txns) (at s t) _ refl refl (λ q. absurd (omega (arith, collect-0 s t .0 z .2))) (λ q. omega arith))
   done-beside (rows t room) z = calm _ (calm-set (s .txns) (at s t) _ refl refl (λ q. absurd (omega (arith, rows-0 s t room .0 z .0 .2))) (λ q. omega arith))
-  done-beside (put t r k payload) z = calm _ (calm-set (s .txns) (at s t) _ refl refl (λ q. q) (λ q. q))
-  done-beside (erase t r) z = calm _ (calm-set (s .txns) (at s t) _ refl refl (λ q. q) (λ q. q))
+  done-beside (write t r c) z = calm _ (calm-set (s .txns) (at s t) _ refl refl (λ q. q) (λ q. q))
   done-beside (prepare t) z = calm _ (calm-set (s .txns) (at s t) _ refl refl (λ q. absurd (omega (arith, prepare-0 s t .0 z .0 .2))) (λ q. omega arith))
   done-beside (install t) z = calm _ (calm-set (s .txns) (at s t) _ refl refl (λ q. absurd (omega (arith, install-0 s t .0 z .2))) (λ q. omega arith))
   done-beside (end t) z = let w = end-0 s t .0 z in ends (at s t) t (lives-number s t (w .1)) (alive (end t) w) (omega (arith, w .2)) _ (λ l. (refl, refl, omega arith))
@@ -230,8 +229,7 @@ module _ (clock : ℕ) (s : Store) (es : List Event) (acts : List Action) (g : G
   no-event (capture t k) e = refl
   no-event (collect t) e = refl
   no-event (rows t room) e = refl
-  no-event (put t r k payload) e = refl
-  no-event (erase t r) e = refl
+  no-event (write t r c) e = refl
   no-event (prepare t) e = refl
   no-event (install t) e = refl
   no-event (end t) e = refl

@@ -18,7 +18,7 @@ use Rattle.model.specs.Seeing.{versionOf, keyAt, Live}
 use Rattle.model.specs.Steps.{madeRows, newKey, keyBuckets}
 use Rattle.model.specs.Upstream.{Event, eventBuckets, stampAt, pointer}
 use Rattle.model.specs.History.{eventOf, addEvents, stepEvents, historyOver, history, changing}
-use Rattle.model.specs.Refusals.{Step, begin, capture, collect, rows, put, erase, prepare, install, end, publish, validate, abort, txnOf}
+use Rattle.model.specs.Refusals.{Step, begin, capture, collect, rows, write, prepare, install, end, publish, validate, abort, txnOf}
 use Rattle.model.specs.Machine.{step, run, canOpen}
 use Rattle.model.specs.Given.{number}
 use Rattle.model.specs.Holding.{Unpublished}
@@ -100,8 +100,7 @@ module _ (clock : ℕ) (s : Store) (es : List Event) (acts : List Action) (h : B
   guarded-step z g (capture t k) = g
   guarded-step z g (collect t) = g
   guarded-step z g (rows t room) = g
-  guarded-step z g (put t r k payload) = g
-  guarded-step z g (erase t r) = g
+  guarded-step z g (write t r c) = g
   guarded-step z g (prepare t) = g
   guarded-step z g (install t) = g
   guarded-step z g (end t) = g

@@ -8,7 +8,7 @@ use lib.Dec.{eqb}
 use Rattle.base_limits.specs.Limits.{lastNumber}
 use Rattle.base_lists.specs.Table.{update}
 use Rattle.model.specs.Store.{Store}
-use Rattle.model.specs.Refusals.{Step, begin, capture, collect, rows, put, erase, prepare, install, end, publish, validate, abort}
+use Rattle.model.specs.Refusals.{Step, begin, capture, collect, rows, write, prepare, install, end, publish, validate, abort}
 use Rattle.model.specs.Machine.{answerNumber, step}
 
 -- the clock, who is active, who has ended, the stamp that a writer published, and whom a reader found active
@@ -70,8 +70,7 @@ actionsOf s begin older = Snapshot (s .clock) ∷ Start (s .clock) ∷ older
 actionsOf s (capture t k) older = older
 actionsOf s (collect t) older = older
 actionsOf s (rows t room) older = older
-actionsOf s (put t r k payload) older = older
-actionsOf s (erase t r) older = older
+actionsOf s (write t r c) older = older
 actionsOf s (prepare t) older = older
 actionsOf s (install t) older = older
 actionsOf s (end t) older = End t ∷ older

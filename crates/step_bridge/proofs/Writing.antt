@@ -72,7 +72,7 @@ module _ (w : Words) (z : Sized w) (n : ℕ) (l : standing w n < mostLive) where
     sized = sized-set w z (standing w n) l _ _ _ _ (sized-phase (standing w n) (txnAt w (standing w n)) phase.Ended (sized-at w z (standing w n))) refl refl refl refl;
   }
 
--- one pending write more, for put and erase alike
+-- one pending write more
 module _ (w : Words) (z : Sized w) (p : ℕ) (l : p < mostLive) (x : Write) (a : Asked) (e : accepted (view w) a ≡ gives (does.written (view w) p (writeView x)) machine.Done) where
   written-at : (b m c d : Bool) → leb mostWrites (txnAt w p .«writes_n») ≡ d
       → SameAt w p
@@ -107,15 +107,23 @@ pub end-same : (w : Words) → Sized w → (n : ℕ) → Same w (ask.End n)
 unfolding checks endOf refusal
 end-same w z n = by-place w z (ask.End n) refl (inPhase (view w) n phaseInstalled) [] refl (λ l d e. ended-at w z n l (not (eqb (model.rank (phaseView (txnAt w (standing w n) .phase))) model.phaseInstalled)))
 
--- a pending write is appended
+-- a pending write is appended, for put and erase alike
+module _ (w : Words) (z : Sized w) (n : ℕ) (x : Write) (l : standing w n < mostLive) (a : Asked) where
+  written-place : accepted (view w) a ≡ gives (does.written (view w) (standing w n) (writeView x)) machine.Done
+      → SameAt w (standing w n) (inLists (writeOf (w .sizes .rows) (txnAt w (standing w n)) x (w .tables .lists)) (w .clock) (w .used) (w .tables))
+      (carried (view w) a (refusal ((not (inPhase (view w) n phaseOpen), WrongPhase) ∷ writeChecks (view w) (txnOf (view w) n) (x .row))))
+  unfolding writeOf refusal
+  written-place e =
+      let t = txnAt w (standing w n) in
+      rw (writes-length (w .tables .lists) t)
+      (written-at w z (standing w n) l x a e (not (inPhase (view w) n phaseOpen)) (t .marked) (not (ltb (x .row) (w .sizes .rows))) (leb mostWrites (t .«writes_n»)) refl)
+
 pub put-same : (w : Words) → Sized w → (n r k payload : ℕ) → Same w (ask.Put n r k payload)
-unfolding checks accepted writeOf refusal
+unfolding checks accepted
 put-same w z n r k payload = by-place w z (ask.Put n r k payload) refl (inPhase (view w) n phaseOpen) (writeChecks (view w) (txnOf (view w) n) r) refl
-    (λ l d e. rw (writes-length (w .tables .lists) (txnAt w (standing w n)))
-    (written-at w z (standing w n) l (record { row = r; keyed = 1; key = k; payload = payload }) (asked (ask.Put n r k payload)) refl (not (eqb (model.rank (phaseView (txnAt w (standing w n) .phase))) model.phaseOpen)) (txnAt w (standing w n) .marked) (not (ltb r (w .sizes .rows))) (leb mostWrites (txnAt w (standing w n) .«writes_n»)) refl))
+    (λ l d e. written-place w z n (record { row = r; keyed = 1; key = k; payload = payload }) l (asked (ask.Put n r k payload)) refl)
 
 pub erase-same : (w : Words) → Sized w → (n r : ℕ) → Same w (ask.Erase n r)
-unfolding checks accepted writeOf refusal
+unfolding checks accepted
 erase-same w z n r = by-place w z (ask.Erase n r) refl (inPhase (view w) n phaseOpen) (writeChecks (view w) (txnOf (view w) n) r) refl
-    (λ l d e. rw (writes-length (w .tables .lists) (txnAt w (standing w n)))
-    (written-at w z (standing w n) l (record { row = r; keyed = 0; key = 0; payload = 0 }) (asked (ask.Erase n r)) refl (not (eqb (model.rank (phaseView (txnAt w (standing w n) .phase))) model.phaseOpen)) (txnAt w (standing w n) .marked) (not (ltb r (w .sizes .rows))) (leb mostWrites (txnAt w (standing w n) .«writes_n»)) refl))
+    (λ l d e. written-place w z n (record { row = r; keyed = 0; key = 0; payload = 0 }) l (asked (ask.Erase n r)) refl)
