@@ -14,8 +14,8 @@ use Rattle.base_lists.specs.Table.{update}
 use Rattle.model.specs.Store as model
 use Rattle.model.specs.Store.{rank, phaseInstalled, phaseEnded}
 use Rattle.model.specs.Steps.{release, freed}
-use Rattle.model.specs.Refusals.{refusalNumber, WrongPhase, checks, refusal, inPhase, txnOf}
-use Rattle.model.specs.Machine.{gives, lentAfter, accepted, afterRefusal, carried}
+use Rattle.model.specs.Refusals.{refusalNumber, WrongPhase, refusal, inPhase, txnOf}
+use Rattle.model.specs.Machine.{gives, lentAfter, checks, accepted, afterRefusal, carried}
 use Rattle.model.specs.Machine as machine
 use Rattle.model.specs.Shape.{rightShape}
 use Rattle.base_protocol.specs.declared.Step.{Step}

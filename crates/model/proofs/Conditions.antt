@@ -1,5 +1,5 @@
 -- The conditions of document 01's table of numbers, as facts, and how a step's number is read off its tests. Assumes nothing.
-use mathlib.Core.Path.{_≡_, refl, sym, _∙_}
+use mathlib.Core.Path.{_≡_, refl, sym, ap, _∙_}
 use mathlib.Core.Bool.{Bool, true, false, cond, not, _&&_, _||_, true≢false}
 use mathlib.Core.Logic.{_↔_, _≢_, _⊎_, inl, inr, ⊎-elim}
 use mathlib.Core.Option.{Option, none, some}
@@ -11,18 +11,18 @@ use lib.Dec.{eqb, ltb, leb}
 use lib.ListN.{length}
 use borrow.Author.Tests.{eq-eqb, ltb-true, ltb-false, lt-ltb, not-true, not-false}
 use Rattle.base_limits.specs.Limits.{mostRows, mostVersions, mostBuckets, mostLive, mostIndexReads}
-use Rattle.base_lists.specs.Lists.{first, every, all-of}
+use Rattle.base_lists.specs.Lists.{first, every}
 use Rattle.base_lists.specs.Table.{cond-elim}
 use Rattle.base_lists.proofs.ListLaws.{and-l, and-r, or-cases, is-false, or-r}
-use Rattle.model.specs.Store.{Sizes, Store, rank, phaseInstalled}
-use Rattle.model.specs.Steps.{hasRead, pendingRows}
-use Rattle.model.specs.Refusals.{Refusal, WrongSize, NoNumbers, Full, NoSuch, WrongPhase, NoRow, Taken, Stale, Marked, ManyReads, NoRoom, ManyRecords, ManyWrites, NoVersions, Conflict, Malformed, WrongShape, refusalNumber, Step, begin, capture, collect, rows, write, prepare, install, end, publish, validate, abort, placeOf, txnOf, byAnother, found, bucketsTaken, rowsClaimed, checks, refusal}
+use Rattle.model.specs.Store.{Sizes, Store}
+use Rattle.model.specs.Steps.{hasRead, pendingRows, neededBuckets}
+use Rattle.model.specs.Refusals.{Refusal, WrongSize, NoNumbers, Full, NoSuch, WrongPhase, NoRow, Taken, Stale, Marked, ManyReads, NoRoom, ManyRecords, ManyWrites, NoVersions, Conflict, Malformed, WrongShape, refusalNumber, Step, rows, placeOf, txnOf, byAnother, found, bucketsTaken, rowsClaimed, refusal}
 use Rattle.model.specs.Shape.{within, goodSizes, distinctNumbers, rightShape}
-use Rattle.model.specs.Machine.{Answer, Done, Number, Stamp, Count, Rows, Judged, Refused, answerNumber, actor, gives, accepted, carried, step, stepIn, canOpen}
-use Rattle.model.specs.Given.{_and_, number, RightPhase, Outside, ByAnother, Shaped, Lives, bucketFor, RowTaken, stampFor, BucketTaken, Free, Ready, Seventeenth, RowsFree, RoomForRead, BucketsFree}
+use Rattle.model.specs.Machine.{Answer, Done, Number, Stamp, Count, Rows, Judged, Refused, answerNumber, actor, gives, checks, accepted, carried, step, stepIn, canOpen, rule}
+use Rattle.model.specs.Given.{_and_, number, Outside, ByAnother, Shaped, Lives, bucketFor, RowTaken, stampFor, BucketTaken, Free, Ready, Seventeenth, RowsFree, RoomForRead, BucketsFree, Names}
 use Rattle.model.proofs.Move.{place-number, live-test}
-use Rattle.model.proofs.Unrefused.{refuses, accepted-answers}
-use Rattle.model.proofs.FirstTest.{Test, itself, opposite, either, both, less, at-most, equal, any, code, without, stop, skip}
+use Rattle.model.proofs.Ruled.{refuses, ruled, phase-of, own-tests}
+use Rattle.model.proofs.FirstTest.{Test, itself, opposite, either, both, less, at-most, equal, any, code, skip}
 
 -- HOW A STEP'S NUMBER IS READ OFF ITS TESTS
 
@@ -91,26 +91,12 @@ unfolding step stepIn carried code
 number-is s a = go (rightShape s)
   where
     carried-number : (o : Option Refusal) → answerNumber (carried s a o .answer) ≡ told o
-    carried-number none = zero-unless (accepted s a .answer) (accepted-answers s a)
+    carried-number none = zero-unless (accepted s a .answer) (ruled s a .answered)
     carried-number (some r) = refl
 
     go : (b : Bool) → answerNumber (cond b (carried s a (refusal (checks s a))) (gives s (Refused WrongShape)) .answer) ≡ cond (not b) 16 (code (checks s a))
     go true = carried-number (refusal (checks s a)) ∙ sym (code-refusal (checks s a))
     go false = refl
-
-pub no-sixteen : (s : Store) (a : Step) → without 16 (checks s a) ≡ true
-unfolding checks all-of
-no-sixteen s begin = refl
-no-sixteen s (capture t k) = refl
-no-sixteen s (collect t) = refl
-no-sixteen s (rows t room) = refl
-no-sixteen s (write t r c) = refl
-no-sixteen s (prepare t) = refl
-no-sixteen s (install t) = refl
-no-sixteen s (end t) = refl
-no-sixteen s (publish t) = refl
-no-sixteen s (validate t) = refl
-no-sixteen s (abort t) = refl
 
 pub shape-test : (s : Store) → Test (not (rightShape s)) (rightShape s ≡ false) (Shaped s)
 shape-test s = opposite (itself (rightShape s))
@@ -176,19 +162,16 @@ the-one s t e w = go (ltb p (w .0)) refl (ltb (w .0) p) refl
     go false f true g = absurd (apart s e p (w .0) l (ltb-true _ _ g) (omega (arith, n, w .3)) (n ∙ sym (w .2)))
     go false f false g = omega (arith, ltb-false p (w .0) f, ltb-false (w .0) p g)
 
+-- the number of a step that names a transaction, off its tests
+pub number-found : (s : Store) (a : Step) → Names a → number s a ≡ code ((not (rightShape s), WrongShape) ∷ found s (actor a) (rule a .right (phase-of s a)) (own-tests s a))
+number-found s a named = number-is s a ∙ ap (λ cs. code ((not (rightShape s), WrongShape) ∷ cs)) (ruled s a .finds-first named)
+
 -- past 16, 4 and 5: the shape is right, the transaction lives and its phase is right
-pub past : (n : ℕ) {Wrong P : Type 0} (s : Store) (a : Step) (phase : Bool) (more : List (Bool × Refusal)) → (n ≢ 16) × (n ≢ 4) × (n ≢ 5) → Test phase (RightPhase s a) Wrong → (Lives s (actor a) → code more ≡ n ↔ P)
-    → code ((not (rightShape s), WrongShape) ∷ found s (actor a) phase more) ≡ n ↔ Ready s a and P
-past n s a phase more d p later =
-    let w = skip n _ WrongShape _ (shape-test s) (λ e. d .0 (sym e)) (λ sh. skip n _ NoSuch _ (lives-test s (actor a)) (λ e. d .1 (sym e)) (λ l. skip n _ WrongPhase more (opposite p) (λ e. d .2 (sym e)) (λ ph. later l))) in
-    (λ e. let q = w .0 e in ((q .0, q .1 .0, q .1 .1 .0), q .1 .1 .1), λ q. w .1 (q .0 .0, (q .0 .1, (q .0 .2, q .1))))
-
--- the phase's test
-pub in-phase : (s : Store) (t n : ℕ) → Test (eqb (rank (txnOf s t .phase)) n) (rank (txnOf s t .phase) ≡ n) (rank (txnOf s t .phase) ≢ n)
-in-phase s t n = equal (rank (txnOf s t .phase)) n
-
-pub early : (s : Store) (t : ℕ) → Test (ltb (rank (txnOf s t .phase)) phaseInstalled) (rank (txnOf s t .phase) < phaseInstalled) (rank (txnOf s t .phase) < phaseInstalled → ⊥)
-early s t = let e = less (rank (txnOf s t .phase)) phaseInstalled in record { holds = e .holds; fails = λ f l. omega (arith, e .fails f); if-yes = e .if-yes; if-no = λ h. is-false _ (λ f. h (e .holds f)) }
+pub past : (n : ℕ) {P : Type 0} (s : Store) (a : Step) → Names a → (n ≢ 16) × (n ≢ 4) × (n ≢ 5) → (Lives s (actor a) → code (own-tests s a) ≡ n ↔ P) → number s a ≡ n ↔ Ready s a and P
+past n s a named d later =
+    let w = skip n _ WrongShape _ (shape-test s) (λ e. d .0 (sym e))
+        (λ sh. skip n _ NoSuch _ (lives-test s (actor a)) (λ e. d .1 (sym e)) (λ l. skip n _ WrongPhase _ (opposite (ruled s a .phase-test)) (λ e. d .2 (sym e)) (λ ph. later l))) in
+    rw (number-found s a named) (λ e. let q = w .0 e in ((q .0, q .1 .0, q .1 .1 .0), q .1 .1 .1), λ q. w .1 (q .0 .0, (q .0 .1, (q .0 .2, q .1))))
 
 -- held, or claimed, by another than the one who acts
 pub another : (f : ℕ → ℕ) (n t j : ℕ) → n ≡ t → Test (byAnother f n j) (ByAnother f t j) (Free f t j)
@@ -201,6 +184,14 @@ bucket-taken s t bs l = any _ bs (λ b. another (s .held .holder) (txnOf s t .nu
 pub row-taken : (s : Store) (t : ℕ) → Lives s t → Test (rowsClaimed s (txnOf s t)) (RowTaken s t) (RowsFree s t)
 row-taken s t l = any _ (pendingRows (s .sizes) (txnOf s t .writes)) (λ r. another (s .held .claim) (txnOf s t .number) t r (lives-number s t l))
 
+-- capture's bucket is another's; prepare's needed buckets or pending rows are
+pub bucket-test : (s : Store) (t k : ℕ) → Lives s t → Test (byAnother (s .held .holder) (txnOf s t .number) (bucketFor s k)) (ByAnother (s .held .holder) t (bucketFor s k)) (Free (s .held .holder) t (bucketFor s k))
+bucket-test s t k l = another (s .held .holder) (txnOf s t .number) t (bucketFor s k) (lives-number s t l)
+
+pub needed-test : (s : Store) (t : ℕ) → Lives s t → let bs = neededBuckets s (txnOf s t) in
+    Test (bucketsTaken s (txnOf s t) bs || rowsClaimed s (txnOf s t)) (BucketTaken s t bs ⊎ RowTaken s t) (BucketsFree s t bs × RowsFree s t)
+needed-test s t l = either (bucket-taken s t (neededBuckets s (txnOf s t)) l) (row-taken s t l)
+
 -- a stamp that is not below the number
 pub stale-test : (s : Store) (t k : ℕ) → Lives s t → Test (not (ltb (stampFor s k) (txnOf s t .number))) (t ≤ stampFor s k) (stampFor s k < t)
 stale-test s t k l = rw (lives-number s t l) (opposite (less (stampFor s k) t))
@@ -208,22 +199,12 @@ stale-test s t k l = rw (lives-number s t l) (opposite (less (stampFor s k) t))
 pub read-test : (s : Store) (t k : ℕ) → Test (not (hasRead (txnOf s t .reads) (bucketFor s k)) && leb mostIndexReads (length (txnOf s t .reads))) (Seventeenth s t k) (RoomForRead s t k)
 read-test s t k = both (opposite (itself (hasRead (txnOf s t .reads) (bucketFor s k)))) (at-most mostIndexReads (length (txnOf s t .reads)))
 
--- 4 and 5 of a step that names a transaction
-pub unknown : {Wrong : Type 0} (s : Store) (a : Step) (phase : Bool) (more : List (Bool × Refusal)) → Test phase (RightPhase s a) Wrong → without 4 more ≡ true
-    → code ((not (rightShape s), WrongShape) ∷ found s (actor a) phase more) ≡ 4 ↔ Shaped s and (Lives s (actor a) → ⊥)
-unfolding all-of
-unknown s a phase more p w = skip 4 _ WrongShape _ (shape-test s) (omega arith) (λ sh. stop 4 _ NoSuch _ (lives-test s (actor a)) (omega arith) w)
-
-pub wrong-phase : {Wrong : Type 0} (s : Store) (a : Step) (phase : Bool) (more : List (Bool × Refusal)) → Test phase (RightPhase s a) Wrong → without 5 more ≡ true
-    → code ((not (rightShape s), WrongShape) ∷ found s (actor a) phase more) ≡ 5 ↔ Shaped s and Lives s (actor a) and Wrong
-wrong-phase s a phase more p w = skip 5 _ WrongShape _ (shape-test s) (omega arith) (λ sh. skip 5 _ NoSuch _ (lives-test s (actor a)) (omega arith) (λ l. stop 5 _ WrongPhase more (opposite p) (omega arith) w))
-
--- a step with no other test
-pub ready-only : {Wrong : Type 0} (s : Store) (a : Step) (phase : Bool) → Test phase (RightPhase s a) Wrong → code ((not (rightShape s), WrongShape) ∷ found s (actor a) phase []) ≡ 0 ↔ Ready s a
+-- a step with no test of its own
+pub ready-only : (s : Store) (a : Step) → Names a → own-tests s a ≡ [] → number s a ≡ 0 ↔ Ready s a
 unfolding code
-ready-only s a phase p =
-    let w = past 0 s a phase [] (omega arith) p (λ l. ((λ e. e), (λ e. e))) in
-    (λ e. w .0 e .0, λ r. w .1 (r, refl))
+ready-only s a named e =
+    let w = past 0 s a named (omega arith) (λ l. ((λ z. z), (λ z. z))) in
+    (λ z. w .0 z .0, λ r. w .1 (r, ap code e))
 
 -- a size within its range, and the test of open
 inside : (n most : ℕ) → Test (within n most) ((1 ≤ n) × (n ≤ most)) (Outside n most)

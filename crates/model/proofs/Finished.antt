@@ -15,8 +15,8 @@ use Rattle.base_lists.proofs.ListLaws.{and-r, or-left, or-right, same-test, amo
 use Rattle.model.specs.Store.{Chains, Snapshot, ReadRecord, Txn, Store, rank, phaseCollected, keyIn}
 use Rattle.model.specs.Seeing.{versionOf, pending, matches, recordOf, Live}
 use Rattle.model.specs.Steps.{foundRows, recordsAfter, readTxn, readDone}
-use Rattle.model.specs.Refusals.{rows, placeOf, txnOf, checks}
-use Rattle.model.specs.Machine.{Rows, at, accepted, step}
+use Rattle.model.specs.Refusals.{rows, placeOf, txnOf}
+use Rattle.model.specs.Machine.{Rows, at, checks, accepted, step}
 use Rattle.model.proofs.Phases.{collected-is}
 use Rattle.model.proofs.Move.{did-rows, passes, finds}
 use Rattle.model.proofs.Chained.{Chained}
@@ -24,7 +24,8 @@ use Rattle.model.proofs.SeeingLaws.{keyAt-pos, match-version, recordAll
 use Rattle.model.proofs.Walk.{version-finds, heads, finds-chain, chains-apart}
 use Rattle.model.proofs.Reading.{Reading}
 use Rattle.model.proofs.Good.{Good, good-move}
-use Rattle.model.proofs.Unrefused.{refuses, is-accepted}
+use Rattle.model.proofs.Ruled.{refuses}
+use Rattle.model.proofs.Unrefused.{is-accepted}
 
 -- a place is found by numbers alone
 first-same : (test also : ℕ → Bool) (k n : ℕ) → ((j : ℕ) → test j ≡ also j) → first test k n ≡ first also k n

@@ -3,6 +3,8 @@ pub mod Worked
 pub mod Printed
 pub mod Caught
 pub mod Phases
+pub mod FirstTest
+pub mod Ruled
 pub mod Move
 pub mod Chained
 pub mod Distinct
@@ -31,7 +33,6 @@ pub mod Cleared
 pub mod Relied
 pub mod Stands
 pub mod Validated
-pub mod FirstTest
 pub mod Conditions
 pub mod Refused
 pub mod Outcomes

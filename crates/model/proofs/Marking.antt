@@ -14,6 +14,7 @@ use Rattle.model.specs.Machine.{Answer, Done, Number, Stamp, Count, Rows
 use Rattle.model.specs.Given.{number, StaleStamp}
 use Rattle.model.specs.Leaves.{part, MarksOnly}
 use Rattle.model.specs.Demands.{MarkLives}
+use Rattle.model.proofs.Ruled.{Marks, may-mark, never, ruled}
 use Rattle.model.proofs.Refused.{capture-8}
 use Rattle.model.proofs.Outcomes.{unchanged, stale-marks, lent-kept, free-place}
 use Rattle.model.proofs.Exact.{only-stale-marks}
@@ -43,20 +44,14 @@ stale-eight s a w = ap answerNumber (only-stale-marks s a .1 w)
 
 -- a step meets a stale stamp or it does not
 pub stale-or-not : (s : Store) (a : Step) → StaleStamp s a ⊎ (StaleStamp s a → ⊥)
-stale-or-not s begin = inr (λ w. w)
-stale-or-not s (capture t k) = elim (ℕ-discrete (number s (capture t k)) 8) [
-  | yes e ↦ let w = capture-8 s t k .0 e in ⊎-elim (λ m. inr (λ p. true≢false (sym m ∙ p .1 .0))) (λ p. inl (w .0, p)) (w .1)
-  | no d ↦ inr (λ w. d (stale-eight s (capture t k) w))
-]
-stale-or-not s (collect t) = inr (λ w. w)
-stale-or-not s (rows t room) = inr (λ w. w)
-stale-or-not s (write t r c) = inr (λ w. w)
-stale-or-not s (prepare t) = inr (λ w. w)
-stale-or-not s (install t) = inr (λ w. w)
-stale-or-not s (end t) = inr (λ w. w)
-stale-or-not s (publish t) = inr (λ w. w)
-stale-or-not s (validate t) = inr (λ w. w)
-stale-or-not s (abort t) = inr (λ w. w)
+stale-or-not s a = by a (ruled s a .marks)
+  where
+    by : (b : Step) → Marks s b → StaleStamp s b ⊎ (StaleStamp s b → ⊥)
+    by b (may-mark t k) = elim (ℕ-discrete (number s (capture t k)) 8) [
+      | yes e ↦ let w = capture-8 s t k .0 e in ⊎-elim (λ m. inr (λ p. true≢false (sym m ∙ p .1 .0))) (λ p. inl (w .0, p)) (w .1)
+      | no d ↦ inr (λ w. d (stale-eight s (capture t k) w))
+    ]
+    by b (never p q) = inr q
 
 -- a refusal says which
 refusal-is : (a : Answer) → answerNumber a ≢ 0 → (r : Refusal) × (a ≡ Refused r)

@@ -1,5 +1,5 @@
 -- What a step does, as a relation: each test of a step is taken apart here, once. Assumes nothing.
-use mathlib.Core.Path.{_≡_, refl, sym, _∙_}
+use mathlib.Core.Path.{_≡_, refl, sym, ap, _∙_}
 use mathlib.Core.Bool.{Bool, true, false, not, _&&_, false≢true, true≢false}
 use mathlib.Core.Logic.{_≢_, _⊎_, inl, inr}
 use mathlib.Core.Option.{Option, none, some}
@@ -17,9 +17,10 @@ use Rattle.model.specs.Store.{Ended, Write, Txn, Store, rank, phaseOpen,
 use Rattle.model.specs.Seeing.{live, Live}
 use Rattle.model.specs.Verdict.{verdictNumber, verdict}
 use Rattle.model.specs.Steps.{becomes, begun, stale, hasRead, captured, collected, recordsAfter, readDone, written, pendingRows, neededBuckets, prepared, installed, ended, published}
-use Rattle.model.specs.Refusals.{Refusal, Step, begin, capture, collect, rows, write, prepare, install, end, publish, validate, abort, placeOf, txnOf, liveCount, byAnother, versionsAfter, writeChecks, found, inPhase, checks, refusal}
+use Rattle.model.specs.Refusals.{Refusal, Step, begin, capture, collect, rows, write, prepare, install, end, publish, validate, abort, placeOf, txnOf, liveCount, byAnother, versionsAfter, writeChecks, found, inPhase, refusal}
 use Rattle.model.specs.Shape.{rightShape}
-use Rattle.model.specs.Machine.{at, accepted, actor, isStale, afterRefusal, carried, stepIn, step, run}
+use Rattle.model.specs.Machine.{at, checks, accepted, actor, isStale, afterRefusal, carried, stepIn, step, run}
+use Rattle.model.proofs.Ruled.{unmarking}
 
 -- the test of a live transaction, and its fact
 pub test-live : (x : Txn) → live x ≡ true → Live x
@@ -72,15 +73,19 @@ unfolding refusal
 passes-to-stale true q r cs n y e = let p : q ≡ r = cc in absurd (false≢true (sym n ∙ (rw p y)))
 passes-to-stale false q r cs n y e = (refl, e)
 
--- a list of tests with no such refusal
-pub never-stale : (cs : List (Bool × Refusal)) (r : Refusal) → all-of (λ c. not (isStale (c .1))) cs ≡ true → refusal cs ≡ some r → isStale r ≡ true → ⊥
+-- what all refusals of a list of tests are, the one that is given is
+pub given-so : (p : Refusal → Bool) (cs : List (Bool × Refusal)) (r : Refusal) → all-of (λ c. p (c .1)) cs ≡ true → refusal cs ≡ some r → p r ≡ true
 unfolding refusal all-of
-never-stale [] r a e y = let z : _≡_ {A = ℕ} 0 1 = cc in omega arith
-never-stale (c ∷ cs) r a e y = go (c .0) refl (λ f. never-stale cs r (and-r (not (isStale (c .1))) (all-of (λ d. not (isStale (d .1))) cs) a) f y)
+given-so p [] r a e = let z : _≡_ {A = ℕ} 0 1 = cc in absurd (omega arith)
+given-so p (c ∷ cs) r a e = go (c .0) refl (λ f. given-so p cs r (and-r (p (c .1)) (all-of (λ d. p (d .1)) cs) a) f)
   where
-    go : (b : Bool) → c .0 ≡ b → (refusal cs ≡ some r → ⊥) → ⊥
-    go true t later = let p : c .1 ≡ r = cc in true≢false (sym y ∙ (rw p at (not-true (isStale (c .1)) (and-l (not (isStale (c .1))) (all-of (λ d. not (isStale (d .1))) cs) a))))
+    go : (b : Bool) → c .0 ≡ b → (refusal cs ≡ some r → p r ≡ true) → p r ≡ true
+    go true t later = let q : c .1 ≡ r = cc in ap p (sym q) ∙ and-l (p (c .1)) (all-of (λ d. p (d .1)) cs) a
     go false t later = later (rw t at e)
+
+-- a list of tests with no refusal that marks
+pub never-stale : (cs : List (Bool × Refusal)) (r : Refusal) → unmarking cs ≡ true → refusal cs ≡ some r → isStale r ≡ true → ⊥
+never-stale cs r a e y = true≢false (sym y ∙ not-true (isStale r) (given-so (λ q. not (isStale q)) cs r a e))
 
 -- who has a number stands where it is found
 pub place-number : (s : Store) (t : ℕ) → placeOf (s .txns) t < mostLive → txnOf s t .number ≡ t
@@ -115,7 +120,7 @@ carried-move s a yea stales = go (refusal (checks s a)) refl
     go (some r) e = cond-elim (λ z. Move s (at s (actor a)) z) (isStale r) _ _ (λ t. stales r e t) (λ t. stay (at s (actor a)))
 
 -- a step with no stale stamp among its refusals
-plain-move : (s : Store) (a : Step) → all-of (λ c. not (isStale (c .1))) (checks s a) ≡ true → (refusal (checks s a) ≡ none → Move s (at s (actor a)) (accepted s a .store)) → Move s (at s (actor a)) (stepIn s a .store)
+plain-move : (s : Store) (a : Step) → unmarking (checks s a) ≡ true → (refusal (checks s a) ≡ none → Move s (at s (actor a)) (accepted s a .store)) → Move s (at s (actor a)) (stepIn s a .store)
 plain-move s a p yea = carried-move s a yea (λ r e y. absurd (never-stale (checks s a) r p e y))
 
 capture-room : (a : Bool) (n : ℕ) → not a && leb mostIndexReads n ≡ false → (a ≡ true) ⊎ (n < mostIndexReads)

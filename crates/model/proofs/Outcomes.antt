@@ -12,15 +12,16 @@ use lib.Seq.{take-at, drop-at}
 use Rattle.base_limits.specs.Limits.{mostLive}
 use Rattle.base_lists.specs.Table.{cond-elim}
 use Rattle.base_lists.proofs.ListLaws.{first-free}
-use Rattle.model.specs.Store.{Store, phaseOpen}
+use Rattle.model.specs.Store.{Store}
 use Rattle.model.specs.Steps.{stale}
-use Rattle.model.specs.Refusals.{Refusal, WrongSize, NoNumbers, Full, NoSuch, WrongPhase, NoRow, Taken, Stale, Marked, ManyReads, NoRoom, ManyRecords, ManyWrites, NoVersions, Conflict, Malformed, WrongShape, Step, begin, capture, collect, rows, write, prepare, install, end, publish, validate, abort, txnOf, checks, refusal, liveCount, placeOf}
+use Rattle.model.specs.Refusals.{Refusal, WrongSize, NoNumbers, Full, NoSuch, WrongPhase, NoRow, Taken, Stale, Marked, ManyReads, NoRoom, ManyRecords, ManyWrites, NoVersions, Conflict, Malformed, WrongShape, Step, begin, capture, txnOf, refusal, liveCount, placeOf}
 use Rattle.model.specs.Shape.{rightShape}
-use Rattle.model.specs.Machine.{Rows, Refused, answerNumber, lentAfter, at, actor, isStale, gives, accepted, afterRefusal, carried, step, stepIn}
+use Rattle.model.specs.Machine.{Rows, Refused, answerNumber, lentAfter, at, actor, isStale, gives, checks, accepted, afterRefusal, carried, step, stepIn}
 use Rattle.model.specs.Given.{_and_, number, Ready, Free, bucketFor, stampFor, documented}
 use Rattle.model.proofs.Move.{place-number}
-use Rattle.model.proofs.Unrefused.{refuses, is-accepted, accepted-answers}
-use Rattle.model.proofs.Conditions.{lives-test, lives-number, in-phase, another, stale-test, zero-unless, unless-zero}
+use Rattle.model.proofs.Ruled.{refuses, ruled}
+use Rattle.model.proofs.Unrefused.{is-accepted}
+use Rattle.model.proofs.Conditions.{lives-test, stale-test, zero-unless, unless-zero, bucket-test}
 use Rattle.model.proofs.Refused.{begin-0, capture-8}
 
 -- WHAT A REFUSAL LEAVES
@@ -31,7 +32,7 @@ unfolding step stepIn carried afterRefusal
 refused-leaves s a r = go (rightShape s) (refusal (checks s a))
   where
     go : (b : Bool) (o : Option Refusal) → let w = cond b (carried s a o) (gives s (Refused WrongShape)) in w .answer ≡ Refused r → w .store ≡ cond (isStale r) (stale s (at s (actor a))) s
-    go true none e = absurd (true≢false (sym (ap refuses e) ∙ accepted-answers s a))
+    go true none e = absurd (true≢false (sym (ap refuses e) ∙ ruled s a .answered))
     go true (some q) e = let p : q ≡ r = cc in rw p
     go false o e = let p : WrongShape ≡ r = cc in rw (← p)
 
@@ -40,7 +41,7 @@ unfolding step stepIn carried afterRefusal
 refused-store s a = go (rightShape s) (refusal (checks s a))
   where
     go : (b : Bool) (o : Option Refusal) → let w = cond b (carried s a o) (gives s (Refused WrongShape)) in answerNumber (w .answer) ≢ 0 → (w .store ≡ s) ⊎ (w .store ≡ stale s (at s (actor a)))
-    go true none d = absurd (d (zero-unless (accepted s a .answer) (accepted-answers s a)))
+    go true none d = absurd (d (zero-unless (accepted s a .answer) (ruled s a .answered)))
     go true (some r) d = cond-elim (λ w. (w ≡ s) ⊎ (w ≡ stale s (at s (actor a)))) (isStale r) (stale s (at s (actor a))) s (λ t. inr refl) (λ t. inl refl)
     go false o d = inl refl
 
@@ -84,11 +85,11 @@ lent-rest rs lent = drop-at rs (drop (length rs) lent) (length rs) refl
 -- the two kinds of 8: the mark, and a stale stamp
 marked-answer : (s : Store) (t k : ℕ) → Ready s (capture t k) → txnOf s t .marked ≡ true → step s (capture t k) .answer ≡ Refused Marked
 unfolding step stepIn carried checks refusal
-marked-answer s t k r m = rw (r .0, lives-test s t .if-no (r .1), in-phase s t phaseOpen .if-yes (r .2), m)
+marked-answer s t k r m = rw (r .0, lives-test s t .if-no (r .1), ruled s (capture t k) .phase-test .if-yes (r .2), m)
 
 stale-answer : (s : Store) (t k : ℕ) → Ready s (capture t k) → (txnOf s t .marked ≡ false) and Free (s .held .holder) t (bucketFor s k) and (t ≤ stampFor s k) → step s (capture t k) .answer ≡ Refused Stale
 unfolding step stepIn carried checks refusal
-stale-answer s t k r p = rw (r .0, lives-test s t .if-no (r .1), in-phase s t phaseOpen .if-yes (r .2), p .0, another (s .held .holder) (txnOf s t .number) t (bucketFor s k) (lives-number s t (r .1)) .if-no (p .1 .0), stale-test s t k (r .1) .if-yes (p .1 .1))
+stale-answer s t k r p = rw (r .0, lives-test s t .if-no (r .1), ruled s (capture t k) .phase-test .if-yes (r .2), p .0, bucket-test s t k (r .1) .if-no (p .1 .0), stale-test s t k (r .1) .if-yes (p .1 .1))
 
 pub capture-marked : (s : Store) (t k : ℕ) → step s (capture t k) .answer ≡ Refused Marked ↔ Ready s (capture t k) and (txnOf s t .marked ≡ true)
 capture-marked s t k = (λ e. let w = capture-8 s t k .0 (ap answerNumber e) in (w .0, ⊎-elim (λ m. m) (λ p. absurd (apart (stale-answer s t k (w .0) p) e)) (w .1)), λ w. marked-answer s t k (w .0) (w .1))
@@ -109,18 +110,7 @@ pub done-does : (s : Store) (a : Step) → number s a ≡ 0 → step s a ≡ acc
 done-does s a e = is-accepted s a (unless-zero (step s a .answer) e) .does
 
 pub answers : (s : Store) (a : Step) → number s a ≡ 0 → step s a .answer ≡ documented s a
-unfolding accepted
-answers s begin e = ap (λ w. w .answer) (done-does s begin e)
-answers s (capture t k) e = ap (λ w. w .answer) (done-does s (capture t k) e)
-answers s (collect t) e = ap (λ w. w .answer) (done-does s (collect t) e)
-answers s (rows t room) e = ap (λ w. w .answer) (done-does s (rows t room) e)
-answers s (write t r c) e = ap (λ w. w .answer) (done-does s (write t r c) e)
-answers s (prepare t) e = ap (λ w. w .answer) (done-does s (prepare t) e)
-answers s (install t) e = ap (λ w. w .answer) (done-does s (install t) e)
-answers s (end t) e = ap (λ w. w .answer) (done-does s (end t) e)
-answers s (publish t) e = ap (λ w. w .answer) (done-does s (publish t) e)
-answers s (validate t) e = ap (λ w. w .answer) (done-does s (validate t) e)
-answers s (abort t) e = ap (λ w. w .answer) (done-does s (abort t) e)
+answers s a e = ap (λ w. w .answer) (done-does s a e) ∙ ruled s a .as-documented
 
 -- the place that begin takes is free
 pub free-place : (s : Store) → number s begin ≡ 0 → s .txns (at s 0) .number ≡ 0

@@ -15,7 +15,8 @@ use Rattle.model.proofs.Phases.{collected-is}
 use Rattle.model.proofs.SeeingLaws.{recordAll-cases, recordAll-keeps}
 use Rattle.model.proofs.Good.{Good, sizes-run}
 use Rattle.model.proofs.Lasting.{Lasts, lasts-all, lasts-on, lasts-step, shown-in}
-use Rattle.model.proofs.Unrefused.{refuses, reached}
+use Rattle.model.proofs.Ruled.{refuses}
+use Rattle.model.proofs.Unrefused.{reached}
 use Rattle.model.proofs.Finished.{found-whole, rows-done, rows-recorded, found-rising}
 use Rattle.model.proofs.Validated.{validate-passed, prepare-passed, validated-shows, prepared-shows, standing}
 

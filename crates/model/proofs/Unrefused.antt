@@ -1,30 +1,21 @@
 -- An accepted step: its tests refused nothing, the store had the right shape, and so it was reached from a store that could be opened. Assumes nothing.
 use mathlib.Core.Path.{_≡_, refl, sym, ap, _∙_}
-use mathlib.Core.Bool.{Bool, true, false, cond, true≢false}
+use mathlib.Core.Bool.{Bool, true, false, cond, not, true≢false}
 use mathlib.Core.Option.{Option, none, some}
 use mathlib.Core.List.{List, [], _∷_}
-use Prim.Native.Nat.{ℕ, _+_, _<_}
+use Prim.Native.Nat.{ℕ, _+_}
 use native.Mathlib.Omega.{arith}
-use lib.Dec.{leb, ltb}
-use borrow.Author.Tests.{leb-true, ltb-true}
+use lib.Dec.{eqb, leb}
+use borrow.Author.Tests.{leb-true}
 use Rattle.base_limits.specs.Limits.{lastNumber}
-use Rattle.base_lists.specs.Lists.{all-of}
 use Rattle.base_lists.proofs.ListLaws.{and-l, and-r}
 use Rattle.model.specs.Store.{Sizes, Store, fresh}
-use Rattle.model.specs.Refusals.{Step, begin, capture, collect, rows, write, prepare, install, end, publish, validate, abort, Refusal, WrongShape, refusalNumber, liveCount, checks, refusal}
+use Rattle.model.specs.Refusals.{Step, Refusal, WrongShape, refusalNumber, liveCount, refusal}
 use Rattle.model.specs.Shape.{goodSizes, rightShape}
-use Rattle.model.specs.Machine.{Answer, Done, Number, Stamp, Count, Rows, Judged, Refused, gives, accepted, carried, step, stepIn, run}
+use Rattle.model.specs.Machine.{Refused, gives, checks, accepted, carried, step, stepIn, run}
+use Rattle.model.proofs.Ruled.{refuses, ruled}
+use Rattle.model.proofs.Move.{given-so}
 use Rattle.model.proofs.Good.{Good, good-fresh, good-run, step-in}
-
--- an answer that is a refusal
-abbrev pub refuses : Answer → Bool
-refuses Done = false
-refuses (Number n) = false
-refuses (Stamp n) = false
-refuses (Count n) = false
-refuses (Rows rs) = false
-refuses (Judged v) = false
-refuses (Refused r) = true
 
 pub record Accepted (s : Store) (a : Step) : Type 0 where
   pub shape : rightShape s ≡ true
@@ -61,49 +52,11 @@ reached z clock before a e = go (rightShape (fresh z clock)) refl
     go true t = good-run (fresh z clock) (open-shape z clock t) before
     go false t = absurd (true≢false (sym (is-accepted (run (fresh z clock) before) a e .shape) ∙ (rw (shut-run (fresh z clock) before t) t)))
 
--- no test of a step gives 16
-below-sixteen : (cs : List (Bool × Refusal)) (r : Refusal) → all-of (λ c. ltb (refusalNumber (c .1)) 16) cs ≡ true → refusal cs ≡ some r → refusalNumber r < 16
-unfolding refusal all-of
-below-sixteen [] r a e = let z : _≡_ {A = ℕ} 0 1 = cc in absurd (omega arith)
-below-sixteen (c ∷ cs) r a e = go (c .0) refl (λ f. below-sixteen cs r (and-r (ltb (refusalNumber (c .1)) 16) (all-of (λ d. ltb (refusalNumber (d .1)) 16) cs) a) f)
-  where
-    go : (b : Bool) → c .0 ≡ b → (refusal cs ≡ some r → refusalNumber r < 16) → refusalNumber r < 16
-    go true t later = let p : c .1 ≡ r = cc in rw p at (ltb-true (refusalNumber (c .1)) 16 (and-l (ltb (refusalNumber (c .1)) 16) (all-of (λ d. ltb (refusalNumber (d .1)) 16) cs) a))
-    go false t later = later (rw t at e)
-
-tests-below : (s : Store) (a : Step) → all-of (λ c. ltb (refusalNumber (c .1)) 16) (checks s a) ≡ true
-unfolding checks all-of
-tests-below s begin = refl
-tests-below s (capture t k) = refl
-tests-below s (collect t) = refl
-tests-below s (rows t room) = refl
-tests-below s (write t r c) = refl
-tests-below s (prepare t) = refl
-tests-below s (install t) = refl
-tests-below s (end t) = refl
-tests-below s (publish t) = refl
-tests-below s (validate t) = refl
-tests-below s (abort t) = refl
-
-pub accepted-answers : (s : Store) (a : Step) → refuses (accepted s a .answer) ≡ false
-unfolding accepted
-accepted-answers s begin = refl
-accepted-answers s (capture t k) = refl
-accepted-answers s (collect t) = refl
-accepted-answers s (rows t room) = refl
-accepted-answers s (write t r c) = refl
-accepted-answers s (prepare t) = refl
-accepted-answers s (install t) = refl
-accepted-answers s (end t) = refl
-accepted-answers s (publish t) = refl
-accepted-answers s (validate t) = refl
-accepted-answers s (abort t) = refl
-
 -- a step at a good store is not refused with 16
 pub never-misshapen : (s : Store) → Good s → (a : Step) → step s a .answer ≡ Refused WrongShape → ⊥
 unfolding stepIn carried
 never-misshapen s g a e = go (refusal (checks s a)) refl (ap (λ w. w .answer) (sym (step-in s g a)) ∙ e)
   where
     go : (o : Option Refusal) → refusal (checks s a) ≡ o → carried s a o .answer ≡ Refused WrongShape → ⊥
-    go none q f = true≢false (sym (ap refuses f) ∙ accepted-answers s a)
-    go (some r) q f = let p : r ≡ WrongShape = cc in omega (arith, below-sixteen (checks s a) r (tests-below s a) q, ap refusalNumber p)
+    go none q f = true≢false (sym (ap refuses f) ∙ ruled s a .answered)
+    go (some r) q f = let p : r ≡ WrongShape = cc in true≢false (sym (given-so (λ d. not (eqb (refusalNumber d) 16)) (checks s a) r (ruled s a .no-16) q) ∙ (rw p))

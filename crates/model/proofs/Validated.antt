@@ -14,13 +14,14 @@ use Rattle.model.specs.Store.{Sizes, Chains, Snapshot, Collected, Prepar
 use Rattle.model.specs.Seeing.{versionOf, keyAt, pending, matches, recordOf, shows, Live, active, activeNumbers, snapshotNow}
 use Rattle.model.specs.Verdict.{Clear, verdict}
 use Rattle.model.specs.Steps.{withPhase, readTxn, readDone, readBuckets, neededBuckets, prepared}
-use Rattle.model.specs.Refusals.{Step, rows, prepare, validate, txnOf, byAnother, checks}
-use Rattle.model.specs.Machine.{Done, Rows, Judged, at, accepted, step, run}
+use Rattle.model.specs.Refusals.{Step, rows, prepare, validate, txnOf, byAnother}
+use Rattle.model.specs.Machine.{Done, Rows, Judged, at, checks, accepted, step, run}
 use Rattle.model.proofs.Phases.{collected-is}
 use Rattle.model.proofs.Move.{passes, finds}
 use Rattle.model.proofs.SeeingLaws.{key-same, version-match}
 use Rattle.model.proofs.Good.{Good, good-run, sizes-run}
-use Rattle.model.proofs.Unrefused.{refuses, is-accepted}
+use Rattle.model.proofs.Ruled.{refuses}
+use Rattle.model.proofs.Unrefused.{is-accepted}
 use Rattle.model.proofs.Finished.{found-whole, RowsDone, rows-done, rows-good, rows-recorded}
 use Rattle.model.proofs.Remains.{Remains, RemainsAt, remains-run}
 use Rattle.model.proofs.Cleared.{clear-number, cleared}

@@ -3,13 +3,13 @@ use Prim.Native.Nat.{ℕ}
 use mathlib.Core.Bool.{Bool, true, false, cond, _&&_}
 use mathlib.Core.Option.{Option, none, some}
 use mathlib.Core.List.{List, [], _∷_, _++_}
-use lib.Dec.{leb}
+use lib.Dec.{eqb, ltb, leb}
 use lib.ListN.{length, drop}
-use Rattle.model.specs.Store.{Sizes, Store, Ended, keyIn, bucketOf}
+use Rattle.model.specs.Store.{Sizes, Txn, Store, Ended, phaseOpen, phaseHolding, phaseCollected, phasePrepared, phaseInstalled, phaseEnded, rank, keyIn, bucketOf}
 use Rattle.model.specs.Verdict.{Verdict, verdict, verdictNumber, verdictValues}
 use Rattle.model.specs.Steps.{begun, stale, captured, collected, postedRows, foundRows, readDone, written, prepared, installed, becomes, published, ended}
 use Rattle.model.specs.Contents.{pendingWrite}
-use Rattle.model.specs.Refusals.{Refusal, WrongSize, NoNumbers, Full, NoSuch, WrongPhase, NoRow, Taken, Stale, Marked, ManyReads, NoRoom, ManyRecords, ManyWrites, NoVersions, Conflict, Malformed, WrongShape, refusalNumber, Step, begin, capture, collect, rows, write, prepare, install, end, publish, validate, abort, placeOf, txnOf, checks, refusal}
+use Rattle.model.specs.Refusals.{Refusal, WrongSize, NoNumbers, Full, NoSuch, WrongPhase, NoRow, Taken, Stale, Marked, ManyReads, NoRoom, ManyRecords, ManyWrites, NoVersions, Conflict, Malformed, WrongShape, refusalNumber, Step, begin, capture, collect, rows, write, prepare, install, end, publish, validate, abort, placeOf, txnOf, found, beginChecks, captureChecks, rowsChecks, writeChecks, prepareChecks, validateChecks, refusal}
 use Rattle.model.specs.Shape.{goodSizes, rightShape}
 
 -- what a step answers
@@ -63,33 +63,63 @@ gives s a = record { store = s; answer = a }
 abbrev pub at : Store → ℕ → ℕ
 at s t = placeOf (s .txns) t
 
+-- a step's rule: whose step it is; the phases in which it is right, by their numbers; its tests after 4 and 5, in document 01's order; the store that it leaves,
+-- where the one who asks stands at place i; and its answer
+pub record Rule : Type 0 where
+  pub whose : Option ℕ
+  pub right : ℕ → Bool
+  pub tests : Store → Txn → List (Bool × Refusal)
+  pub leaves : Store → ℕ → Store
+  pub answers : Store → Txn → Answer
+
+-- the rule of a step that names transaction t
+abbrev pub ofTxn : ℕ → (ℕ → Bool) → (Store → Txn → List (Bool × Refusal)) → (Store → ℕ → Store) → (Store → Txn → Answer) → Rule
+ofTxn t right tests leaves answers = record { whose = some t; right = right; tests = tests; leaves = leaves; answers = answers }
+
+-- right in one phase; no tests after 4 and 5; no values after 0
+abbrev pub only : ℕ → ℕ → Bool
+only phase n = eqb n phase
+
+abbrev pub noTests : Store → Txn → List (Bool × Refusal)
+noTests s x = []
+
+abbrev pub done : Store → Txn → Answer
+done s x = Done
+
+-- THE TABLE OF THE STEPS: all that is said of a step, once
+abbrev pub rule : Step → Rule
+rule begin = record { whose = none; right = λ n. true; tests = λ s x. beginChecks s; leaves = begun; answers = λ s x. Number (s .clock) }
+rule (capture t k) = ofTxn t (only phaseOpen) (λ s x. captureChecks s x k) (λ s i. captured s i k) (λ s x. Stamp (s .index .stamp (bucketOf (s .sizes) k)))
+rule (collect t) = ofTxn t (only phaseHolding) noTests collected (λ s x. Count (length (postedRows s (keyIn (x .phase)))))
+rule (rows t room) = ofTxn t (only phaseCollected) (λ s x. rowsChecks s x room) readDone (λ s x. Rows (foundRows s x))
+rule (write t r c) = ofTxn t (only phaseOpen) (λ s x. writeChecks s x r) (λ s i. written s i (pendingWrite r c)) done
+rule (prepare t) = ofTxn t (only phaseOpen) prepareChecks prepared done
+rule (install t) = ofTxn t (only phasePrepared) noTests installed done
+rule (end t) = ofTxn t (only phaseInstalled) noTests (λ s i. becomes s i Ended) done
+rule (publish t) = ofTxn t (only phaseEnded) noTests published (λ s x. Stamp (s .clock))
+rule (validate t) = ofTxn t (only phaseOpen) validateChecks (λ s i. s) (λ s x. Judged (verdict (s .chains) (s .index) x))
+rule (abort t) = ofTxn t (λ n. ltb n phaseInstalled) noTests ended done
+
+-- who acts: the number that a step names, 0 where it names none
+abbrev pub numberNamed : Option ℕ → ℕ
+numberNamed none = 0
+numberNamed (some t) = t
+
+abbrev pub actor : Step → ℕ
+actor a = numberNamed (rule a .whose)
+
+-- 4 and 5 come before a step's own tests where it names a transaction
+abbrev pub foundFirst : Store → Option ℕ → Bool → List (Bool × Refusal) → List (Bool × Refusal)
+foundFirst s none phase more = more
+foundFirst s (some t) phase more = found s t phase more
+
+-- all tests of a step in their order, each with the refusal that it gives
+unfoldable pub checks : Store → Step → List (Bool × Refusal)
+checks s a = foundFirst s (rule a .whose) (rule a .right (rank (txnOf s (actor a) .phase))) (rule a .tests s (txnOf s (actor a)))
+
 -- what a step does that no test refuses
 unfoldable pub accepted : Store → Step → Stepped
-accepted s begin = gives (begun s (at s 0)) (Number (s .clock))
-accepted s (capture t k) = gives (captured s (at s t) k) (Stamp (s .index .stamp (bucketOf (s .sizes) k)))
-accepted s (collect t) = gives (collected s (at s t)) (Count (length (postedRows s (keyIn (txnOf s t .phase)))))
-accepted s (rows t room) = gives (readDone s (at s t)) (Rows (foundRows s (txnOf s t)))
-accepted s (write t r c) = gives (written s (at s t) (pendingWrite r c)) Done
-accepted s (prepare t) = gives (prepared s (at s t)) Done
-accepted s (install t) = gives (installed s (at s t)) Done
-accepted s (end t) = gives (becomes s (at s t) Ended) Done
-accepted s (publish t) = gives (published s (at s t)) (Stamp (s .clock))
-accepted s (validate t) = gives s (Judged (verdict (s .chains) (s .index) (txnOf s t)))
-accepted s (abort t) = gives (ended s (at s t)) Done
-
--- who acts: the number that a step names
-abbrev pub actor : Step → ℕ
-actor begin = 0
-actor (capture t k) = t
-actor (collect t) = t
-actor (rows t room) = t
-actor (write t r c) = t
-actor (prepare t) = t
-actor (install t) = t
-actor (end t) = t
-actor (publish t) = t
-actor (validate t) = t
-actor (abort t) = t
+accepted s a = gives (rule a .leaves s (at s (actor a))) (rule a .answers s (txnOf s (actor a)))
 
 -- the refusal that marks
 abbrev pub isStale : Refusal → Bool

@@ -7,7 +7,7 @@ use lib.Dec.{eqb, ltb, leb}
 use lib.ListN.{length}
 use Rattle.base_limits.specs.Limits.{mostRows, mostLive, mostIndexReads, mostRecords, mostWrites, lastNumber}
 use Rattle.base_lists.specs.Lists.{pick, first, some-of}
-use Rattle.model.specs.Store.{Sizes, Chains, Txn, Store, rank, phaseOpen, phaseHolding, phaseCollected, phasePrepared, phaseInstalled, phaseEnded, bucketOf}
+use Rattle.model.specs.Store.{Sizes, Chains, Txn, Store, rank, phasePrepared, bucketOf}
 use Rattle.model.specs.Seeing.{live}
 use Rattle.model.specs.Verdict.{verdict, verdictNumber}
 use Rattle.model.specs.Contents.{Content}
@@ -99,6 +99,10 @@ bucketsTaken s x bs = some-of (byAnother (s .held .holder) (x .number)) bs
 abbrev pub rowsClaimed : Store → Txn → Bool
 rowsClaimed s x = some-of (byAnother (s .held .claim) (x .number)) (pendingRows (s .sizes) (x .writes))
 
+-- begin: fewer than 8 live, and numbers left
+abbrev pub beginChecks : Store → List (Bool × Refusal)
+beginChecks s = (leb mostLive (liveCount (s .txns)), Full) ∷ (ltb lastNumber (s .clock + liveCount (s .txns) + 2), NoNumbers) ∷ []
+
 -- capture: not marked, a bucket that is free, a stamp below the number, and not a 17th index read
 abbrev pub captureChecks : Store → Txn → ℕ → List (Bool × Refusal)
 captureChecks s x k =
@@ -130,23 +134,6 @@ prepareChecks s x =
 -- validate: the buckets of its index reads free
 abbrev pub validateChecks : Store → Txn → List (Bool × Refusal)
 validateChecks s x = (bucketsTaken s x (readBuckets x), Taken) ∷ []
-
--- the tests of each step in the order of document 01, each with the refusal that it gives
-unfoldable pub checks : Store → Step → List (Bool × Refusal)
-checks s begin =
-    (leb mostLive (liveCount (s .txns)), Full)
-    ∷ (ltb lastNumber (s .clock + liveCount (s .txns) + 2), NoNumbers)
-    ∷ []
-checks s (capture t k) = found s t (inPhase s t phaseOpen) (captureChecks s (txnOf s t) k)
-checks s (collect t) = found s t (inPhase s t phaseHolding) []
-checks s (rows t room) = found s t (inPhase s t phaseCollected) (rowsChecks s (txnOf s t) room)
-checks s (write t r c) = found s t (inPhase s t phaseOpen) (writeChecks s (txnOf s t) r)
-checks s (prepare t) = found s t (inPhase s t phaseOpen) (prepareChecks s (txnOf s t))
-checks s (install t) = found s t (inPhase s t phasePrepared) []
-checks s (end t) = found s t (inPhase s t phaseInstalled) []
-checks s (publish t) = found s t (inPhase s t phaseEnded) []
-checks s (validate t) = found s t (inPhase s t phaseOpen) (validateChecks s (txnOf s t))
-checks s (abort t) = found s t (ltb (rank (txnOf s t .phase)) phaseInstalled) []
 
 -- the first refusal whose test holds
 unfoldable pub refusal : List (Bool × Refusal) → Option Refusal

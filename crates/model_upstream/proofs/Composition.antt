@@ -16,7 +16,8 @@ use Rattle.model.specs.Verdict.{Bucket, verdict, badRead, judgeReads}
 use Rattle.model.specs.Upstream.{matchesRow, readsGood, indexReadConflict}
 use Rattle.model.specs.Refusals.{Step, rows, txnOf}
 use Rattle.model.specs.Machine.{Rows, at, step, run}
-use Rattle.model.proofs.Unrefused.{refuses, reached}
+use Rattle.model.proofs.Ruled.{refuses}
+use Rattle.model.proofs.Unrefused.{reached}
 use Rattle.model.proofs.UpstreamLaws.{good-same, matches-same}
 use Rattle.model.proofs.Finished.{rows-done}
 use Rattle.model.proofs.Promises.{finished-read}

@@ -19,8 +19,8 @@ use Rattle.base_lists.proofs.ListLaws.{among-cases, join-which, join-same}
 use Rattle.model.specs.Store as model
 use Rattle.model.specs.Store.{bucketIn, rank, phaseInstalled}
 use Rattle.model.specs.Steps.{freed, keyBuckets, oldKey, newKey, neededBuckets, pendingRows}
-use Rattle.model.specs.Refusals.{refusalNumber, WrongPhase, checks, refusal, txnOf}
-use Rattle.model.specs.Machine.{gives, lentAfter, accepted, afterRefusal, carried}
+use Rattle.model.specs.Refusals.{refusalNumber, WrongPhase, refusal, txnOf}
+use Rattle.model.specs.Machine.{gives, lentAfter, checks, accepted, afterRefusal, carried}
 use Rattle.model.specs.Machine as machine
 use Rattle.model.specs.Holding.{needs, Wants}
 use Rattle.model.proofs.Good.{Good, right-shape}

@@ -19,8 +19,8 @@ use Rattle.base_lists.proofs.ListLaws.{and-l, pick-fewer}
 use Rattle.model.specs.Store as model
 use Rattle.model.specs.Seeing.{live, active, activeNumbers}
 use Rattle.model.specs.Steps.{newTxn}
-use Rattle.model.specs.Refusals.{Full, NoNumbers, liveCount, checks, refusal}
-use Rattle.model.specs.Machine.{accepted, afterRefusal, carried, stepIn}
+use Rattle.model.specs.Refusals.{Full, NoNumbers, liveCount, refusal}
+use Rattle.model.specs.Machine.{checks, accepted, afterRefusal, carried, stepIn}
 use Rattle.model.proofs.Move.{place-number}
 use Rattle.base_protocol.specs.declared.Step.the-variants as ask
 use Rattle.base_protocol.specs.View.{asked}

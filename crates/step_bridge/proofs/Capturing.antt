@@ -17,8 +17,8 @@ use Rattle.base_lists.specs.Lists.{member, some-of}
 use Rattle.model.specs.Store as model
 use Rattle.model.specs.Store.{bucketOf, phaseOpen}
 use Rattle.model.specs.Steps.{hasRead, addRead}
-use Rattle.model.specs.Refusals.{refusalNumber, WrongPhase, Marked, Taken, Stale, ManyReads, byAnother, captureChecks, checks, refusal, inPhase, txnOf}
-use Rattle.model.specs.Machine.{accepted, afterRefusal, carried}
+use Rattle.model.specs.Refusals.{refusalNumber, WrongPhase, Marked, Taken, Stale, ManyReads, byAnother, captureChecks, refusal, inPhase, txnOf}
+use Rattle.model.specs.Machine.{checks, accepted, afterRefusal, carried}
 use Rattle.model.proofs.Ranges.{good-sized, bucket-in}
 use Rattle.base_protocol.specs.declared.Step.the-variants as ask
 use Rattle.base_protocol.specs.declared.Answer.the-variants as tell

@@ -17,8 +17,8 @@ use Rattle.base_lists.proofs.ListLaws.{pick-same, pick-few}
 use Rattle.model.specs.Store as model
 use Rattle.model.specs.Store.{sameKey, bucketIn, keyIn, phaseHolding}
 use Rattle.model.specs.Steps.{postedRows}
-use Rattle.model.specs.Refusals.{refusalNumber, WrongPhase, checks, refusal, inPhase}
-use Rattle.model.specs.Machine.{accepted, afterRefusal, carried}
+use Rattle.model.specs.Refusals.{refusalNumber, WrongPhase, refusal, inPhase}
+use Rattle.model.specs.Machine.{checks, accepted, afterRefusal, carried}
 use Rattle.model.proofs.Ranges.{good-sized}
 use Rattle.base_protocol.specs.declared.Step.the-variants as ask
 use Rattle.base_protocol.specs.View.{asked}

@@ -14,8 +14,8 @@ use Rattle.base_lists.specs.Table.{update}
 use Rattle.model.specs.Store.{phaseCollected}
 use Rattle.model.specs.Store as model
 use Rattle.model.specs.Steps.{foundRows, recordsAfter}
-use Rattle.model.specs.Refusals.{WrongPhase, NoRoom, ManyRecords, rowsChecks, checks, refusal, inPhase, txnOf}
-use Rattle.model.specs.Machine.{accepted, afterRefusal, carried}
+use Rattle.model.specs.Refusals.{WrongPhase, NoRoom, ManyRecords, rowsChecks, refusal, inPhase, txnOf}
+use Rattle.model.specs.Machine.{checks, accepted, afterRefusal, carried}
 use Rattle.model.proofs.Ranges.{good-sized}
 use Rattle.base_protocol.specs.declared.Step.the-variants as ask
 use Rattle.base_protocol.specs.View.{asked}

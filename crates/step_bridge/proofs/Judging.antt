@@ -14,8 +14,8 @@ use Rattle.model.specs.Store.{phaseOpen}
 use Rattle.model.specs.Store as model
 use Rattle.model.specs.Steps.{readBuckets}
 use Rattle.model.specs.Verdict as judged
-use Rattle.model.specs.Refusals.{refusalNumber, WrongPhase, Taken, byAnother, validateChecks, checks, refusal, inPhase, txnOf}
-use Rattle.model.specs.Machine.{accepted, afterRefusal, carried}
+use Rattle.model.specs.Refusals.{refusalNumber, WrongPhase, Taken, byAnother, validateChecks, refusal, inPhase, txnOf}
+use Rattle.model.specs.Machine.{checks, accepted, afterRefusal, carried}
 use Rattle.base_protocol.specs.declared.Step.the-variants as ask
 use Rattle.base_protocol.specs.declared.Answer.the-variants as tell
 use Rattle.base_protocol.specs.declared.Verdict.{Verdict}

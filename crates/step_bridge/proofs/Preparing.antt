@@ -15,8 +15,8 @@ use Rattle.base_lists.proofs.ListLaws.{same-test, some-which, which-some}
 use Rattle.model.specs.Store.{rank, phaseOpen, phasePrepared}
 use Rattle.model.specs.Verdict as judged
 use Rattle.model.specs.Steps.{pendingRows, neededBuckets, preparedHeld, versionRows}
-use Rattle.model.specs.Refusals.{refusalNumber, WrongPhase, Taken, Conflict, NoVersions, byAnother, reservedBy, reserved, versionsAfter, prepareChecks, checks, refusal, inPhase, txnOf}
-use Rattle.model.specs.Machine.{accepted, afterRefusal, carried}
+use Rattle.model.specs.Refusals.{refusalNumber, WrongPhase, Taken, Conflict, NoVersions, byAnother, reservedBy, reserved, versionsAfter, prepareChecks, refusal, inPhase, txnOf}
+use Rattle.model.specs.Machine.{checks, accepted, afterRefusal, carried}
 use Rattle.base_protocol.specs.declared.Step.the-variants as ask
 use Rattle.base_protocol.specs.declared.Answer.the-variants as tell
 use Rattle.base_protocol.specs.View.{asked, verdictTold}

@@ -18,8 +18,8 @@ use Rattle.model.specs.Store as model
 use Rattle.model.specs.Store.{bucketIn, rank, phaseInstalled, phaseEnded}
 use Rattle.model.specs.Seeing.{live}
 use Rattle.model.specs.Steps.{pendingRows, repost, changedBuckets, publishedIndex, freed}
-use Rattle.model.specs.Refusals.{refusalNumber, WrongPhase, liveCount, checks, refusal, inPhase}
-use Rattle.model.specs.Machine.{accepted, afterRefusal, carried}
+use Rattle.model.specs.Refusals.{refusalNumber, WrongPhase, liveCount, refusal, inPhase}
+use Rattle.model.specs.Machine.{checks, accepted, afterRefusal, carried}
 use Rattle.model.specs.Machine as machine
 use Rattle.model.proofs.Move.{live-test}
 use Rattle.model.proofs.Good.{Good, right-shape}

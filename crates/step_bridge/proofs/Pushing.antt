@@ -18,8 +18,8 @@ use Rattle.model.specs.Store as model
 use Rattle.model.specs.Store.{rank, phasePrepared}
 use Rattle.model.specs.Seeing.{lastWrite}
 use Rattle.model.specs.Steps.{newKey, writtenPayload, push, pushAll, versionRows}
-use Rattle.model.specs.Refusals.{refusalNumber, WrongPhase, reservedBy, reserved, checks, refusal, inPhase}
-use Rattle.model.specs.Machine.{accepted, afterRefusal, carried}
+use Rattle.model.specs.Refusals.{refusalNumber, WrongPhase, reservedBy, reserved, refusal, inPhase}
+use Rattle.model.specs.Machine.{checks, accepted, afterRefusal, carried}
 use Rattle.model.proofs.Made.{gets-writes}
 use Rattle.model.proofs.Room.{reserves}
 use Rattle.model.proofs.Ranges.{good-sized}

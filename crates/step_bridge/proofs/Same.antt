@@ -11,9 +11,9 @@ use lib.Dec.{eqb, ltb}
 use borrow.Author.Tests.{eq-eqb, ne-eqb, lt-ltb, le-ltb}
 use Rattle.base_limits.specs.Limits.{mostLive}
 use Rattle.model.specs.Store as model
-use Rattle.model.specs.Refusals.{Step as Asked, Refusal, NoSuch, WrongPhase, refusalNumber, placeOf, checks, refusal, found}
+use Rattle.model.specs.Refusals.{Step as Asked, Refusal, NoSuch, WrongPhase, refusalNumber, placeOf, refusal, found}
 use Rattle.model.specs.Machine as machine
-use Rattle.model.specs.Machine.{gives, lentAfter, carried, afterRefusal, stepIn}
+use Rattle.model.specs.Machine.{checks, gives, lentAfter, carried, afterRefusal, stepIn}
 use Rattle.model.proofs.Move.{place-number}
 use Rattle.base_protocol.specs.declared.Step.{Step}
 use Rattle.base_protocol.specs.declared.Answer.{Answer}

@@ -16,8 +16,8 @@ use Rattle.base_lists.specs.Table.{update}
 use Rattle.model.specs.Store.{phaseOpen, phaseInstalled}
 use Rattle.model.specs.Store as model
 use Rattle.model.specs.Steps as does
-use Rattle.model.specs.Refusals.{refusalNumber, Step as Asked, WrongPhase, Marked, NoRow, ManyWrites, checks, refusal, inPhase, txnOf, writeChecks}
-use Rattle.model.specs.Machine.{gives, accepted, afterRefusal, carried}
+use Rattle.model.specs.Refusals.{refusalNumber, Step as Asked, WrongPhase, Marked, NoRow, ManyWrites, refusal, inPhase, txnOf, writeChecks}
+use Rattle.model.specs.Machine.{gives, checks, accepted, afterRefusal, carried}
 use Rattle.model.specs.Machine as machine
 use Rattle.base_protocol.specs.declared.Step.the-variants as ask
 use Rattle.base_protocol.specs.declared.Answer.the-variants as tell
