@@ -75,7 +75,8 @@ wordsTurned w s = record {
 
 -- 16 where the shape is wrong, with all as found; else the step
 unfoldable pub turnOf : Words → Step → Left
-turnOf w s = cond (shapeOf w) (record { answer = turnedBy w s .stepped .answer; words = wordsTurned w s }) (record { answer = tell.Refused (refusalNumber WrongShape); words = w })
+turnOf w s = cond (shapeOf w) (record { answer = turnedBy w s .stepped .answer; words = wordsTurned w s })
+    (record { answer = tell.Refused (refusalNumber WrongShape); words = w })
 
 -- the record goes back to its place, and clock and last used pointer are taken over
 abbrev pub placedOf : Machine → ℕ → Stepped → Turned

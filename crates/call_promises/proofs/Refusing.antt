@@ -193,7 +193,8 @@ module _ (z : Sizes) (t : Transaction) (clock used : ℕ) (b : Tables) where
 
   validate-kept : (o : Others) (n : ℕ) → KeptBy (ask.Validate n) (doneBy z o t clock used (ask.Validate n) b)
   unfolding validateOf
-  validate-kept o n = guard (wrongPhase t phaseOpen) (λ e. rw e (inl refl)) (λ e. rw e (guard (readsTakenIn (b .buckets) (b .lists) (t .slot) (t .«reads_n») (t .number)) (λ e. rw e (inl refl)) (λ e. rw e refl)))
+  validate-kept o n = guard (wrongPhase t phaseOpen) (λ e. rw e (inl refl))
+      (λ e. rw e (guard (readsTakenIn (b .buckets) (b .lists) (t .slot) (t .«reads_n») (t .number)) (λ e. rw e (inl refl)) (λ e. rw e refl)))
 
   prepare-kept : (o : Others) (n : ℕ) → KeptBy (ask.Prepare n) (doneBy z o t clock used (ask.Prepare n) b)
   unfolding prepareOf prepareWith

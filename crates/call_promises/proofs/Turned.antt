@@ -4,9 +4,9 @@ use Prim.Native.Nat.{ℕ, suc, _≤_, _<_}
 use mathlib.Core.Path.{_≡_, refl, sym, ap, subst, _∙_}
 use mathlib.Core.Bool.{Bool, true, false, cond, not}
 use mathlib.Core.Option.{none, some}
-use mathlib.Core.List.{List, []}
+use mathlib.Core.List.{List}
 use native.Mathlib.Omega.{arith}
-use lib.Dec.{eqb, ltb, leb}
+use lib.Dec.{eqb, leb}
 use lib.ListN.{length}
 use borrow.Author.Tests.{ne-eqb}
 use Rattle.base_limits.specs.Limits.{mostLive}
@@ -14,8 +14,8 @@ use Rattle.base_lists.specs.Table.{update}
 use Rattle.model.specs.Store as model
 use Rattle.model.specs.Store.{rank, phaseInstalled, phaseEnded}
 use Rattle.model.specs.Steps.{release, freed}
-use Rattle.model.specs.Refusals.{refusalNumber, WrongPhase, refusal, inPhase, txnOf}
-use Rattle.model.specs.Machine.{gives, lentAfter, checks, accepted, afterRefusal, carried}
+use Rattle.model.specs.Refusals.{refusalNumber, WrongPhase, refusal}
+use Rattle.model.specs.Machine.{gives, lentAfter, accepted, afterRefusal, carried}
 use Rattle.model.specs.Machine as machine
 use Rattle.model.specs.Shape.{rightShape}
 use Rattle.base_protocol.specs.declared.Step.{Step}
@@ -126,14 +126,17 @@ module _ (w : Words) (z : Sized w) (g : Shaped w) (n : ℕ) where
       (unclaim-all-length (w .sizes .rows) v (w .tables .rows) rs) (free-all-length (w .sizes .buckets) v (w .tables .buckets) (freedList w q)) refl refl
 
   abort-turned : SameAs w (ask.Abort n) (turnedBy w (ask.Abort n))
-  unfolding checks refusal abortOf
-  abort-turned = by-place-as w z (ask.Abort n) refl (sweptMoved (w .sizes) (asker w (ask.Abort n) .number)) (asker-unswept w z (ask.Abort n)) (ltb (rank (txnOf (view w) n .phase)) phaseInstalled) [] refl
+  unfolding refusal abortOf
+  abort-turned = by-place-as w z (ask.Abort n) refl (sweptMoved (w .sizes) (asker w (ask.Abort n) .number)) (asker-unswept w z (ask.Abort n)) tt
       (λ l d e at.
       let q = standing w n in
-      asker-same w z (ask.Abort n) q at l _ _ (rw (freed-buckets w q z, ← late-test (rank (phaseView (txnAt w q .phase)))) (aborted-at l (live-at w n d e) (leb phaseInstalled (rank (phaseView (txnAt w q .phase)))))))
+      asker-same w z (ask.Abort n) q at l _ _
+      (rw (freed-buckets w q z, ← late-test (rank (phaseView (txnAt w q .phase))))
+      (aborted-at l (live-at w n d e) (leb phaseInstalled (rank (phaseView (txnAt w q .phase)))))))
 
   -- publish
-  published-at : standing w n < mostLive → 1 ≤ txnAt w (standing w n) .number → (b : Bool) → not (eqb (rank (phaseView (txnAt w (standing w n) .phase))) phaseEnded) ≡ b
+  published-at : standing w n < mostLive → 1 ≤ txnAt w (standing w n) .number → (b : Bool)
+      → not (eqb (rank (phaseView (txnAt w (standing w n) .phase))) phaseEnded) ≡ b
       → SameAt w (standing w n)
       (sweptMoved (w .sizes) (txnAt w (standing w n) .number)
       (inPublished
@@ -151,11 +154,13 @@ module _ (w : Words) (z : Sized w) (g : Shaped w) (n : ℕ) where
       (swept-freed w z q l a _ _ _ _ (holders-freed w z g q a) (claims-freed w z g q a)) (rows-long w z q) (buckets-long w z q) refl refl
 
   publish-turned : SameAs w (ask.Publish n) (turnedBy w (ask.Publish n))
-  unfolding checks refusal publishStep publishOf
-  publish-turned = by-place-as w z (ask.Publish n) refl (sweptMoved (w .sizes) (asker w (ask.Publish n) .number)) (asker-unswept w z (ask.Publish n)) (inPhase (view w) n phaseEnded) [] refl
+  unfolding refusal publishStep publishOf
+  publish-turned = by-place-as w z (ask.Publish n) refl (sweptMoved (w .sizes) (asker w (ask.Publish n) .number)) (asker-unswept w z (ask.Publish n)) tt
       (λ l d e at.
       let q = standing w n in
-      asker-same w z (ask.Publish n) q at l _ _ (rw (stamped-is w z q, freed-is w z q (stamped w q)) (published-at l (live-at w n d e) (not (eqb (rank (phaseView (txnAt w q .phase))) phaseEnded)) refl)))
+      asker-same w z (ask.Publish n) q at l _ _
+      (rw (stamped-is w z q, freed-is w z q (stamped w q))
+      (published-at l (live-at w n d e) (not (eqb (rank (phaseView (txnAt w q .phase))) phaseEnded)) refl)))
 
 -- a step that ends no record is not swept
 turned-same : (w : Words) (s : Step) → ends s ≡ false → Same w s → SameAs w s (turnedBy w s)

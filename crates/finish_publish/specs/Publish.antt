@@ -19,7 +19,8 @@ use Rattle.txn_needs.specs.Holders.{freeAll, stampAll, unclaimAll}
 
 -- end: wrong phase; else Ended
 unfoldable pub endOf : Transaction → Answered
-endOf t = cond (not (eqb (rank (phaseView (t .phase))) phaseInstalled)) (refusedOf t (refusalNumber WrongPhase)) (record { answer = tell.Done; txn = withPhase t phase.Ended })
+endOf t = cond (not (eqb (rank (phaseView (t .phase))) phaseInstalled)) (refusedOf t (refusalNumber WrongPhase))
+    (record { answer = tell.Done; txn = withPhase t phase.Ended })
 
 -- the posting of one row, and of every pending one, follows its new key
 unfoldable pub postedOne : List ℕ → ℕ → ℕ → List ℕ → ℕ → List ℕ

@@ -72,11 +72,13 @@ record KeepsAt (c₁ : Chains) (x₁ : Txn) (s : Store) : Type 0 where
 
 module _ (c₁ : Chains) (x₁ : Txn) where
   -- the rows that get a version are those that prepare saw
-  gets-as-seen : (z : Sizes) (c : Chains) (x : Txn) → Keeps c₁ x₁ z c x → rank (x .phase) ≡ phasePrepared → versionRows z c (x .writes) ≡ versionRows z c₁ (x₁ .writes)
+  gets-as-seen : (z : Sizes) (c : Chains) (x : Txn) → Keeps c₁ x₁ z c x → rank (x .phase) ≡ phasePrepared
+      → versionRows z c (x .writes) ≡ versionRows z c₁ (x₁ .writes)
   gets-as-seen z c x k a = ap (versionRows z c) (k .writes-are) ∙ versionRows-same z c₁ c x₁ (λ r w. k .waits a r w .key-is)
 
   -- and those that got one
-  made-as-seen : (z : Sizes) (c : Chains) (x : Txn) → Keeps c₁ x₁ z c x → ((r : ℕ) → 1 ≤ c₁ .head r → c₁ .xmin (c₁ .head r) ≢ x₁ .number) → phaseInstalled ≤ rank (x .phase) → madeRows z c (x₁ .number) (x₁ .writes) ≡ versionRows z c₁ (x₁ .writes)
+  made-as-seen : (z : Sizes) (c : Chains) (x : Txn) → Keeps c₁ x₁ z c x → ((r : ℕ) → 1 ≤ c₁ .head r → c₁ .xmin (c₁ .head r) ≢ x₁ .number)
+      → phaseInstalled ≤ rank (x .phase) → madeRows z c (x₁ .number) (x₁ .writes) ≡ versionRows z c₁ (x₁ .writes)
   unfolding madeRows versionRows
   made-as-seen z c x k none-own a = pick-among _ _ 0 (z .rows) forth back
     where
@@ -94,10 +96,12 @@ module _ (c₁ : Chains) (x₁ : Txn) where
   keeps-other s i x w e j = update-elim (λ y. y .number ≡ x₁ .number → Keeps c₁ x₁ (s .sizes) (s .chains) y) (s .txns) i x j (λ d p. absurd (e p)) (λ d p. w .here j p)
 
   -- one goes on that is not yet Prepared, so it is another
-  keeps-early : (s : Store) (i : ℕ) (x : Txn) → KeepsAt c₁ x₁ s → x .number ≡ s .txns i .number → rank (s .txns i .phase) < phasePrepared → (j : ℕ) → update (s .txns) i x j .number ≡ x₁ .number → Keeps c₁ x₁ (s .sizes) (s .chains) (update (s .txns) i x j)
+  keeps-early : (s : Store) (i : ℕ) (x : Txn) → KeepsAt c₁ x₁ s → x .number ≡ s .txns i .number → rank (s .txns i .phase) < phasePrepared → (j : ℕ)
+      → update (s .txns) i x j .number ≡ x₁ .number → Keeps c₁ x₁ (s .sizes) (s .chains) (update (s .txns) i x j)
   keeps-early s i x w e a = keeps-other s i x w (λ p. omega (arith, w .here i (sym e ∙ p) .late))
 
-  keeps-end : (s : Store) (i : ℕ) → KeepsAt c₁ x₁ s → rank (s .txns i .phase) ≡ phaseInstalled → let x = withPhase (s .txns i) Ended in (j : ℕ) → update (s .txns) i x j .number ≡ x₁ .number → Keeps c₁ x₁ (s .sizes) (s .chains) (update (s .txns) i x j)
+  keeps-end : (s : Store) (i : ℕ) → KeepsAt c₁ x₁ s → rank (s .txns i .phase) ≡ phaseInstalled → let x = withPhase (s .txns i) Ended in (j : ℕ)
+      → update (s .txns) i x j .number ≡ x₁ .number → Keeps c₁ x₁ (s .sizes) (s .chains) (update (s .txns) i x j)
   keeps-end s i w a j = update-elim (λ y. y .number ≡ x₁ .number → Keeps c₁ x₁ (s .sizes) (s .chains) y) (s .txns) i (withPhase (s .txns i) Ended) j
       (λ d p. let k = w .here i p in record { writes-are = k .writes-are; late = omega arith; waits = λ b. absurd (omega arith); over = λ b. k .over (omega arith); stays = λ b. k .stays (omega arith) })
       (λ d p. w .here j p)

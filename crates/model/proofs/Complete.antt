@@ -81,7 +81,8 @@ module _ (s : Store) (n : Numbers (s .clock) (s .txns)) (h : HoldersAt s) (w : W
       head-key : keyAt (s .chains) (s .chains .head r) ≡ some k
       head-key = key-up (s .chains) (s .txns i .snapshot) k (untold told i k l (omega (arith, ap rank ph)) below (inr mine)) (s .chains .head r) _ (version-finds (s .chains) (s .txns i .snapshot) ch r) e
 
-      posted : (s .index .posted r ≡ keyAt (s .chains) (s .chains .head r)) ⊎ ((j : ℕ) × Live (s .txns j) × (phaseInstalled ≤ rank (s .txns j .phase)) × Made (s .sizes) (s .chains) (s .txns j) r) → s .index .posted r ≡ some k
+      posted : (s .index .posted r ≡ keyAt (s .chains) (s .chains .head r))
+          ⊎ ((j : ℕ) × Live (s .txns j) × (phaseInstalled ≤ rank (s .txns j .phase)) × Made (s .sizes) (s .chains) (s .txns j) r) → s .index .posted r ≡ some k
       posted (inl f) = f ∙ head-key
       posted (inr o) =
           let v = needs-new (s .sizes) (s .index .posted) (s .txns (o .0)) r k (made-writes (s .sizes) (s .chains) (s .txns (o .0)) r (o .3)) (sym (w .mine (o .0) r (o .1) (o .2) (o .3) .key-is) ∙ head-key) in
@@ -95,7 +96,8 @@ module _ (s : Store) (n : Numbers (s .clock) (s .txns)) (h : HoldersAt s) (w : W
   key-which (some k) b (inl e) = (k, refl, e)
   key-which (some k) b (inr m) = absurd m
 
-  pub changed-wants : (i b : ℕ) → Live (s .txns i) → phaseInstalled ≤ rank (s .txns i .phase) → Among b (changedBuckets s (s .txns i)) → Wants (s .sizes) (s .index .posted) (s .txns i) b
+  pub changed-wants : (i b : ℕ) → Live (s .txns i) → phaseInstalled ≤ rank (s .txns i .phase) → Among b (changedBuckets s (s .txns i))
+      → Wants (s .sizes) (s .index .posted) (s .txns i) b
   unfolding changedBuckets
   changed-wants i b l a m =
       let o = join-which (λ q. cond (sameKey (keyBefore (s .chains) q) (newKey (s .txns i) q)) [] (keyBuckets (s .sizes) (keyBefore (s .chains) q) ++ keyBuckets (s .sizes) (newKey (s .txns i) q))) (madeRows (s .sizes) (s .chains) (s .txns i .number) (s .txns i .writes)) b m in

@@ -163,14 +163,17 @@ the-one s t e w = go (ltb p (w .0)) refl (ltb (w .0) p) refl
     go false f false g = omega (arith, ltb-false p (w .0) f, ltb-false (w .0) p g)
 
 -- the number of a step that names a transaction, off its tests
-pub number-found : (s : Store) (a : Step) → Names a → number s a ≡ code ((not (rightShape s), WrongShape) ∷ found s (actor a) (rule a .right (phase-of s a)) (own-tests s a))
+pub number-found : (s : Store) (a : Step) → Names a
+    → number s a ≡ code ((not (rightShape s), WrongShape) ∷ found s (actor a) (rule a .right (phase-of s a)) (own-tests s a))
 number-found s a named = number-is s a ∙ ap (λ cs. code ((not (rightShape s), WrongShape) ∷ cs)) (ruled s a .finds-first named)
 
 -- past 16, 4 and 5: the shape is right, the transaction lives and its phase is right
-pub past : (n : ℕ) {P : Type 0} (s : Store) (a : Step) → Names a → (n ≢ 16) × (n ≢ 4) × (n ≢ 5) → (Lives s (actor a) → code (own-tests s a) ≡ n ↔ P) → number s a ≡ n ↔ Ready s a and P
+pub past : (n : ℕ) {P : Type 0} (s : Store) (a : Step) → Names a → (n ≢ 16) × (n ≢ 4) × (n ≢ 5) → (Lives s (actor a) → code (own-tests s a) ≡ n ↔ P)
+    → number s a ≡ n ↔ Ready s a and P
 past n s a named d later =
     let w = skip n _ WrongShape _ (shape-test s) (λ e. d .0 (sym e))
-        (λ sh. skip n _ NoSuch _ (lives-test s (actor a)) (λ e. d .1 (sym e)) (λ l. skip n _ WrongPhase _ (opposite (ruled s a .phase-test)) (λ e. d .2 (sym e)) (λ ph. later l))) in
+    (λ sh. skip n _ NoSuch _ (lives-test s (actor a)) (λ e. d .1 (sym e))
+    (λ l. skip n _ WrongPhase _ (opposite (ruled s a .phase-test)) (λ e. d .2 (sym e)) (λ ph. later l))) in
     rw (number-found s a named) (λ e. let q = w .0 e in ((q .0, q .1 .0, q .1 .1 .0), q .1 .1 .1), λ q. w .1 (q .0 .0, (q .0 .1, (q .0 .2, q .1))))
 
 -- held, or claimed, by another than the one who acts
@@ -185,7 +188,9 @@ pub row-taken : (s : Store) (t : ℕ) → Lives s t → Test (rowsClaimed s (txn
 row-taken s t l = any _ (pendingRows (s .sizes) (txnOf s t .writes)) (λ r. another (s .held .claim) (txnOf s t .number) t r (lives-number s t l))
 
 -- capture's bucket is another's; prepare's needed buckets or pending rows are
-pub bucket-test : (s : Store) (t k : ℕ) → Lives s t → Test (byAnother (s .held .holder) (txnOf s t .number) (bucketFor s k)) (ByAnother (s .held .holder) t (bucketFor s k)) (Free (s .held .holder) t (bucketFor s k))
+pub bucket-test : (s : Store) (t k : ℕ) → Lives s t
+    → Test (byAnother (s .held .holder) (txnOf s t .number) (bucketFor s k)) (ByAnother (s .held .holder) t (bucketFor s k))
+    (Free (s .held .holder) t (bucketFor s k))
 bucket-test s t k l = another (s .held .holder) (txnOf s t .number) t (bucketFor s k) (lives-number s t l)
 
 pub needed-test : (s : Store) (t : ℕ) → Lives s t → let bs = neededBuckets s (txnOf s t) in

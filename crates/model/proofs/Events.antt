@@ -15,12 +15,13 @@ use Rattle.base_lists.specs.Table.{update, updateAll, update-same, update-other
 use Rattle.base_lists.proofs.ListLaws.{and-l, and-r, and-both, same-test, member-among, among-member, pick-which, which-pick, rising-above, pick-rising}
 use Rattle.model.specs.Store.{Sizes, Txn, Store, fresh, rank, phaseEnded, sameKey}
 use Rattle.model.specs.Steps.{postedRows, pendingRows, keyBefore, newKey, keyBuckets, repost, changedBuckets, published, madeRows}
-use Rattle.model.specs.Refusals.{Step, begin, capture, collect, rows, write, prepare, install, end, publish, validate, abort, txnOf}
+use Rattle.model.specs.Refusals.{Step, rows, publish, txnOf}
 use Rattle.model.specs.Machine.{at, accepted, step, run, canOpen}
 use Rattle.model.specs.Upstream.{Event, Postings, postingsOf, remove, insert, postingStep, postingReplay, liveRows, Coherent, stampAt, rawCandidates}
 use Rattle.model.specs.History.{eventOf, addEvents, stepEvents, historyOver, history, changing}
 use Rattle.model.specs.Seeing.{Live}
 use Rattle.model.specs.Given.{number}
+use Rattle.model.proofs.Ruled.{Publishes, may-publish, quiet, ruled}
 use Rattle.model.proofs.Made.{made-writes}
 use Rattle.model.proofs.Written.{posted-new}
 use Rattle.model.proofs.Good.{Good, sizes-run, good-run, opened-good}
@@ -186,18 +187,11 @@ published-or-not s t es g h = go (eqb (number s (publish t)) 0) refl
     go false e = recorded-kept s (step s (publish t) .store) es (index-refused s (publish t) (eqb-false _ _ e)) (sizes-kept s (publish t)) h
 
 recorded-step : (s : Store) (a : Step) (es : List Event) → Good s → Recorded s es → Recorded (step s a .store) (stepEvents s a es)
-unfolding stepEvents accepted
-recorded-step s begin es g h = recorded-kept s (step s begin .store) es (index-kept s begin refl) (sizes-kept s begin) h
-recorded-step s (capture t k) es g h = recorded-kept s (step s (capture t k) .store) es (index-kept s (capture t k) refl) (sizes-kept s (capture t k)) h
-recorded-step s (collect t) es g h = recorded-kept s (step s (collect t) .store) es (index-kept s (collect t) refl) (sizes-kept s (collect t)) h
-recorded-step s (rows t room) es g h = recorded-kept s (step s (rows t room) .store) es (index-kept s (rows t room) refl) (sizes-kept s (rows t room)) h
-recorded-step s (write t r c) es g h = recorded-kept s (step s (write t r c) .store) es (index-kept s (write t r c) refl) (sizes-kept s (write t r c)) h
-recorded-step s (prepare t) es g h = recorded-kept s (step s (prepare t) .store) es (index-kept s (prepare t) refl) (sizes-kept s (prepare t)) h
-recorded-step s (install t) es g h = recorded-kept s (step s (install t) .store) es (index-kept s (install t) refl) (sizes-kept s (install t)) h
-recorded-step s (end t) es g h = recorded-kept s (step s (end t) .store) es (index-kept s (end t) refl) (sizes-kept s (end t)) h
-recorded-step s (publish t) es g h = published-or-not s t es g h
-recorded-step s (validate t) es g h = recorded-kept s (step s (validate t) .store) es (index-kept s (validate t) refl) (sizes-kept s (validate t)) h
-recorded-step s (abort t) es g h = recorded-kept s (step s (abort t) .store) es (index-kept s (abort t) refl) (sizes-kept s (abort t)) h
+recorded-step s a es g h = by a (ruled s a .publishes)
+  where
+    by : (b : Step) → Publishes s b → Recorded (step s b .store) (stepEvents s b es)
+    by b (may-publish t) = published-or-not s t es g h
+    by b (quiet i e) = rw (e es) (recorded-kept s (step s b .store) es (index-kept s b i) (sizes-kept s b) h)
 
 recorded-run : (s : Store) (es : List Event) (more : List Step) → Good s → Recorded s es → Recorded (run s more) (historyOver es s more)
 unfolding run historyOver

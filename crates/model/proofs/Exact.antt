@@ -35,18 +35,22 @@ module _ (n : ℕ) where
   -- 16, 4, 5, and then the step's own
   named-lines : {P : Type 0} (s : Store) (a : Step) → Names a → (Lives s (actor a) → code (own-tests s a) ≡ n ↔ P) → number s a ≡ n ↔ named s a n P
   named-lines s a names later = rw (number-found s a names)
-      (line _ WrongShape _ (shape-test s) (λ sh. line _ NoSuch _ (lives-test s (actor a)) (λ l. line _ WrongPhase _ (opposite (ruled s a .phase-test)) (λ ph. later l))))
+      (line _ WrongShape _ (shape-test s)
+      (λ sh. line _ NoSuch _ (lives-test s (actor a)) (λ l. line _ WrongPhase _ (opposite (ruled s a .phase-test)) (λ ph. later l))))
 
 -- each step gives n exactly where its table does
 pub given-exactly : (s : Store) (a : Step) (n : ℕ) → number s a ≡ n ↔ Given s a n
 unfolding checks
 given-exactly s begin n = rw (number-is s begin)
-    (line n _ _ _ (shape-test s) (λ sh. line n _ _ _ (at-most mostLive (liveCount (s .txns))) (λ few. line n _ _ _ (less lastNumber (s .clock + liveCount (s .txns) + 2)) (λ left. no-line n))))
+    (line n _ _ _ (shape-test s) (λ sh. line n _ _ _ (at-most mostLive (liveCount (s .txns)))
+    (λ few. line n _ _ _ (less lastNumber (s .clock + liveCount (s .txns) + 2)) (λ left. no-line n))))
 given-exactly s (capture t k) n = named-lines n s (capture t k) tt (λ l.
-    line n _ _ _ (itself (txnOf s t .marked)) (λ m. line n _ _ _ (bucket-test s t k l) (λ f. line n _ _ _ (stale-test s t k l) (λ d. line n _ _ _ (read-test s t k) (λ o. no-line n)))))
+    line n _ _ _ (itself (txnOf s t .marked))
+    (λ m. line n _ _ _ (bucket-test s t k l) (λ f. line n _ _ _ (stale-test s t k l) (λ d. line n _ _ _ (read-test s t k) (λ o. no-line n)))))
 given-exactly s (collect t) n = named-lines n s (collect t) tt (λ l. no-line n)
 given-exactly s (rows t room) n = named-lines n s (rows t room) tt (λ l.
-    line n _ _ _ (less (min room mostRows) (length (foundRows s (txnOf s t)))) (λ f. line n _ _ _ (less mostRecords (length (recordsAfter s (txnOf s t)))) (λ o. no-line n)))
+    line n _ _ _ (less (min room mostRows) (length (foundRows s (txnOf s t))))
+    (λ f. line n _ _ _ (less mostRecords (length (recordsAfter s (txnOf s t)))) (λ o. no-line n)))
 given-exactly s (write t r c) n = named-lines n s (write t r c) tt (λ l. line n _ _ _ (itself (txnOf s t .marked))
     (λ m. line n _ _ _ (opposite (less r (s .sizes .rows))) (λ i. line n _ _ _ (at-most mostWrites (length (txnOf s t .writes))) (λ few. no-line n))))
 given-exactly s (prepare t) n = named-lines n s (prepare t) tt (λ l. line n _ _ _ (needed-test s t l)

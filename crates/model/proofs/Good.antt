@@ -56,7 +56,8 @@ sizes-move s s′ (did-publish i a b) = refl
 sizes-move s s′ (did-abort i a b) = refl
 
 -- at an accepted prepare the pending rows are claimed by nobody, so they are posted with their old keys
-unclaimed : (s : Store) → Good s → (i r : ℕ) → Live (s .txns i) → rank (s .txns i .phase) ≡ phaseOpen → CanPrepare s i → Writes (s .sizes) (s .txns i) r → s .held .claim r ≡ 0
+unclaimed : (s : Store) → Good s → (i r : ℕ) → Live (s .txns i) → rank (s .txns i .phase) ≡ phaseOpen → CanPrepare s i → Writes (s .sizes) (s .txns i) r
+    → s .held .claim r ≡ 0
 unclaimed s g i r l a c w = free (Claims (s .sizes)) (claims-busy (s .sizes)) (s .held .claim) (s .clock) (s .txns) (g .numbers) (g .holders .claims) i r l (λ v. omega (arith, v .0)) (none-each _ (pendingRows (s .sizes) (s .txns i .writes)) (c .rows-free) r w)
 
 pub good-move : (s s′ : Store) {a : ℕ} → Good s → Move s a s′ → Good s′
@@ -127,7 +128,9 @@ module _ (s : Store) (g : Good s) (i : ℕ) (l : Live (s .txns i)) where
       headed : (r : ℕ) → Made (s .sizes) (s .chains) (s .txns i) r → headedBy (s .chains) (s .txns i .number) r ≡ true
       headed r m = let p = made-head (s .sizes) (s .chains) (s .txns i) r m in and-both _ _ (le-leb _ _ (p .0)) (eq-eqb _ _ (p .1))
 
-      go : (b : Bool) → ltb (rank (s .txns i .phase)) phaseInstalled ≡ b → b || all-of (λ r. headedBy (s .chains) (s .txns i .number) r || not (getsVersion (s .chains) (s .txns i .writes) r)) (pendingRows (s .sizes) (s .txns i .writes)) ≡ true
+      go : (b : Bool) → ltb (rank (s .txns i .phase)) phaseInstalled ≡ b
+          → b || all-of (λ r. headedBy (s .chains) (s .txns i .number) r || not (getsVersion (s .chains) (s .txns i .writes) r))
+          (pendingRows (s .sizes) (s .txns i .writes)) ≡ true
       go true e = refl
       go false e = each-all (λ r. headedBy (s .chains) (s .txns i .number) r || not (getsVersion (s .chains) (s .txns i .writes) r)) (pendingRows (s .sizes) (s .txns i .writes))
           (λ r w. ⊎-elim (λ m. or-left (headedBy (s .chains) (s .txns i .number) r) (not (getsVersion (s .chains) (s .txns i .writes) r)) (headed r m)) (λ q. or-right (headedBy (s .chains) (s .txns i .number) r) (not (getsVersion (s .chains) (s .txns i .writes) r)) (rw (no-gets (s .sizes) (s .chains) (s .txns i) r q))) (g .written .made-or-nothing i r l (ltb-false _ _ e) w))

@@ -57,7 +57,8 @@ needs-posted : (z : Sizes) (po po′ : ℕ → Option ℕ) (x : Txn) → ((r : �
 unfolding needs
 needs-posted z po po′ x h = ap (λ bs. readBuckets x ++ bs) (join-same (λ r. keyBuckets z (po r) ++ keyBuckets z (newKey x r)) (λ r. keyBuckets z (po′ r) ++ keyBuckets z (newKey x r)) (pendingRows z (x .writes)) (λ r m. rw (h r m)))
 
-wants-posted : (z : Sizes) (po po′ : ℕ → Option ℕ) (y : Txn) (b : ℕ) → (phasePrepared ≤ rank (y .phase) → needs z po y ≡ needs z po′ y) → Wants z po y b → Wants z po′ y b
+wants-posted : (z : Sizes) (po po′ : ℕ → Option ℕ) (y : Txn) (b : ℕ) → (phasePrepared ≤ rank (y .phase) → needs z po y ≡ needs z po′ y) → Wants z po y b
+    → Wants z po′ y b
 wants-posted z po po′ y b h (inl w) = inl w
 wants-posted z po po′ y b h (inr w) = inr (w .0, rw (h (w .0)) at (w .1))
 
@@ -80,14 +81,16 @@ module _ (s : Store) (i : ℕ) (n : Numbers (s .clock) (s .txns)) (g : HoldersAt
   pub one-bucket : (j k b : ℕ) → W (s .txns j) b → W (s .txns k) b → j ≡ k
   one-bucket j k b v w = one-wanter W (wants-busy _ _) (s .held .holder) (s .clock) (s .txns) n (g .buckets) j k b v w
 
-  holders-quiet : (x : Txn) → rank (s .txns i .phase) ≢ phaseHolding → rank (s .txns i .phase) < phasePrepared → rank (x .phase) ≢ phaseHolding → rank (x .phase) < phasePrepared → Holders (s .sizes) (s .held) (s .index .posted) (update (s .txns) i x)
+  holders-quiet : (x : Txn) → rank (s .txns i .phase) ≢ phaseHolding → rank (s .txns i .phase) < phasePrepared → rank (x .phase) ≢ phaseHolding
+      → rank (x .phase) < phasePrepared → Holders (s .sizes) (s .held) (s .index .posted) (update (s .txns) i x)
   holders-quiet x a b c d = record {
     buckets = owned-quiet W (wants-busy _ _) (s .held .holder) (s .clock) (s .txns) n (g .buckets) i x (wants-none _ _ _ a b) (wants-none _ _ _ c d);
     claims = owned-quiet (Claims (s .sizes)) (claims-busy _) (s .held .claim) (s .clock) (s .txns) n (g .claims) i x (claims-none (s .sizes) (s .txns i) b) (claims-none (s .sizes) x d);
   }
 
   -- past prepare nothing is taken or freed until the record ends
-  holders-late : (ph : Phase) → phasePrepared ≤ rank (s .txns i .phase) → phasePrepared ≤ rank ph → Holders (s .sizes) (s .held) (s .index .posted) (update (s .txns) i (withPhase (s .txns i) ph))
+  holders-late : (ph : Phase) → phasePrepared ≤ rank (s .txns i .phase) → phasePrepared ≤ rank ph
+      → Holders (s .sizes) (s .held) (s .index .posted) (update (s .txns) i (withPhase (s .txns i) ph))
   unfolding needs readBuckets
   holders-late ph a b = record {
     buckets = owned-same W (wants-busy _ _) (s .held .holder) (s .clock) (s .txns) n (g .buckets) i (withPhase (s .txns i) ph) refl
@@ -115,7 +118,8 @@ module _ (s : Store) (i : ℕ) (n : Numbers (s .clock) (s .txns)) (g : HoldersAt
   }
 
   -- the posted key of a pending row is the old one at prepare
-  holders-prepare : Live (s .txns i) → rank (s .txns i .phase) ≡ phaseOpen → CanPrepare s i → ((r : ℕ) → Writes (s .sizes) (s .txns i) r → s .index .posted r ≡ oldKey (s .chains) r) → HoldersAt (prepared s i)
+  holders-prepare : Live (s .txns i) → rank (s .txns i .phase) ≡ phaseOpen → CanPrepare s i
+      → ((r : ℕ) → Writes (s .sizes) (s .txns i) r → s .index .posted r ≡ oldKey (s .chains) r) → HoldersAt (prepared s i)
   unfolding needs readBuckets
   holders-prepare l r c h =
       let e = needed-needs s (s .txns i) h in
@@ -139,11 +143,14 @@ module _ (s : Store) (i : ℕ) (n : Numbers (s .clock) (s .txns)) (g : HoldersAt
   }
 
   -- the rows of another that is past `prepare` stay posted as they are
-  pub posted-kept : phasePrepared ≤ rank (s .txns i .phase) → (j r : ℕ) → j ≢ i → phasePrepared ≤ rank (s .txns j .phase) → Writes (s .sizes) (s .txns j) r → published s i .index .posted r ≡ s .index .posted r
+  pub posted-kept : phasePrepared ≤ rank (s .txns i .phase) → (j r : ℕ) → j ≢ i → phasePrepared ≤ rank (s .txns j .phase) → Writes (s .sizes) (s .txns j) r
+      → published s i .index .posted r ≡ s .index .posted r
   posted-kept a j r d b w = repost-elim (λ o. o ≡ s .index .posted r) (s .txns i) (pendingRows (s .sizes) (s .txns i .writes)) (s .index .posted) r (λ m. absurd (d (one-claim j i r (b, w) (a, m)))) (λ m. refl)
 
-  late-needs : rank (s .txns i .phase) ≡ phaseEnded → (j : ℕ) → phasePrepared ≤ rank (published s i .txns j .phase) → needs (s .sizes) (s .index .posted) (published s i .txns j) ≡ needs (s .sizes) (published s i .index .posted) (published s i .txns j)
-  late-needs a j = update-elim (λ y. phasePrepared ≤ rank (y .phase) → needs (s .sizes) (s .index .posted) y ≡ needs (s .sizes) (published s i .index .posted) y) (s .txns) i noTxn j
+  late-needs : rank (s .txns i .phase) ≡ phaseEnded → (j : ℕ) → phasePrepared ≤ rank (published s i .txns j .phase)
+      → needs (s .sizes) (s .index .posted) (published s i .txns j) ≡ needs (s .sizes) (published s i .index .posted) (published s i .txns j)
+  late-needs a j = update-elim (λ y. phasePrepared ≤ rank (y .phase) → needs (s .sizes) (s .index .posted) y ≡ needs (s .sizes)
+      (published s i .index .posted) y) (s .txns) i noTxn j
       (λ e h. absurd (omega arith))
       (λ d h. needs-posted (s .sizes) (s .index .posted) (published s i .index .posted) (s .txns j) (λ r w. sym (posted-kept (omega arith) j r d h w)))
 
@@ -156,7 +163,9 @@ module _ (s : Store) (i : ℕ) (n : Numbers (s .clock) (s .txns)) (g : HoldersAt
     claims = f .claims;
   }
 
-pub holders-move : (s s′ : Store) {a : ℕ} → Numbers (s .clock) (s .txns) → HoldersAt s → ((i r : ℕ) → Live (s .txns i) → rank (s .txns i .phase) ≡ phaseOpen → CanPrepare s i → Writes (s .sizes) (s .txns i) r → s .index .posted r ≡ oldKey (s .chains) r)
+pub holders-move : (s s′ : Store) {a : ℕ} → Numbers (s .clock) (s .txns) → HoldersAt s
+    → ((i r : ℕ) → Live (s .txns i) → rank (s .txns i .phase) ≡ phaseOpen → CanPrepare s i → Writes (s .sizes) (s .txns i) r
+    → s .index .posted r ≡ oldKey (s .chains) r)
     → Move s a s′ → HoldersAt s′
 holders-move s s′ n g h (stay i) = g
 holders-move s s′ n g h (did-begin i a b c d) = holders-quiet s i n g _ (λ e. omega (arith, n .idle i b)) (omega (arith, n .idle i b)) (λ e. omega arith) (omega arith)

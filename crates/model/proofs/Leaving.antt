@@ -217,7 +217,8 @@ adds s t k = (
 )
 
 -- a write and validate leave the phase, which is Open
-still-open : (s : Store) (a : Step) (x : Txn) → withPhase x Open ≡ askerAfter s a (txnOf s (actor a)) → rank (x .phase) ≡ phaseOpen → x ≡ askerAfter s a (txnOf s (actor a))
+still-open : (s : Store) (a : Step) (x : Txn) → withPhase x Open ≡ askerAfter s a (txnOf s (actor a)) → rank (x .phase) ≡ phaseOpen
+    → x ≡ askerAfter s a (txnOf s (actor a))
 still-open s a x same e = ap (withPhase x) (open-is (x .phase) e) ∙ same
 
 pub leaves : (s : Store) (a : Step) → number s a ≡ 0 → Leaves s a (step s a .store)

@@ -69,7 +69,8 @@ alike s s′ g g′ e r to from = ap (λ c. content (keyAt c (versionOf c (snaps
     same = finds-one (s .chains) (snapshotNow s′) (s .chains .head r) _ _ (version-finds (s .chains) (snapshotNow s′) (g .chained) r) (finds-alike (s .chains) (snapshotNow s) (snapshotNow s′) r eyes (s .chains .head r) _ (heads refl) (version-finds (s .chains) (snapshotNow s) (g .chained) r))
 
 -- one place changes, and neither before nor after is Installed
-module _ (s s′ : Store) (i : ℕ) (x : Txn) (t-is : s′ .txns ≡ update (s .txns) i x) (c-is : s′ .chains ≡ s .chains) (old : Live (s .txns i) → rank (s .txns i .phase) ≢ phaseInstalled) (new : rank (x .phase) ≢ phaseInstalled) where
+module _ (s s′ : Store) (i : ℕ) (x : Txn) (t-is : s′ .txns ≡ update (s .txns) i x) (c-is : s′ .chains ≡ s .chains)
+    (old : Live (s .txns i) → rank (s .txns i .phase) ≢ phaseInstalled) (new : rank (x .phase) ≢ phaseInstalled) where
   hidden-to : (p : ℕ) → Hidden s p → Hidden s′ p
   hidden-to p h = rw (t-is, c-is) (h .0, rw other (h .1), rw other (h .2), rw other (h .3))
     where
@@ -79,8 +80,10 @@ module _ (s s′ : Store) (i : ℕ) (x : Txn) (t-is : s′ .txns ≡ update (s .
   hidden-from : (p : ℕ) → Hidden s′ p → Hidden s p
   hidden-from p h = go (h .0) (rw t-is at (h .1)) (rw t-is at (h .2)) (rw (t-is, c-is) at (h .3))
     where
-      go : (j : ℕ) → Live (update (s .txns) i x j) → rank (update (s .txns) i x j .phase) ≡ phaseInstalled → s .chains .xmin p ≡ update (s .txns) i x j .number → Hidden s p
-      go j = update-elim (λ y. Live y → rank (y .phase) ≡ phaseInstalled → s .chains .xmin p ≡ y .number → Hidden s p) (s .txns) i x j (λ e a b d. absurd (new b)) (λ e a b d. (j, a, b, d))
+      go : (j : ℕ) → Live (update (s .txns) i x j) → rank (update (s .txns) i x j .phase) ≡ phaseInstalled → s .chains .xmin p ≡ update (s .txns) i x j .number
+          → Hidden s p
+      go j = update-elim (λ y. Live y → rank (y .phase) ≡ phaseInstalled → s .chains .xmin p ≡ y .number → Hidden s p) (s .txns) i x j
+          (λ e a b d. absurd (new b)) (λ e a b d. (j, a, b, d))
 
   pub live-set : Good s → Good s′ → (r : ℕ) → liveRow s′ r ≡ liveRow s r
   live-set g g′ r = alike s s′ g g′ c-is r (λ p l u n. hidden-to p) (λ p l u n. hidden-from p)
@@ -157,11 +160,15 @@ module _ (s : Store) (i : ℕ) (g : Good s) (l : Live (s .txns i)) (a : rank (s 
 
 -- end: its versions are shown from then on
 module _ (s : Store) (i : ℕ) (g : Good s) (g′ : Good (becomes s i Ended)) (l : Live (s .txns i)) (a : rank (s .txns i .phase) ≡ phaseInstalled) where
-  ended-from : (p : ℕ) → Hidden (becomes s i Ended) p → (j : ℕ) × (j ≢ i) × Live (s .txns j) × (rank (s .txns j .phase) ≡ phaseInstalled) × (s .chains .xmin p ≡ s .txns j .number)
+  ended-from : (p : ℕ) → Hidden (becomes s i Ended) p
+      → (j : ℕ) × (j ≢ i) × Live (s .txns j) × (rank (s .txns j .phase) ≡ phaseInstalled) × (s .chains .xmin p ≡ s .txns j .number)
   ended-from p h = go (h .0) (h .1) (h .2) (h .3)
     where
-      go : (j : ℕ) → Live (becomes s i Ended .txns j) → rank (becomes s i Ended .txns j .phase) ≡ phaseInstalled → s .chains .xmin p ≡ becomes s i Ended .txns j .number → (k : ℕ) × (k ≢ i) × Live (s .txns k) × (rank (s .txns k .phase) ≡ phaseInstalled) × (s .chains .xmin p ≡ s .txns k .number)
-      go j = update-elim (λ y. Live y → rank (y .phase) ≡ phaseInstalled → s .chains .xmin p ≡ y .number → (k : ℕ) × (k ≢ i) × Live (s .txns k) × (rank (s .txns k .phase) ≡ phaseInstalled) × (s .chains .xmin p ≡ s .txns k .number)) (s .txns) i (withPhase (s .txns i) Ended) j
+      go : (j : ℕ) → Live (becomes s i Ended .txns j) → rank (becomes s i Ended .txns j .phase) ≡ phaseInstalled
+          → s .chains .xmin p ≡ becomes s i Ended .txns j .number
+          → (k : ℕ) × (k ≢ i) × Live (s .txns k) × (rank (s .txns k .phase) ≡ phaseInstalled) × (s .chains .xmin p ≡ s .txns k .number)
+      go j = update-elim (λ y. Live y → rank (y .phase) ≡ phaseInstalled → s .chains .xmin p ≡ y .number → (k : ℕ) × (k ≢ i) × Live (s .txns k) ×
+          (rank (s .txns k .phase) ≡ phaseInstalled) × (s .chains .xmin p ≡ s .txns k .number)) (s .txns) i (withPhase (s .txns i) Ended) j
           (λ e v b d. absurd (omega arith))
           (λ e v b d. (j, e, v, b, d))
 
@@ -203,7 +210,8 @@ module _ (s : Store) (i : ℕ) (g : Good s) (g′ : Good (becomes s i Ended)) (l
       (made-or-none s i g l a r w)
 
 -- any other step leaves every row as it was
-pub live-kept : (s s′ : Store) {b : ℕ} → Good s → Good s′ → Move s b s′ → ((i : ℕ) → Live (s .txns i) → rank (s .txns i .phase) ≡ phaseInstalled → s′ ≡ becomes s i Ended → ⊥) → (r : ℕ) → liveRow s′ r ≡ liveRow s r
+pub live-kept : (s s′ : Store) {b : ℕ} → Good s → Good s′ → Move s b s′
+    → ((i : ℕ) → Live (s .txns i) → rank (s .txns i .phase) ≡ phaseInstalled → s′ ≡ becomes s i Ended → ⊥) → (r : ℕ) → liveRow s′ r ≡ liveRow s r
 live-kept s s′ g g′ (stay i) no-end r = refl
 live-kept s s′ g g′ (did-begin i a b c d) no-end r = live-set s s′ i _ refl refl (λ l e. omega arith) (λ e. omega arith) g g′ r
 live-kept s s′ g g′ (did-mark i a b) no-end r = live-set s s′ i _ refl refl (λ l e. omega arith) (λ e. omega arith) g g′ r

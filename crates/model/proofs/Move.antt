@@ -17,7 +17,8 @@ use Rattle.model.specs.Store.{Ended, Write, Txn, Store, rank, phaseOpen,
 use Rattle.model.specs.Seeing.{live, Live}
 use Rattle.model.specs.Verdict.{verdictNumber, verdict}
 use Rattle.model.specs.Steps.{becomes, begun, stale, hasRead, captured, collected, recordsAfter, readDone, written, pendingRows, neededBuckets, prepared, installed, ended, published}
-use Rattle.model.specs.Refusals.{Refusal, Step, begin, capture, collect, rows, write, prepare, install, end, publish, validate, abort, placeOf, txnOf, liveCount, byAnother, versionsAfter, writeChecks, found, inPhase, refusal}
+use Rattle.model.specs.Contents.{Content}
+use Rattle.model.specs.Refusals.{Refusal, Step, begin, capture, collect, rows, write, prepare, install, end, publish, validate, abort, placeOf, txnOf, liveCount, byAnother, versionsAfter, found, refusal}
 use Rattle.model.specs.Shape.{rightShape}
 use Rattle.model.specs.Machine.{at, checks, accepted, actor, isStale, afterRefusal, carried, stepIn, step, run}
 use Rattle.model.proofs.Ruled.{unmarking}
@@ -54,7 +55,8 @@ pub data Move (s : Store) : ℕ → Store → Type 0 where
   did-capture : (i k : ℕ) → Live (s .txns i) → rank (s .txns i .phase) ≡ phaseOpen → CanCapture s i k → Move s i (captured s i k)
   did-collect : (i : ℕ) → Live (s .txns i) → rank (s .txns i .phase) ≡ phaseHolding → Move s i (collected s i)
   did-rows : (i : ℕ) → Live (s .txns i) → rank (s .txns i .phase) ≡ phaseCollected → length (recordsAfter s (s .txns i)) ≤ mostRecords → Move s i (readDone s i)
-  did-write : (i : ℕ) (w : Write) → Live (s .txns i) → rank (s .txns i .phase) ≡ phaseOpen → w .row < s .sizes .rows → length (s .txns i .writes) < mostWrites → Move s i (written s i w)
+  did-write : (i : ℕ) (w : Write) → Live (s .txns i) → rank (s .txns i .phase) ≡ phaseOpen → w .row < s .sizes .rows → length (s .txns i .writes) < mostWrites
+      → Move s i (written s i w)
   did-prepare : (i : ℕ) → Live (s .txns i) → rank (s .txns i .phase) ≡ phaseOpen → CanPrepare s i → Move s i (prepared s i)
   did-install : (i : ℕ) → Live (s .txns i) → rank (s .txns i .phase) ≡ phasePrepared → Move s i (installed s i)
   did-end : (i : ℕ) → Live (s .txns i) → rank (s .txns i .phase) ≡ phaseInstalled → Move s i (becomes s i Ended)
@@ -120,7 +122,8 @@ carried-move s a yea stales = go (refusal (checks s a)) refl
     go (some r) e = cond-elim (λ z. Move s (at s (actor a)) z) (isStale r) _ _ (λ t. stales r e t) (λ t. stay (at s (actor a)))
 
 -- a step with no stale stamp among its refusals
-plain-move : (s : Store) (a : Step) → unmarking (checks s a) ≡ true → (refusal (checks s a) ≡ none → Move s (at s (actor a)) (accepted s a .store)) → Move s (at s (actor a)) (stepIn s a .store)
+plain-move : (s : Store) (a : Step) → unmarking (checks s a) ≡ true → (refusal (checks s a) ≡ none → Move s (at s (actor a)) (accepted s a .store))
+    → Move s (at s (actor a)) (stepIn s a .store)
 plain-move s a p yea = carried-move s a yea (λ r e y. absurd (never-stale (checks s a) r p e y))
 
 capture-room : (a : Bool) (n : ℕ) → not a && leb mostIndexReads n ≡ false → (a ≡ true) ⊎ (n < mostIndexReads)
@@ -173,13 +176,14 @@ rows-move s t room = plain-move s (rows t room) refl λ e.
     let b = passes _ _ _ (a .1) in
     did-rows (at s t) (f .alive) (eqb-true _ _ (f .phase-is)) (ltb-false _ _ (b .0))
 
-write-move : (s : Store) (t : ℕ) (w : Write) → refusal (found s t (inPhase s t phaseOpen) (writeChecks s (txnOf s t) (w .row))) ≡ none → Move s (at s t) (written s (at s t) w)
-write-move s t w e =
+write-move : (s : Store) (t r : ℕ) (c : Content) → Move s (at s t) (stepIn s (write t r c) .store)
+unfolding checks accepted all-of
+write-move s t r c = plain-move s (write t r c) refl λ e.
     let f = finds s t _ _ e in
     let a = passes _ _ _ (f .rest) in
     let b = passes _ _ _ (a .1) in
-    let c = passes _ _ _ (b .1) in
-    did-write (at s t) w (f .alive) (eqb-true _ _ (f .phase-is)) (ltb-true _ _ (not-false _ (b .0))) (leb-false _ _ (c .0))
+    let d = passes _ _ _ (b .1) in
+    did-write (at s t) _ (f .alive) (eqb-true _ _ (f .phase-is)) (ltb-true _ _ (not-false _ (b .0))) (leb-false _ _ (d .0))
 
 in-move : (s : Store) (a : Step) → Move s (at s (actor a)) (stepIn s a .store)
 unfolding checks accepted all-of
@@ -187,7 +191,7 @@ in-move s begin = begin-move s
 in-move s (capture t k) = capture-move s t k
 in-move s (collect t) = plain-move s (collect t) refl λ e. let f = finds s t _ _ e in did-collect (at s t) (f .alive) (eqb-true _ _ (f .phase-is))
 in-move s (rows t room) = rows-move s t room
-in-move s (write t r c) = plain-move s (write t r c) refl λ e. write-move s t _ e
+in-move s (write t r c) = write-move s t r c
 in-move s (prepare t) = prepare-move s t
 in-move s (install t) = plain-move s (install t) refl λ e. let f = finds s t _ _ e in did-install (at s t) (f .alive) (eqb-true _ _ (f .phase-is))
 in-move s (end t) = plain-move s (end t) refl λ e. let f = finds s t _ _ e in did-end (at s t) (f .alive) (eqb-true _ _ (f .phase-is))

@@ -59,7 +59,8 @@ kept-all t = record { number-le = λ j. omega arith; number = λ j l. refl; snap
 
 -- a live transaction goes on
 pub kept-set : (t : ℕ → Txn) (i : ℕ) (x : Txn) → x .number ≡ t i .number → x .snapshot ≡ t i .snapshot → Live (t i)
-    → (rank (x .phase) < phaseEnded → rank (t i .phase) < phaseEnded) → (phaseInstalled ≤ rank (t i .phase) → phaseInstalled ≤ rank (x .phase)) → (phasePrepared ≤ rank (t i .phase) → x .writes ≡ t i .writes) → Kept t (update t i x)
+    → (rank (x .phase) < phaseEnded → rank (t i .phase) < phaseEnded) → (phaseInstalled ≤ rank (t i .phase) → phaseInstalled ≤ rank (x .phase)) →
+    (phasePrepared ≤ rank (t i .phase) → x .writes ≡ t i .writes) → Kept t (update t i x)
 kept-set t i x n v l r p w = record {
   number-le = λ j. update-elim (λ y. y .number ≤ t j .number) t i x j (λ e. rw e (omega arith)) (λ d. omega arith);
   number = λ j. update-elim (λ y. Live y → y .number ≡ t j .number) t i x j (λ e q. rw e n) (λ d q. refl);
@@ -77,9 +78,12 @@ kept-free t i = record {
   number = λ j. update-elim (λ y. Live y → y .number ≡ t j .number) t i noTxn j (λ e q. absurd (omega arith)) (λ d q. refl);
   snapshot = λ j. update-elim (λ y. Live y → y .snapshot ≡ t j .snapshot) t i noTxn j (λ e q. absurd (omega arith)) (λ d q. refl);
   idle = λ j h. update-elim (λ y. y .number ≡ 0 → rank (y .phase) ≡ phaseOpen) t i noTxn j (λ e q. refl) (λ d q. h q);
-  running = λ j. update-elim (λ y. Live y → rank (y .phase) < phaseEnded → rank (t j .phase) < phaseEnded) t i noTxn j (λ e q h. absurd (omega arith)) (λ d q h. h);
-  late = λ j. update-elim (λ y. Live y → phaseInstalled ≤ rank (t j .phase) → phaseInstalled ≤ rank (y .phase)) t i noTxn j (λ e q h. absurd (omega arith)) (λ d q h. h);
-  wrote = λ j. update-elim (λ y. Live y → phasePrepared ≤ rank (t j .phase) → y .writes ≡ t j .writes) t i noTxn j (λ e q h. absurd (omega arith)) (λ d q h. refl);
+  running = λ j. update-elim (λ y. Live y → rank (y .phase) < phaseEnded → rank (t j .phase) < phaseEnded) t i noTxn j (λ e q h. absurd (omega arith))
+      (λ d q h. h);
+  late = λ j. update-elim (λ y. Live y → phaseInstalled ≤ rank (t j .phase) → phaseInstalled ≤ rank (y .phase)) t i noTxn j (λ e q h. absurd (omega arith))
+      (λ d q h. h);
+  wrote = λ j. update-elim (λ y. Live y → phasePrepared ≤ rank (t j .phase) → y .writes ≡ t j .writes) t i noTxn j (λ e q h. absurd (omega arith))
+      (λ d q h. refl);
 }
 
 pub data Numbering (s s′ : Store) : Type 0 where
@@ -109,7 +113,8 @@ clock-move s s′ m = go (numbering s s′ m)
     go (kept p l) = l
 
 -- the active numbers are those of the live transactions that have not ended
-pub active-which : (t : ℕ → Txn) (n : ℕ) → Among n (activeNumbers t) → (j : ℕ) × (j < mostLive) × Live (t j) × (rank (t j .phase) < phaseEnded) × (n ≡ t j .number)
+pub active-which : (t : ℕ → Txn) (n : ℕ) → Among n (activeNumbers t)
+    → (j : ℕ) × (j < mostLive) × Live (t j) × (rank (t j .phase) < phaseEnded) × (n ≡ t j .number)
 unfolding activeNumbers
 active-which t n m =
     let w = map-among (λ i. t i .number) (pick (λ i. active (t i)) 0 mostLive) n m in
@@ -140,13 +145,17 @@ module _ (s : Store) (i : ℕ) (g : Numbers (s .clock) (s .txns)) (l : i < mostL
     active-few = active-few (s .txns) few;
   }
 
-  begun-knows : (a b : ℕ) → Live (begun s i .txns a) → Live (begun s i .txns b) → begun s i .txns b .number < begun s i .txns a .number → rank (begun s i .txns b .phase) < phaseEnded
+  begun-knows : (a b : ℕ) → Live (begun s i .txns a) → Live (begun s i .txns b) → begun s i .txns b .number < begun s i .txns a .number
+      → rank (begun s i .txns b .phase) < phaseEnded
       → Among (begun s i .txns b .number) (begun s i .txns a .snapshot .active)
-  begun-knows a b = update-elim (λ y. Live y → Live (begun s i .txns b) → begun s i .txns b .number < y .number → rank (begun s i .txns b .phase) < phaseEnded → Among (begun s i .txns b .number) (y .snapshot .active)) (s .txns) i (newTxn s) a
-      (λ e p. update-elim (λ y. Live y → y .number < s .clock → rank (y .phase) < phaseEnded → Among (y .number) (activeNumbers (s .txns))) (s .txns) i (newTxn s) b
+  begun-knows a b = update-elim (λ y. Live y → Live (begun s i .txns b) → begun s i .txns b .number < y .number → rank (begun s i .txns b .phase) < phaseEnded
+      → Among (begun s i .txns b .number) (y .snapshot .active)) (s .txns) i (newTxn s) a
+      (λ e p. update-elim (λ y. Live y → y .number < s .clock → rank (y .phase) < phaseEnded → Among (y .number) (activeNumbers (s .txns))) (s .txns) i
+      (newTxn s) b
       (λ f q u r. absurd (omega arith))
       (λ f q u r. which-active (s .txns) b (in-place (s .clock) (s .txns) g b q) q r))
-      (λ d p. update-elim (λ y. Live y → y .number < s .txns a .number → rank (y .phase) < phaseEnded → Among (y .number) (s .txns a .snapshot .active)) (s .txns) i (newTxn s) b
+      (λ d p. update-elim (λ y. Live y → y .number < s .txns a .number → rank (y .phase) < phaseEnded → Among (y .number) (s .txns a .snapshot .active))
+      (s .txns) i (newTxn s) b
       (λ f q u r. absurd (omega (arith, g .below a)))
       (λ f q u r. g .knows a b p q u r))
 

@@ -89,7 +89,15 @@ marked-answer s t k r m = rw (r .0, lives-test s t .if-no (r .1), ruled s (captu
 
 stale-answer : (s : Store) (t k : ℕ) → Ready s (capture t k) → (txnOf s t .marked ≡ false) and Free (s .held .holder) t (bucketFor s k) and (t ≤ stampFor s k) → step s (capture t k) .answer ≡ Refused Stale
 unfolding step stepIn carried checks refusal
-stale-answer s t k r p = rw (r .0, lives-test s t .if-no (r .1), ruled s (capture t k) .phase-test .if-yes (r .2), p .0, bucket-test s t k (r .1) .if-no (p .1 .0), stale-test s t k (r .1) .if-yes (p .1 .1))
+stale-answer s t k r p = rw (
+  r .0,
+  lives-test s t .if-no (r .1),
+  ruled s (capture t k) .phase-test .if-yes (r .2),
+  p .0,
+  bucket-test s t k (r .1) .if-no
+      (p .1 .0),
+  stale-test s t k (r .1) .if-yes (p .1 .1),
+)
 
 pub capture-marked : (s : Store) (t k : ℕ) → step s (capture t k) .answer ≡ Refused Marked ↔ Ready s (capture t k) and (txnOf s t .marked ≡ true)
 capture-marked s t k = (λ e. let w = capture-8 s t k .0 (ap answerNumber e) in (w .0, ⊎-elim (λ m. m) (λ p. absurd (apart (stale-answer s t k (w .0) p) e)) (w .1)), λ w. marked-answer s t k (w .0) (w .1))

@@ -42,7 +42,8 @@ owned-wants U W h t to from g = record {
   owner = λ b nz. let o = g .owner b nz in (o .0, o .1, to (o .0) b (o .2));
 }
 
-module _ (W : Txn → ℕ → Type 0) (busy : (y : Txn) (b : ℕ) → W y b → phaseHolding ≤ rank (y .phase)) (h : ℕ → ℕ) (clock : ℕ) (t : ℕ → Txn) (n : Numbers clock t) (g : Owned W h t) where
+module _ (W : Txn → ℕ → Type 0) (busy : (y : Txn) (b : ℕ) → W y b → phaseHolding ≤ rank (y .phase)) (h : ℕ → ℕ) (clock : ℕ) (t : ℕ → Txn) (n : Numbers clock t)
+    (g : Owned W h t) where
   pub wanter : (j b : ℕ) → W (t j) b → Live (t j)
   wanter j b w = elim (ℕ-discrete (t j .number) 0) [ yes e ↦ absurd (omega (arith, n .idle j e, busy (t j) b w)) | no d ↦ omega arith ]
 

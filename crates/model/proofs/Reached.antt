@@ -146,7 +146,16 @@ unfolding computes
 numbered = refl
 
 pub met-snapshot : Live (s₁ .txns 0) × ((w : ℕ) → Unpublished (s₁ .sizes) (s₁ .chains) (s₁ .txns w) 2 → seen (s₁ .txns 0 .snapshot) (s₁ .chains .xmin (s₁ .chains .head 2)) ≡ false)
-met-snapshot = (omega (arith, numbered), λ w u. absurd (omega (arith, u .1, ltb-true (rank (s₁ .txns w .phase)) phaseInstalled (none-late w (in-place _ _ (opened-good sizes 1 before opened (omega arith) .numbers) w (u .0))))))
+met-snapshot = (
+  omega (arith, numbered),
+  λ w u. absurd
+      (omega (
+        arith,
+        u .1,
+        ltb-true (rank (s₁ .txns w .phase)) phaseInstalled
+            (none-late w (in-place _ _ (opened-good sizes 1 before opened (omega arith) .numbers) w (u .0))),
+      )),
+)
   where
     opened : canOpen sizes 1 ≡ true
     opened = met .0

@@ -32,7 +32,8 @@ abbrev pub ReadingAt : Store → Type 0
 ReadingAt s = (j : ℕ) → Live (s .txns j) → Reading (s .sizes) (s .chains) (s .index .stamp) (s .txns j)
 
 -- neither Holding nor Collected
-quiet : (z : Sizes) (c : Chains) (stamp : ℕ → ℕ) (x : Txn) → rank (x .phase) ≢ phaseHolding → rank (x .phase) ≢ phaseCollected → (rank (x .phase) < phaseInstalled → (q : ReadRecord) → Among q (x .records) → q ≡ recordOf c (x .snapshot) (q .row)) → Reading z c stamp x
+quiet : (z : Sizes) (c : Chains) (stamp : ℕ → ℕ) (x : Txn) → rank (x .phase) ≢ phaseHolding → rank (x .phase) ≢ phaseCollected
+    → (rank (x .phase) < phaseInstalled → (q : ReadRecord) → Among q (x .records) → q ≡ recordOf c (x .snapshot) (q .row)) → Reading z c stamp x
 quiet z c stamp x a b h = record { captures = λ d k e. absurd (a (ap rank e)); collects = λ k e. absurd (b (ap rank e)); records-are = h }
 
 -- one place changes
@@ -43,7 +44,8 @@ module _ (s : Store) (i : ℕ) (g : ReadingAt s) (l : Live (s .txns i)) where
   reading-mark : Reading (s .sizes) (s .chains) (s .index .stamp) (markedTxn (s .txns i))
   reading-mark = let r = g i l in record { captures = r .captures; collects = r .collects; records-are = r .records-are }
 
-  reading-capture : (k : ℕ) → rank (s .txns i .phase) ≡ phaseOpen → CanCapture s i k → Reading (s .sizes) (s .chains) (s .index .stamp) (capturedTxn s (s .txns i) k)
+  reading-capture : (k : ℕ) → rank (s .txns i .phase) ≡ phaseOpen → CanCapture s i k
+      → Reading (s .sizes) (s .chains) (s .index .stamp) (capturedTxn s (s .txns i) k)
   reading-capture k a c = record {
     captures = λ b m e. held b m (cc) (cc);
     collects = λ m e. absurd (omega (arith, ap rank e));
@@ -53,7 +55,8 @@ module _ (s : Store) (i : ℕ) (g : ReadingAt s) (l : Live (s .txns i)) where
       held : (b m : ℕ) → b ≡ bucketOf (s .sizes) k → m ≡ k → (b ≡ bucketOf (s .sizes) m) × (s .index .stamp b < s .txns i .number) × (hasRead (capturedTxn s (s .txns i) k .reads) b ≡ true)
       held b m e f = (rw f e, rw e (c .old-stamp), rw e (addRead-has (s .txns i .reads) (bucketOf (s .sizes) k) (s .index .stamp (bucketOf (s .sizes) k))))
 
-  reading-collect : Chained (s .chains) → Numbers (s .clock) (s .txns) → HoldersAt s → WrittenAt s → ToldAt s → rank (s .txns i .phase) ≡ phaseHolding → Reading (s .sizes) (s .chains) (s .index .stamp) (collectedTxn s (s .txns i))
+  reading-collect : Chained (s .chains) → Numbers (s .clock) (s .txns) → HoldersAt s → WrittenAt s → ToldAt s → rank (s .txns i .phase) ≡ phaseHolding
+      → Reading (s .sizes) (s .chains) (s .index .stamp) (collectedTxn s (s .txns i))
   reading-collect ch n h w told a = record {
     captures = λ b m e. absurd (omega (arith, ap rank e));
     collects = λ m e. all m (cc);
@@ -81,11 +84,14 @@ module _ (s : Store) (i : ℕ) (g : ReadingAt s) (l : Live (s .txns i)) where
       (recordAll-cases (s .chains) (s .txns i) (s .txns i .records) (foundRows s (s .txns i)) q m))
 
   -- the phase goes on to one that neither holds nor has collected
-  reading-phase : (x : Txn) → x .snapshot ≡ s .txns i .snapshot → x .records ≡ s .txns i .records → rank (x .phase) ≢ phaseHolding → rank (x .phase) ≢ phaseCollected → (rank (x .phase) < phaseInstalled → rank (s .txns i .phase) < phaseInstalled) → Reading (s .sizes) (s .chains) (s .index .stamp) x
+  reading-phase : (x : Txn) → x .snapshot ≡ s .txns i .snapshot → x .records ≡ s .txns i .records → rank (x .phase) ≢ phaseHolding
+      → rank (x .phase) ≢ phaseCollected → (rank (x .phase) < phaseInstalled → rank (s .txns i .phase) < phaseInstalled)
+      → Reading (s .sizes) (s .chains) (s .index .stamp) x
   reading-phase x e f a b h = quiet (s .sizes) (s .chains) (s .index .stamp) x a b (λ c q m. rw e (g i l .records-are (h c) q (rw f at m)))
 
 -- others' versions of an install are not seen
-reading-grown : (s : Store) (i j : ℕ) → i ≢ j → Chained (s .chains) → Chained (installed s i .chains) → Numbers (s .clock) (s .txns) → Live (s .txns i) → rank (s .txns i .phase) ≡ phasePrepared → Live (s .txns j)
+reading-grown : (s : Store) (i j : ℕ) → i ≢ j → Chained (s .chains) → Chained (installed s i .chains) → Numbers (s .clock) (s .txns) → Live (s .txns i)
+    → rank (s .txns i .phase) ≡ phasePrepared → Live (s .txns j)
     → Reading (s .sizes) (s .chains) (s .index .stamp) (s .txns j) → Reading (s .sizes) (installed s i .chains) (s .index .stamp) (s .txns j)
 reading-grown s i j d ch ch′ n l a v g = record {
   captures = g .captures;
@@ -102,13 +108,15 @@ reading-grown s i j d ch ch′ n l a v g = record {
     same : (r : ℕ) → recordOf (installed s i .chains) (s .txns j .snapshot) r ≡ recordOf (s .chains) (s .txns j .snapshot) r
     same r = rw (xmin-grown (s .txns i) _ (s .chains) (installed s i .chains) ch ch′ gr (s .txns j .snapshot) unseen r, version-grown (s .txns i) _ (s .chains) (installed s i .chains) ch ch′ gr (s .txns j .snapshot) unseen r)
 
-reading-install : (s : Store) (i : ℕ) → Chained (s .chains) → Chained (installed s i .chains) → Numbers (s .clock) (s .txns) → Live (s .txns i) → rank (s .txns i .phase) ≡ phasePrepared → ReadingAt s → ReadingAt (installed s i)
+reading-install : (s : Store) (i : ℕ) → Chained (s .chains) → Chained (installed s i .chains) → Numbers (s .clock) (s .txns) → Live (s .txns i)
+    → rank (s .txns i .phase) ≡ phasePrepared → ReadingAt s → ReadingAt (installed s i)
 reading-install s i ch ch′ n l a g j = update-elim (λ y. Live y → Reading (s .sizes) (installed s i .chains) (s .index .stamp) y) (s .txns) i (withPhase (s .txns i) Installed) j
     (λ e v. quiet (s .sizes) (installed s i .chains) (s .index .stamp) (withPhase (s .txns i) Installed) (λ f. omega arith) (λ f. omega arith) (λ h. absurd (omega arith)))
     (λ d v. reading-grown s i j (λ e. d (sym e)) ch ch′ n l a v (g j v))
 
 -- the bucket of a capture is stamped by nobody else
-reading-publish : (s : Store) (i : ℕ) → Numbers (s .clock) (s .txns) → HoldersAt s → WrittenAt s → Live (s .txns i) → rank (s .txns i .phase) ≡ phaseEnded → ReadingAt s → ReadingAt (published s i)
+reading-publish : (s : Store) (i : ℕ) → Numbers (s .clock) (s .txns) → HoldersAt s → WrittenAt s → Live (s .txns i) → rank (s .txns i .phase) ≡ phaseEnded
+    → ReadingAt s → ReadingAt (published s i)
 reading-publish s i n h w l a g j = update-elim (λ y. Live y → Reading (s .sizes) (s .chains) (published s i .index .stamp) y) (s .txns) i noTxn j
     (λ e v. absurd (omega arith))
     (λ d v. let r = g j v in record {

@@ -54,30 +54,44 @@ begin-0 s = rw (number-is s begin) (skip 0 _ _ _ (shape-test s) (omega arith) (�
 -- capture: 8 by the mark, 7, 8 by a stale stamp, 9
 pub capture-8 : (s : Store) (t k : ℕ) → number s (capture t k) ≡ 8 ↔ Ready s (capture t k) and ((txnOf s t .marked ≡ true) ⊎ ((txnOf s t .marked ≡ false) and Free (s .held .holder) t (bucketFor s k) and (t ≤ stampFor s k)))
 unfolding all-of
-capture-8 s t k = past 8 s (capture t k) tt (omega arith) (λ l. stop-or 8 _ _ _ (itself (txnOf s t .marked)) refl (λ m. skip 8 _ _ _ (bucket-test s t k l) (omega arith) (λ f. stop 8 _ _ _ (stale-test s t k l) (omega arith) refl)))
+capture-8 s t k = past 8 s (capture t k) tt (omega arith)
+    (λ l. stop-or 8 _ _ _ (itself (txnOf s t .marked)) refl
+    (λ m. skip 8 _ _ _ (bucket-test s t k l) (omega arith) (λ f. stop 8 _ _ _ (stale-test s t k l) (omega arith) refl)))
 
 pub capture-7 : (s : Store) (t k : ℕ) → number s (capture t k) ≡ 7 ↔ Ready s (capture t k) and (txnOf s t .marked ≡ false) and ByAnother (s .held .holder) t (bucketFor s k)
 unfolding all-of
-capture-7 s t k = past 7 s (capture t k) tt (omega arith) (λ l. skip 7 _ _ _ (itself (txnOf s t .marked)) (omega arith) (λ m. stop 7 _ _ _ (bucket-test s t k l) (omega arith) refl))
+capture-7 s t k = past 7 s (capture t k) tt (omega arith)
+    (λ l. skip 7 _ _ _ (itself (txnOf s t .marked)) (omega arith) (λ m. stop 7 _ _ _ (bucket-test s t k l) (omega arith) refl))
 
 pub capture-9 : (s : Store) (t k : ℕ) → number s (capture t k) ≡ 9 ↔ Ready s (capture t k) and (txnOf s t .marked ≡ false) and Free (s .held .holder) t (bucketFor s k) and (stampFor s k < t) and Seventeenth s t k
 unfolding all-of
-capture-9 s t k = past 9 s (capture t k) tt (omega arith) (λ l. skip 9 _ _ _ (itself (txnOf s t .marked)) (omega arith) (λ m. skip 9 _ _ _ (bucket-test s t k l) (omega arith) (λ f. skip 9 _ _ _ (stale-test s t k l) (omega arith) (λ d. stop 9 _ _ _ (read-test s t k) (omega arith) refl))))
+capture-9 s t k = past 9 s (capture t k) tt (omega arith)
+    (λ l. skip 9 _ _ _ (itself (txnOf s t .marked)) (omega arith)
+    (λ m. skip 9 _ _ _ (bucket-test s t k l) (omega arith)
+    (λ f. skip 9 _ _ _ (stale-test s t k l) (omega arith) (λ d. stop 9 _ _ _ (read-test s t k) (omega arith) refl))))
 
 pub capture-0 : (s : Store) (t k : ℕ) → number s (capture t k) ≡ 0 ↔ Ready s (capture t k) and (txnOf s t .marked ≡ false) and Free (s .held .holder) t (bucketFor s k) and (stampFor s k < t) and RoomForRead s t k
-capture-0 s t k = past 0 s (capture t k) tt (omega arith) (λ l. skip 0 _ _ _ (itself (txnOf s t .marked)) (omega arith) (λ m. skip 0 _ _ _ (bucket-test s t k l) (omega arith) (λ f. skip 0 _ _ _ (stale-test s t k l) (omega arith) (λ d. pass _ _ (read-test s t k) (omega arith)))))
+capture-0 s t k = past 0 s (capture t k) tt (omega arith)
+    (λ l. skip 0 _ _ _ (itself (txnOf s t .marked)) (omega arith)
+    (λ m. skip 0 _ _ _ (bucket-test s t k l) (omega arith)
+    (λ f. skip 0 _ _ _ (stale-test s t k l) (omega arith) (λ d. pass _ _ (read-test s t k) (omega arith)))))
 
 -- rows: 10 where the lent list is shorter than the matches, then 11
 pub rows-10 : (s : Store) (t room : ℕ) → number s (rows t room) ≡ 10 ↔ Ready s (rows t room) and (min room mostRows < length (foundRows s (txnOf s t)))
 unfolding all-of
-rows-10 s t room = past 10 s (rows t room) tt (omega arith) (λ l. stop 10 _ _ _ (less (min room mostRows) (length (foundRows s (txnOf s t)))) (omega arith) refl)
+rows-10 s t room = past 10 s (rows t room) tt (omega arith)
+    (λ l. stop 10 _ _ _ (less (min room mostRows) (length (foundRows s (txnOf s t)))) (omega arith) refl)
 
 pub rows-11 : (s : Store) (t room : ℕ) → number s (rows t room) ≡ 11 ↔ Ready s (rows t room) and (length (foundRows s (txnOf s t)) ≤ min room mostRows) and (mostRecords < length (recordsAfter s (txnOf s t)))
 unfolding all-of
-rows-11 s t room = past 11 s (rows t room) tt (omega arith) (λ l. skip 11 _ _ _ (less (min room mostRows) (length (foundRows s (txnOf s t)))) (omega arith) (λ f. stop 11 _ _ _ (less mostRecords (length (recordsAfter s (txnOf s t)))) (omega arith) refl))
+rows-11 s t room = past 11 s (rows t room) tt (omega arith)
+    (λ l. skip 11 _ _ _ (less (min room mostRows) (length (foundRows s (txnOf s t)))) (omega arith)
+    (λ f. stop 11 _ _ _ (less mostRecords (length (recordsAfter s (txnOf s t)))) (omega arith) refl))
 
 pub rows-0 : (s : Store) (t room : ℕ) → number s (rows t room) ≡ 0 ↔ Ready s (rows t room) and (length (foundRows s (txnOf s t)) ≤ min room mostRows) and (length (recordsAfter s (txnOf s t)) ≤ mostRecords)
-rows-0 s t room = past 0 s (rows t room) tt (omega arith) (λ l. skip 0 _ _ _ (less (min room mostRows) (length (foundRows s (txnOf s t)))) (omega arith) (λ f. pass _ _ (less mostRecords (length (recordsAfter s (txnOf s t)))) (omega arith)))
+rows-0 s t room = past 0 s (rows t room) tt (omega arith)
+    (λ l. skip 0 _ _ _ (less (min room mostRows) (length (foundRows s (txnOf s t)))) (omega arith)
+    (λ f. pass _ _ (less mostRecords (length (recordsAfter s (txnOf s t)))) (omega arith)))
 
 -- a write: 8 by the mark, then 6 where the row is not below the row count, then 12 for a 17th pending write
 pub write-8 : (s : Store) (t r : ℕ) (c : Content) → number s (write t r c) ≡ 8 ↔ Ready s (write t r c) and (txnOf s t .marked ≡ true)
@@ -86,14 +100,22 @@ write-8 s t r c = past 8 s (write t r c) tt (omega arith) (λ l. stop 8 _ _ _ (i
 
 pub write-6 : (s : Store) (t r : ℕ) (c : Content) → number s (write t r c) ≡ 6 ↔ Ready s (write t r c) and (txnOf s t .marked ≡ false) and (s .sizes .rows ≤ r)
 unfolding all-of
-write-6 s t r c = past 6 s (write t r c) tt (omega arith) (λ l. skip 6 _ _ _ (itself (txnOf s t .marked)) (omega arith) (λ m. stop 6 _ _ _ (opposite (less r (s .sizes .rows))) (omega arith) refl))
+write-6 s t r c = past 6 s (write t r c) tt (omega arith)
+    (λ l. skip 6 _ _ _ (itself (txnOf s t .marked)) (omega arith) (λ m. stop 6 _ _ _ (opposite (less r (s .sizes .rows))) (omega arith) refl))
 
-pub write-12 : (s : Store) (t r : ℕ) (c : Content) → number s (write t r c) ≡ 12 ↔ Ready s (write t r c) and (txnOf s t .marked ≡ false) and (r < s .sizes .rows) and (mostWrites ≤ length (txnOf s t .writes))
+pub write-12 : (s : Store) (t r : ℕ) (c : Content)
+    → number s (write t r c) ≡ 12 ↔ Ready s (write t r c) and (txnOf s t .marked ≡ false) and (r < s .sizes .rows) and (mostWrites ≤ length (txnOf s t .writes))
 unfolding all-of
-write-12 s t r c = past 12 s (write t r c) tt (omega arith) (λ l. skip 12 _ _ _ (itself (txnOf s t .marked)) (omega arith) (λ m. skip 12 _ _ _ (opposite (less r (s .sizes .rows))) (omega arith) (λ i. stop 12 _ _ _ (at-most mostWrites (length (txnOf s t .writes))) (omega arith) refl)))
+write-12 s t r c = past 12 s (write t r c) tt (omega arith)
+    (λ l. skip 12 _ _ _ (itself (txnOf s t .marked)) (omega arith)
+    (λ m. skip 12 _ _ _ (opposite (less r (s .sizes .rows))) (omega arith)
+    (λ i. stop 12 _ _ _ (at-most mostWrites (length (txnOf s t .writes))) (omega arith) refl)))
 
-pub write-0 : (s : Store) (t r : ℕ) (c : Content) → number s (write t r c) ≡ 0 ↔ Ready s (write t r c) and (txnOf s t .marked ≡ false) and (r < s .sizes .rows) and (length (txnOf s t .writes) < mostWrites)
-write-0 s t r c = past 0 s (write t r c) tt (omega arith) (λ l. skip 0 _ _ _ (itself (txnOf s t .marked)) (omega arith) (λ m. skip 0 _ _ _ (opposite (less r (s .sizes .rows))) (omega arith) (λ i. pass _ _ (at-most mostWrites (length (txnOf s t .writes))) (omega arith))))
+pub write-0 : (s : Store) (t r : ℕ) (c : Content)
+    → number s (write t r c) ≡ 0 ↔ Ready s (write t r c) and (txnOf s t .marked ≡ false) and (r < s .sizes .rows) and (length (txnOf s t .writes) < mostWrites)
+write-0 s t r c = past 0 s (write t r c) tt (omega arith)
+    (λ l. skip 0 _ _ _ (itself (txnOf s t .marked)) (omega arith)
+    (λ m. skip 0 _ _ _ (opposite (less r (s .sizes .rows))) (omega arith) (λ i. pass _ _ (at-most mostWrites (length (txnOf s t .writes))) (omega arith))))
 
 -- prepare: 7 where a needed bucket or a pending row is another's, 14 where the verdict is not 0, 13 where versions run out
 pub prepare-7 : (s : Store) (t : ℕ) → number s (prepare t) ≡ 7 ↔ Ready s (prepare t) and (BucketTaken s t (neededBuckets s (txnOf s t)) ⊎ RowTaken s t)
@@ -102,14 +124,25 @@ prepare-7 s t = past 7 s (prepare t) tt (omega arith) (λ l. stop 7 _ _ _ (neede
 
 pub prepare-14 : (s : Store) (t : ℕ) → number s (prepare t) ≡ 14 ↔ Ready s (prepare t) and (BucketsFree s t (neededBuckets s (txnOf s t)) × RowsFree s t) and (verdictOf s t ≢ 0)
 unfolding all-of
-prepare-14 s t = past 14 s (prepare t) tt (omega arith) (λ l. skip 14 _ _ _ (needed-test s t l) (omega arith) (λ f. stop 14 _ _ _ (opposite (equal (verdictOf s t) 0)) (omega arith) refl))
+prepare-14 s t = past 14 s (prepare t) tt (omega arith)
+    (λ l. skip 14 _ _ _ (needed-test s t l) (omega arith) (λ f. stop 14 _ _ _ (opposite (equal (verdictOf s t) 0)) (omega arith) refl))
 
-pub prepare-13 : (s : Store) (t : ℕ) → number s (prepare t) ≡ 13 ↔ Ready s (prepare t) and (BucketsFree s t (neededBuckets s (txnOf s t)) × RowsFree s t) and (verdictOf s t ≡ 0) and (s .sizes .versions < versionsAfter s (txnOf s t))
+pub prepare-13 : (s : Store) (t : ℕ)
+    → number s (prepare t) ≡ 13 ↔ Ready s (prepare t) and (BucketsFree s t (neededBuckets s (txnOf s t)) × RowsFree s t) and (verdictOf s t ≡ 0) and
+    (s .sizes .versions < versionsAfter s (txnOf s t))
 unfolding all-of
-prepare-13 s t = past 13 s (prepare t) tt (omega arith) (λ l. skip 13 _ _ _ (needed-test s t l) (omega arith) (λ f. skip 13 _ _ _ (opposite (equal (verdictOf s t) 0)) (omega arith) (λ v. stop 13 _ _ _ (less (s .sizes .versions) (versionsAfter s (txnOf s t))) (omega arith) refl)))
+prepare-13 s t = past 13 s (prepare t) tt (omega arith)
+    (λ l. skip 13 _ _ _ (needed-test s t l) (omega arith)
+    (λ f. skip 13 _ _ _ (opposite (equal (verdictOf s t) 0)) (omega arith)
+    (λ v. stop 13 _ _ _ (less (s .sizes .versions) (versionsAfter s (txnOf s t))) (omega arith) refl)))
 
-pub prepare-0 : (s : Store) (t : ℕ) → number s (prepare t) ≡ 0 ↔ Ready s (prepare t) and (BucketsFree s t (neededBuckets s (txnOf s t)) × RowsFree s t) and (verdictOf s t ≡ 0) and (versionsAfter s (txnOf s t) ≤ s .sizes .versions)
-prepare-0 s t = past 0 s (prepare t) tt (omega arith) (λ l. skip 0 _ _ _ (needed-test s t l) (omega arith) (λ f. skip 0 _ _ _ (opposite (equal (verdictOf s t) 0)) (omega arith) (λ v. pass _ _ (less (s .sizes .versions) (versionsAfter s (txnOf s t))) (omega arith))))
+pub prepare-0 : (s : Store) (t : ℕ)
+    → number s (prepare t) ≡ 0 ↔ Ready s (prepare t) and (BucketsFree s t (neededBuckets s (txnOf s t)) × RowsFree s t) and (verdictOf s t ≡ 0) and
+    (versionsAfter s (txnOf s t) ≤ s .sizes .versions)
+prepare-0 s t = past 0 s (prepare t) tt (omega arith)
+    (λ l. skip 0 _ _ _ (needed-test s t l) (omega arith)
+    (λ f. skip 0 _ _ _ (opposite (equal (verdictOf s t) 0)) (omega arith)
+    (λ v. pass _ _ (less (s .sizes .versions) (versionsAfter s (txnOf s t))) (omega arith))))
 
 -- validate: 7 where a bucket of an index read is another's
 pub validate-7 : (s : Store) (t : ℕ) → number s (validate t) ≡ 7 ↔ Ready s (validate t) and BucketTaken s t (readBuckets (txnOf s t))

@@ -50,7 +50,8 @@ module _ (s : Store) (g : Good s) (i : ℕ) (l : Live (s .txns i)) (a : rank (s 
   own-seen : seen (s .txns i .snapshot) (s .txns i .number) ≡ true
   own-seen = let n = g .numbers .snapped i l in which-seen (s .txns i .snapshot) (s .txns i .number) (omega (arith, n .xmax-is)) (λ m. omega (arith, n .active-below _ m))
 
-module _ (s : Store) (g : Good s) (i : ℕ) (l : Live (s .txns i)) (a : rank (s .txns i .phase) < phaseInstalled) (k : ℕ) (ws : List Write) (relied : Relied (s .sizes) (s .chains) (s .txns i) k ws) (clear : Cleared (s .chains) (s .index) (s .txns i))
+module _ (s : Store) (g : Good s) (i : ℕ) (l : Live (s .txns i)) (a : rank (s .txns i .phase) < phaseInstalled) (k : ℕ) (ws : List Write)
+    (relied : Relied (s .sizes) (s .chains) (s .txns i) k ws) (clear : Cleared (s .chains) (s .index) (s .txns i))
     (untaken : (b : ℕ) → Among b (readBuckets (s .txns i)) → byAnother (s .held .holder) (s .txns i .number) b ≡ false) where
   abbrev c : Chains
   c = s .chains

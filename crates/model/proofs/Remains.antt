@@ -37,10 +37,13 @@ pub record RemainsAt (c₁ : Chains) (v : Snapshot) (k n : ℕ) (s : Store) : Ty
 
 module _ (c₁ : Chains) (v : Snapshot) (k n : ℕ) where
   -- one place goes on, and loses neither reads nor records
-  remains-set : (s : Store) (i : ℕ) (x : Txn) → RemainsAt c₁ v k n s → x .number ≡ s .txns i .number → x .snapshot ≡ s .txns i .snapshot → (rank (x .phase) < phaseInstalled → rank (s .txns i .phase) < phaseInstalled)
+  remains-set : (s : Store) (i : ℕ) (x : Txn) → RemainsAt c₁ v k n s → x .number ≡ s .txns i .number → x .snapshot ≡ s .txns i .snapshot
+      → (rank (x .phase) < phaseInstalled → rank (s .txns i .phase) < phaseInstalled)
       → ((b : ℕ) → hasRead (s .txns i .reads) b ≡ true → hasRead (x .reads) b ≡ true) → ((q : ReadRecord) → Among q (s .txns i .records) → Among q (x .records))
-      → (j : ℕ) → update (s .txns) i x j .number ≡ n → rank (update (s .txns) i x j .phase) < phaseInstalled → Remains c₁ v k (s .sizes) (s .chains) (update (s .txns) i x j)
-  remains-set s i x g e f h a b j = update-elim (λ y. y .number ≡ n → rank (y .phase) < phaseInstalled → Remains c₁ v k (s .sizes) (s .chains) y) (s .txns) i x j
+      → (j : ℕ) → update (s .txns) i x j .number ≡ n → rank (update (s .txns) i x j .phase) < phaseInstalled → Remains c₁ v k (s .sizes) (s .chains)
+      (update (s .txns) i x j)
+  remains-set s i x g e f h a b j = update-elim (λ y. y .number ≡ n → rank (y .phase) < phaseInstalled → Remains c₁ v k (s .sizes) (s .chains) y)
+      (s .txns) i x j
       (λ d p q. let r = g .here i (sym e ∙ p) (h q) in record {
         snapshot-is = f ∙ r .snapshot-is;
         bucket-read = a _ (r .bucket-read);
@@ -51,12 +54,16 @@ module _ (c₁ : Chains) (v : Snapshot) (k n : ℕ) where
       (λ d p q. g .here j p q)
 
   -- one place is filled by another, or freed
-  remains-other : (s : Store) (i : ℕ) (x : Txn) → RemainsAt c₁ v k n s → x .number ≢ n → (j : ℕ) → update (s .txns) i x j .number ≡ n → rank (update (s .txns) i x j .phase) < phaseInstalled → Remains c₁ v k (s .sizes) (s .chains) (update (s .txns) i x j)
-  remains-other s i x g e j = update-elim (λ y. y .number ≡ n → rank (y .phase) < phaseInstalled → Remains c₁ v k (s .sizes) (s .chains) y) (s .txns) i x j (λ d p q. absurd (e p)) (λ d p q. g .here j p q)
+  remains-other : (s : Store) (i : ℕ) (x : Txn) → RemainsAt c₁ v k n s → x .number ≢ n → (j : ℕ) → update (s .txns) i x j .number ≡ n
+      → rank (update (s .txns) i x j .phase) < phaseInstalled → Remains c₁ v k (s .sizes) (s .chains) (update (s .txns) i x j)
+  remains-other s i x g e j = update-elim (λ y. y .number ≡ n → rank (y .phase) < phaseInstalled → Remains c₁ v k (s .sizes) (s .chains) y) (s .txns) i x j
+      (λ d p q. absurd (e p)) (λ d p q. g .here j p q)
 
   remains-install : (s : Store) (i : ℕ) → Good s → Good (installed s i) → RemainsAt c₁ v k n s → Live (s .txns i) → rank (s .txns i .phase) ≡ phasePrepared
-      → (j : ℕ) → installed s i .txns j .number ≡ n → rank (installed s i .txns j .phase) < phaseInstalled → Remains c₁ v k (s .sizes) (installed s i .chains) (installed s i .txns j)
-  remains-install s i g g′ w l a j = update-elim (λ y. y .number ≡ n → rank (y .phase) < phaseInstalled → Remains c₁ v k (s .sizes) (installed s i .chains) y) (s .txns) i (withPhase (s .txns i) Installed) j
+      → (j : ℕ) → installed s i .txns j .number ≡ n → rank (installed s i .txns j .phase) < phaseInstalled → Remains c₁ v k (s .sizes) (installed s i .chains)
+      (installed s i .txns j)
+  remains-install s i g g′ w l a j = update-elim (λ y. y .number ≡ n → rank (y .phase) < phaseInstalled → Remains c₁ v k (s .sizes) (installed s i .chains) y)
+      (s .txns) i (withPhase (s .txns i) Installed) j
       (λ d p q. absurd (omega arith))
       (λ d p q. other j d p (w .here j p q))
     where
@@ -75,7 +82,8 @@ module _ (c₁ : Chains) (v : Snapshot) (k n : ℕ) where
           }
 
   -- place by place
-  here-move : (s s′ : Store) {a : ℕ} → Good s → Good s′ → RemainsAt c₁ v k n s → Move s a s′ → (j : ℕ) → s′ .txns j .number ≡ n → rank (s′ .txns j .phase) < phaseInstalled → Remains c₁ v k (s′ .sizes) (s′ .chains) (s′ .txns j)
+  here-move : (s s′ : Store) {a : ℕ} → Good s → Good s′ → RemainsAt c₁ v k n s → Move s a s′ → (j : ℕ) → s′ .txns j .number ≡ n
+      → rank (s′ .txns j .phase) < phaseInstalled → Remains c₁ v k (s′ .sizes) (s′ .chains) (s′ .txns j)
   here-move s s′ g g′ w (stay i) = w .here
   here-move s s′ g g′ w (did-begin i a b c d) = remains-other s i (newTxn s) w (λ e. omega (arith, w .number-old))
   here-move s s′ g g′ w (did-mark i a b) = remains-set s i _ w refl refl (λ h. omega arith) (λ o h. h) (λ q m. m)

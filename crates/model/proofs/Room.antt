@@ -84,7 +84,8 @@ module _ (s : Store) (i : ℕ) (n : Numbers (s .clock) (s .txns)) (g : RoomAt s)
   here = in-place (s .clock) (s .txns) n i a
 
   -- neither before nor after Prepared
-  room-quiet : (x : Txn) → x .number ≡ s .txns i .number → rank (s .txns i .phase) ≢ phasePrepared → rank (x .phase) ≢ phasePrepared → Room (s .sizes) (s .clock) (s .chains) (update (s .txns) i x)
+  room-quiet : (x : Txn) → x .number ≡ s .txns i .number → rank (s .txns i .phase) ≢ phasePrepared → rank (x .phase) ≢ phasePrepared
+      → Room (s .sizes) (s .clock) (s .chains) (update (s .txns) i x)
   room-quiet x e p q = room-set _ _ _ (s .chains) (s .txns) i x here (rw e (omega arith)) (omega (arith, reserves-none (s .sizes) (s .chains) x q, reserves-none (s .sizes) (s .chains) (s .txns i) p)) g
 
   -- the record ends
@@ -98,7 +99,8 @@ module _ (s : Store) (i : ℕ) (n : Numbers (s .clock) (s .txns)) (g : RoomAt s)
   }
 
   -- what another reserved, it still reserves: its rows are not mine
-  others-reserve : Chained (s .chains) → HoldersAt s → rank (s .txns i .phase) ≡ phasePrepared → (j : ℕ) → reservedBy (s .sizes) (installed s i .chains) (installed s i .txns j) ≡ reservedBy (s .sizes) (s .chains) (installed s i .txns j)
+  others-reserve : Chained (s .chains) → HoldersAt s → rank (s .txns i .phase) ≡ phasePrepared → (j : ℕ)
+      → reservedBy (s .sizes) (installed s i .chains) (installed s i .txns j) ≡ reservedBy (s .sizes) (s .chains) (installed s i .txns j)
   unfolding reservedBy
   others-reserve ch h r j = update-elim (λ y. reservedBy (s .sizes) (installed s i .chains) y ≡ reservedBy (s .sizes) (s .chains) y) (s .txns) i (withPhase (s .txns i) Installed) j
       (λ e. reserves-none (s .sizes) (installed s i .chains) (withPhase (s .txns i) Installed) (λ f. omega arith) ∙ sym (reserves-none (s .sizes) (s .chains) (withPhase (s .txns i) Installed) (λ f. omega arith)))
@@ -110,13 +112,16 @@ module _ (s : Store) (i : ℕ) (n : Numbers (s .clock) (s .txns)) (g : RoomAt s)
       gr : Grown (s .txns i) (versionRows (s .sizes) (s .chains) (s .txns i .writes)) (s .chains) (installed s i .chains)
       gr = installs s i ch
 
-      old : j ≢ i → rank (s .txns j .phase) ≡ phasePrepared → (q : ℕ) → Writes (s .sizes) (s .txns j) q → oldKey (installed s i .chains) q ≡ oldKey (s .chains) q
+      old : j ≢ i → rank (s .txns j .phase) ≡ phasePrepared → (q : ℕ) → Writes (s .sizes) (s .txns j) q
+          → oldKey (installed s i .chains) q ≡ oldKey (s .chains) q
       old d e q w =
           let f = gr .head-old q (λ m. d (one-claim s i n h j i q (omega arith, w) (omega arith, gets-writes (s .sizes) (s .chains) (s .txns i) q m))) in
           ap (keyAt (installed s i .chains)) f ∙ keyAt-grown _ _ _ _ gr (s .chains .head q) (ch .heads-in q)
 
-      same : j ≢ i → rank (s .txns j .phase) ≡ phasePrepared → reservedBy (s .sizes) (installed s i .chains) (s .txns j) ≡ reservedBy (s .sizes) (s .chains) (s .txns j)
-      same d e = ap (λ rs. cond (live (s .txns j) && eqb (rank (s .txns j .phase)) phasePrepared) (length rs) 0) (versionRows-same (s .sizes) (s .chains) (installed s i .chains) (s .txns j) (old d e))
+      same : j ≢ i → rank (s .txns j .phase) ≡ phasePrepared
+          → reservedBy (s .sizes) (installed s i .chains) (s .txns j) ≡ reservedBy (s .sizes) (s .chains) (s .txns j)
+      same d e = ap (λ rs. cond (live (s .txns j) && eqb (rank (s .txns j .phase)) phasePrepared) (length rs) 0)
+          (versionRows-same (s .sizes) (s .chains) (installed s i .chains) (s .txns j) (old d e))
 
   room-install : Chained (s .chains) → HoldersAt s → rank (s .txns i .phase) ≡ phasePrepared → RoomAt (installed s i)
   room-install ch h r = let x = withPhase (s .txns i) Installed in record {

@@ -1,4 +1,4 @@
--- What the table of the steps says of each step, read off by computation, a line for each; every other lemma on all steps' tests rests on this one. Assumes nothing.
+-- What the table says of each step, read off by computation, a line for each; what is proved of the tests of all steps rests on it. Assumes nothing.
 use mathlib.Core.Path.{_≡_, refl}
 use mathlib.Core.Bool.{Bool, true, false, not, true≢false}
 use mathlib.Core.List.{List, [], _∷_, _++_, map}
@@ -11,6 +11,8 @@ use Rattle.model.specs.Store.{Store, phaseOpen, phaseHolding, phaseColle
 use Rattle.model.specs.Refusals.{Refusal, refusalNumber, WrongShape, Step, begin, capture, collect, rows, write, prepare, install, end, publish, validate, abort, txnOf, found}
 use Rattle.model.specs.Shape.{rightShape}
 use Rattle.model.specs.Machine.{Answer, Done, Number, Stamp, Count, Rows, Judged, Refused, rule, actor, checks, accepted, isStale}
+use Rattle.model.specs.Upstream.{Event}
+use Rattle.model.specs.History.{stepEvents}
 use Rattle.model.specs.Given.{Names, Right, StaleStamp, documented}
 use Rattle.model.proofs.FirstTest.{Test, less, equal, without}
 
@@ -54,6 +56,11 @@ pub data Marks (s : Store) : Step → Type 0 where
   may-mark : (t k : ℕ) → Marks s (capture t k)
   never : {a : Step} → unmarking (checks s a) ≡ true → (StaleStamp s a → ⊥) → Marks s a
 
+-- a publish alone changes the index and adds events
+pub data Publishes (s : Store) : Step → Type 0 where
+  may-publish : (t : ℕ) → Publishes s (publish t)
+  quiet : {a : Step} → accepted s a .store .index ≡ s .index → ((es : List Event) → stepEvents s a es ≡ es) → Publishes s a
+
 pub record Ruled (s : Store) (a : Step) : Type 0 where
   pub in-order : map (λ c. refusalNumber (c .1)) ((not (rightShape s), WrongShape) ∷ checks s a) ++ (0 ∷ []) ≡ inOrder a
   pub no-16 : without 16 (checks s a) ≡ true
@@ -63,31 +70,44 @@ pub record Ruled (s : Store) (a : Step) : Type 0 where
   pub answered : refuses (accepted s a .answer) ≡ false
   pub as-documented : accepted s a .answer ≡ documented s a
   pub marks : Marks s a
+  pub publishes : Publishes s a
 
 -- right in every phase, and right before Installed
 always : Test true (Unit {0}) (Unit {0} → ⊥)
 always = record { holds = λ e. tt; fails = λ e. absurd (true≢false e); if-yes = λ y. refl; if-no = λ n. absurd (n tt) }
 
 early : (n : ℕ) → Test (ltb n phaseInstalled) (n < phaseInstalled) (n < phaseInstalled → ⊥)
-early n = let e = less n phaseInstalled in record { holds = e .holds; fails = λ f l. omega (arith, e .fails f); if-yes = e .if-yes; if-no = λ h. is-false _ (λ f. h (e .holds f)) }
+early n = let e = less n phaseInstalled in
+    record { holds = e .holds; fails = λ f l. omega (arith, e .fails f); if-yes = e .if-yes; if-no = λ h. is-false _ (λ f. h (e .holds f)) }
 
--- all of it, of one step
-read-off : (s : Store) (a : Step) → map (λ c. refusalNumber (c .1)) ((not (rightShape s), WrongShape) ∷ checks s a) ++ (0 ∷ []) ≡ inOrder a → without 16 (checks s a) ≡ true → (Names a → (without 4 (own-tests s a) ≡ true) × (without 5 (own-tests s a) ≡ true))
-    → (Names a → checks s a ≡ found s (actor a) (rule a .right (phase-of s a)) (own-tests s a))
-    → Test (rule a .right (phase-of s a)) (Right a (phase-of s a)) (Right a (phase-of s a) → ⊥)
-    → refuses (accepted s a .answer) ≡ false → accepted s a .answer ≡ documented s a → Marks s a → Ruled s a
-read-off s a o b p f t r d m = record { in-order = o; no-16 = b; no-4-5 = p; finds-first = f; phase-test = t; answered = r; as-documented = d; marks = m }
+-- a step's entry: all but the test of its phase, who marks and who publishes holds by computation
+entry : (s : Store) (a : Step) → Test (rule a .right (phase-of s a)) (Right a (phase-of s a)) (Right a (phase-of s a) → ⊥) → Marks s a → Publishes s a
+    → map (λ c. refusalNumber (c .1)) ((not (rightShape s), WrongShape) ∷ checks s a) ++ (0 ∷ []) ≡ inOrder a → without 16 (checks s a) ≡ true
+    → refuses (accepted s a .answer) ≡ false → accepted s a .answer ≡ documented s a
+    → (Names a → (without 4 (own-tests s a) ≡ true) × (without 5 (own-tests s a) ≡ true)
+    × (checks s a ≡ found s (actor a) (rule a .right (phase-of s a)) (own-tests s a))) → Ruled s a
+entry s a test marks publishes order below answered told named = record {
+  in-order = order;
+  no-16 = below;
+  no-4-5 = λ n. (named n .0, named n .1);
+  finds-first = λ n. named n .2;
+  phase-test = test;
+  answered = answered;
+  as-documented = told;
+  marks = marks;
+  publishes = publishes;
+}
 
 pub ruled : (s : Store) (a : Step) → Ruled s a
-unfolding checks accepted all-of
-ruled s begin = read-off s begin refl refl (λ n. absurd n) (λ n. absurd n) always refl refl (never refl (λ w. w))
-ruled s (capture t k) = read-off s (capture t k) refl refl (λ n. (refl, refl)) (λ n. refl) (equal _ phaseOpen) refl refl (may-mark t k)
-ruled s (collect t) = read-off s (collect t) refl refl (λ n. (refl, refl)) (λ n. refl) (equal _ phaseHolding) refl refl (never refl (λ w. w))
-ruled s (rows t room) = read-off s (rows t room) refl refl (λ n. (refl, refl)) (λ n. refl) (equal _ phaseCollected) refl refl (never refl (λ w. w))
-ruled s (write t r c) = read-off s (write t r c) refl refl (λ n. (refl, refl)) (λ n. refl) (equal _ phaseOpen) refl refl (never refl (λ w. w))
-ruled s (prepare t) = read-off s (prepare t) refl refl (λ n. (refl, refl)) (λ n. refl) (equal _ phaseOpen) refl refl (never refl (λ w. w))
-ruled s (install t) = read-off s (install t) refl refl (λ n. (refl, refl)) (λ n. refl) (equal _ phasePrepared) refl refl (never refl (λ w. w))
-ruled s (end t) = read-off s (end t) refl refl (λ n. (refl, refl)) (λ n. refl) (equal _ phaseInstalled) refl refl (never refl (λ w. w))
-ruled s (publish t) = read-off s (publish t) refl refl (λ n. (refl, refl)) (λ n. refl) (equal _ phaseEnded) refl refl (never refl (λ w. w))
-ruled s (validate t) = read-off s (validate t) refl refl (λ n. (refl, refl)) (λ n. refl) (equal _ phaseOpen) refl refl (never refl (λ w. w))
-ruled s (abort t) = read-off s (abort t) refl refl (λ n. (refl, refl)) (λ n. refl) (early _) refl refl (never refl (λ w. w))
+unfolding checks accepted stepEvents all-of
+ruled s begin = entry s begin always (never refl (λ w. w)) (quiet refl (λ e. refl)) refl refl refl refl (λ n. absurd n)
+ruled s (capture t k) = entry s (capture t k) (equal _ phaseOpen) (may-mark t k) (quiet refl (λ e. refl)) refl refl refl refl (λ n. (refl, refl, refl))
+ruled s (collect t) = entry s (collect t) (equal _ phaseHolding) (never refl (λ w. w)) (quiet refl (λ e. refl)) refl refl refl refl (λ n. (refl, refl, refl))
+ruled s (rows t n) = entry s (rows t n) (equal _ phaseCollected) (never refl (λ w. w)) (quiet refl (λ e. refl)) refl refl refl refl (λ n. (refl, refl, refl))
+ruled s (write t r c) = entry s (write t r c) (equal _ phaseOpen) (never refl (λ w. w)) (quiet refl (λ e. refl)) refl refl refl refl (λ n. (refl, refl, refl))
+ruled s (prepare t) = entry s (prepare t) (equal _ phaseOpen) (never refl (λ w. w)) (quiet refl (λ e. refl)) refl refl refl refl (λ n. (refl, refl, refl))
+ruled s (install t) = entry s (install t) (equal _ phasePrepared) (never refl (λ w. w)) (quiet refl (λ e. refl)) refl refl refl refl (λ n. (refl, refl, refl))
+ruled s (end t) = entry s (end t) (equal _ phaseInstalled) (never refl (λ w. w)) (quiet refl (λ e. refl)) refl refl refl refl (λ n. (refl, refl, refl))
+ruled s (publish t) = entry s (publish t) (equal _ phaseEnded) (never refl (λ w. w)) (may-publish t) refl refl refl refl (λ n. (refl, refl, refl))
+ruled s (validate t) = entry s (validate t) (equal _ phaseOpen) (never refl (λ w. w)) (quiet refl (λ e. refl)) refl refl refl refl (λ n. (refl, refl, refl))
+ruled s (abort t) = entry s (abort t) (early _) (never refl (λ w. w)) (quiet refl (λ e. refl)) refl refl refl refl (λ n. (refl, refl, refl))

@@ -20,7 +20,8 @@ use Rattle.model.proofs.Written.{old-or-new, keyAt-grown}
 use Rattle.model.proofs.Told.{unseen-late, unseen-active}
 
 -- the number of another that has not ended is not seen
-pub unseen-other : (clock : ℕ) (t : ℕ → Txn) → Numbers clock t → (i j : ℕ) → i ≢ j → Live (t i) → Live (t j) → rank (t i .phase) < phaseEnded → seen (t j .snapshot) (t i .number) ≡ false
+pub unseen-other : (clock : ℕ) (t : ℕ → Txn) → Numbers clock t → (i j : ℕ) → i ≢ j → Live (t i) → Live (t j) → rank (t i .phase) < phaseEnded
+    → seen (t j .snapshot) (t i .number) ≡ false
 unseen-other clock t n i j d l v r = ⊎-elim before after (old-or-new (t j .number) (t i .number))
   where
     before : t i .number ≤ t j .number → seen (t j .snapshot) (t i .number) ≡ false

@@ -17,7 +17,8 @@ use Rattle.model.proofs.Remains.{Remains}
 use Rattle.model.proofs.Cleared.{Cleared}
 use Rattle.model.proofs.Relied.{Relied, read-now, now-read}
 
-module _ (s : Store) (g : Good s) (i : ℕ) (l : Live (s .txns i)) (a : rank (s .txns i .phase) < phaseInstalled) (c₁ : Chains) (k : ℕ) (kept : Remains c₁ (s .txns i .snapshot) k (s .sizes) (s .chains) (s .txns i)) (clear : Cleared (s .chains) (s .index) (s .txns i))
+module _ (s : Store) (g : Good s) (i : ℕ) (l : Live (s .txns i)) (a : rank (s .txns i .phase) < phaseInstalled) (c₁ : Chains) (k : ℕ)
+    (kept : Remains c₁ (s .txns i .snapshot) k (s .sizes) (s .chains) (s .txns i)) (clear : Cleared (s .chains) (s .index) (s .txns i))
     (untaken : (b : ℕ) → Among b (readBuckets (s .txns i)) → byAnother (s .held .holder) (s .txns i .number) b ≡ false) where
   abbrev c : Chains
   c = s .chains

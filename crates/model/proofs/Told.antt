@@ -106,7 +106,8 @@ module _ (s : Store) (i : ℕ) (g : ToldAt s) where
       (λ q m u l f. inl (update-elim Live (s .txns) i noTxn m (λ d. absurd (omega (arith, rw d at (w .made q m (u .from) (u .in-use) l f .0)))) (λ d. l))) g
 
   -- a turn of the one who publishes is stamped
-  turn-stamped : WrittenAt s → Live (s .txns i) → rank (s .txns i .phase) ≡ phaseEnded → (q k : ℕ) → Turn (s .chains) q → s .chains .xmin q ≡ s .txns i .number → Carries (s .chains) q k → Among (bucketOf (s .sizes) k) (changedBuckets s (s .txns i))
+  turn-stamped : WrittenAt s → Live (s .txns i) → rank (s .txns i .phase) ≡ phaseEnded → (q k : ℕ) → Turn (s .chains) q → s .chains .xmin q ≡ s .txns i .number
+      → Carries (s .chains) q k → Among (bucketOf (s .sizes) k) (changedBuckets s (s .txns i))
   turn-stamped w l a q k u f h =
       let m = w .made q i (u .from) (u .in-use) l f in
       let r = m .1 .0 in

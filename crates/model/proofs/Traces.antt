@@ -62,13 +62,15 @@ module _ (z : Sizes) (c : Chains) (t : ℕ → Txn) (es : List Event) (r : ℕ) 
   row-kept t′ back on (waiting j u d) = waiting j (on j u) d
 
   -- one place changes that has not installed before or after
-  row-early : (i : ℕ) (x : Txn) → (Live (t i) → rank (t i .phase) < phaseInstalled) → rank (x .phase) < phaseInstalled → RowTraced z c t es r → RowTraced z c (update t i x) es r
+  row-early : (i : ℕ) (x : Txn) → (Live (t i) → rank (t i .phase) < phaseInstalled) → rank (x .phase) < phaseInstalled → RowTraced z c t es r
+      → RowTraced z c (update t i x) es r
   row-early i x a b = row-kept (update t i x)
       (λ j. update-elim (λ y. Unpublished z c y r → Unpublished z c (t j) r) t i x j (λ e u. absurd (omega (arith, u .1))) (λ d u. u))
       (λ j u. rw (update-other t i x j (λ e. omega (arith, rw e at (u .1), a (rw e at (u .0))))) u)
 
   -- one place goes on with its number and its writes
-  row-on : (i : ℕ) (x : Txn) → x .number ≡ t i .number → x .writes ≡ t i .writes → (phaseInstalled ≤ rank (x .phase) → phaseInstalled ≤ rank (t i .phase)) → (phaseInstalled ≤ rank (t i .phase) → phaseInstalled ≤ rank (x .phase)) → RowTraced z c t es r → RowTraced z c (update t i x) es r
+  row-on : (i : ℕ) (x : Txn) → x .number ≡ t i .number → x .writes ≡ t i .writes → (phaseInstalled ≤ rank (x .phase) → phaseInstalled ≤ rank (t i .phase))
+      → (phaseInstalled ≤ rank (t i .phase) → phaseInstalled ≤ rank (x .phase)) → RowTraced z c t es r → RowTraced z c (update t i x) es r
   row-on i x n w a b = row-kept (update t i x)
       (λ j. update-elim (λ y. Unpublished z c y r → Unpublished z c (t j) r) t i x j (λ e u. rw e (omega (arith, u .0), a (u .1), rw (n, w) at (u .2))) (λ d u. u))
       (λ j. elim (ℕ-discrete j i) [ yes e ↦ λ u. rw (e, update-same) (same (rw e at u)) | no d ↦ λ u. rw (update-other t i x j d) u ])
@@ -78,7 +80,8 @@ module _ (z : Sizes) (c : Chains) (t : ℕ → Txn) (es : List Event) (r : ℕ) 
 
 module _ (s : Store) (es : List Event) (g : Good s) (h : TracedAt s es) (i : ℕ) (l : Live (s .txns i)) where
   -- a row that i claims is claimed by nobody else
-  only-claim : phasePrepared ≤ rank (s .txns i .phase) → (r : ℕ) → Writes (s .sizes) (s .txns i) r → (j : ℕ) → Unpublished (s .sizes) (s .chains) (s .txns j) r → j ≡ i
+  only-claim : phasePrepared ≤ rank (s .txns i .phase) → (r : ℕ) → Writes (s .sizes) (s .txns i) r → (j : ℕ) → Unpublished (s .sizes) (s .chains) (s .txns j) r
+      → j ≡ i
   only-claim a r w j u = one-claim s i (g .numbers) (g .holders) j i r (omega (arith, u .1), made-writes (s .sizes) (s .chains) (s .txns j) r (u .2)) (a, w)
 
   traced-install : rank (s .txns i .phase) ≡ phasePrepared → TracedAt (installed s i) es
@@ -117,7 +120,8 @@ module _ (s : Store) (es : List Event) (g : Good s) (h : TracedAt s es) (i : ℕ
       go true e = new (member-among r _ e) (h r)
       go false e = old (λ m. true≢false (sym (among-member r _ m) ∙ e)) (h r)
 
-  traced-publish : rank (s .txns i .phase) ≡ phaseEnded → TracedAt (published s i) (addEvents s (s .txns i) (madeRows (s .sizes) (s .chains) (s .txns i .number) (s .txns i .writes)) es)
+  traced-publish : rank (s .txns i .phase) ≡ phaseEnded
+      → TracedAt (published s i) (addEvents s (s .txns i) (madeRows (s .sizes) (s .chains) (s .txns i .number) (s .txns i .writes)) es)
   unfolding madeRows
   traced-publish a r = go (member r (madeRows (s .sizes) (s .chains) (s .txns i .number) (s .txns i .writes))) refl
     where
@@ -152,7 +156,8 @@ ready-live : (s : Store) (a : Step) → Ready s a → Live (txnOf s (actor a))
 ready-live s a r = omega (arith, lives-number s (actor a) (r .1), r .1 .3)
 
 module _ (s : Store) (es : List Event) (g : Good s) (h : TracedAt s es) where
-  early : (i : ℕ) (x : Txn) → (Live (s .txns i) → rank (s .txns i .phase) < phaseInstalled) → rank (x .phase) < phaseInstalled → (r : ℕ) → RowTraced (s .sizes) (s .chains) (update (s .txns) i x) es r
+  early : (i : ℕ) (x : Txn) → (Live (s .txns i) → rank (s .txns i .phase) < phaseInstalled) → rank (x .phase) < phaseInstalled → (r : ℕ)
+      → RowTraced (s .sizes) (s .chains) (update (s .txns) i x) es r
   early i x a b r = row-early (s .sizes) (s .chains) (s .txns) es r i x a b (h r)
 
   published-or-not : (t : ℕ) (b : Bool) → eqb (number s (publish t)) 0 ≡ b → TracedAt (step s (publish t) .store) (cond b (addEvents s (txnOf s t) (madeRows (s .sizes) (s .chains) (txnOf s t .number) (txnOf s t .writes)) es) es)
@@ -169,7 +174,8 @@ module _ (s : Store) (es : List Event) (g : Good s) (h : TracedAt s es) where
   traced-step (capture t k) = no-event s (capture t k) es h (λ z. early (at s t) _ (λ l. omega (arith, capture-0 s t k .0 z .0 .2)) (omega arith))
   traced-step (collect t) = no-event s (collect t) es h (λ z. early (at s t) _ (λ l. omega (arith, collect-0 s t .0 z .2)) (omega arith))
   traced-step (rows t room) = no-event s (rows t room) es h (λ z. early (at s t) _ (λ l. omega (arith, rows-0 s t room .0 z .0 .2)) (omega arith))
-  traced-step (write t r c) = no-event s (write t r c) es h (λ z. early (at s t) _ (λ l. omega (arith, write-0 s t r c .0 z .0 .2)) (omega (arith, write-0 s t r c .0 z .0 .2)))
+  traced-step (write t r c) = no-event s (write t r c) es h
+      (λ z. early (at s t) _ (λ l. omega (arith, write-0 s t r c .0 z .0 .2)) (omega (arith, write-0 s t r c .0 z .0 .2)))
   traced-step (prepare t) = no-event s (prepare t) es h (λ z. early (at s t) _ (λ l. omega (arith, prepare-0 s t .0 z .0 .2)) (omega arith))
   traced-step (install t) = no-event s (install t) es h (λ z. let w = install-0 s t .0 z in traced-install s es g h (at s t) (ready-live s (install t) w) (w .2))
   traced-step (end t) = no-event s (end t) es h (λ z r. row-on (s .sizes) (s .chains) (s .txns) es r (at s t) _ refl refl (λ v. omega (arith, end-0 s t .0 z .2)) (λ v. omega arith) (h r))

@@ -59,4 +59,5 @@ never-misshapen s g a e = go (refusal (checks s a)) refl (ap (λ w. w .answer) (
   where
     go : (o : Option Refusal) → refusal (checks s a) ≡ o → carried s a o .answer ≡ Refused WrongShape → ⊥
     go none q f = true≢false (sym (ap refuses f) ∙ ruled s a .answered)
-    go (some r) q f = let p : r ≡ WrongShape = cc in true≢false (sym (given-so (λ d. not (eqb (refusalNumber d) 16)) (checks s a) r (ruled s a .no-16) q) ∙ (rw p))
+    go (some r) q f = let p : r ≡ WrongShape =
+        cc in true≢false (sym (given-so (λ d. not (eqb (refusalNumber d) 16)) (checks s a) r (ruled s a .no-16) q) ∙ (rw p))

@@ -46,7 +46,8 @@ module _ (s : Store) (t room : ℕ) (rs : List ℕ) (g : Good s) (d : RowsDone s
   read-remains = record {
     number-pos = omega (arith, d .alive, d .number-is);
     number-old = omega (arith, g .numbers .below (at s t), d .number-is);
-    here = λ j. update-elim (λ y. y .number ≡ t → rank (y .phase) < phaseInstalled → Remains (s .chains) (txnOf s t .snapshot) (keyIn (txnOf s t .phase)) (s .sizes) (s .chains) y) (s .txns) (at s t) (readTxn s (txnOf s t)) j
+    here = λ j. update-elim (λ y. y .number ≡ t → rank (y .phase) < phaseInstalled → Remains (s .chains) (txnOf s t .snapshot) (keyIn (txnOf s t .phase))
+        (s .sizes) (s .chains) y) (s .txns) (at s t) (readTxn s (txnOf s t)) j
         (λ e p q. mine)
         (λ f p q. absurd (f (sym (g .numbers .distinct (at s t) j (d .alive) (d .number-is ∙ sym p)))));
   }

@@ -56,8 +56,10 @@ pub record NothingLost (s : Store) : Type 0 where
   pub every-pending : (i r : ℕ) → pending (s .txns i .writes) r ≡ true → Writes (s .sizes) (s .txns i) r
   pub old-prepared : (i r : ℕ) → rank (s .txns i .phase) ≡ phasePrepared → Writes (s .sizes) (s .txns i) r → s .index .posted r ≡ oldKey (s .chains) r
   -- once installed it is headed by a version of its own, over the posted key; or it erases nothing, and no key is posted
-  pub made-or-nothing : (i r : ℕ) → Live (s .txns i) → phaseInstalled ≤ rank (s .txns i .phase) → Writes (s .sizes) (s .txns i) r → Made (s .sizes) (s .chains) (s .txns i) r ⊎ (ErasesNothing (s .chains) (s .txns i) r × (s .index .posted r ≡ none))
-  pub old-installed : (i r : ℕ) → Live (s .txns i) → phaseInstalled ≤ rank (s .txns i .phase) → Made (s .sizes) (s .chains) (s .txns i) r → s .index .posted r ≡ keyBefore (s .chains) r
+  pub made-or-nothing : (i r : ℕ) → Live (s .txns i) → phaseInstalled ≤ rank (s .txns i .phase) → Writes (s .sizes) (s .txns i) r
+      → Made (s .sizes) (s .chains) (s .txns i) r ⊎ (ErasesNothing (s .chains) (s .txns i) r × (s .index .posted r ≡ none))
+  pub old-installed : (i r : ℕ) → Live (s .txns i) → phaseInstalled ≤ rank (s .txns i .phase) → Made (s .sizes) (s .chains) (s .txns i) r
+      → s .index .posted r ≡ keyBefore (s .chains) r
 
 -- the claim keeps the head: s₁ is the store in which `prepare t` was accepted, s a later one in which t is live; install and publish see what prepare saw
 pub record HeadKept (s₁ s : Store) (t : ℕ) : Type 0 where
@@ -65,11 +67,15 @@ pub record HeadKept (s₁ s : Store) (t : ℕ) : Type 0 where
   pub from-prepared : phasePrepared ≤ rank (txnOf s t .phase)
   -- Prepared: each pending row has the head that it had, and the same rows get a version
   pub head-waits : rank (txnOf s t .phase) ≡ phasePrepared → (r : ℕ) → Writes (s₁ .sizes) (txnOf s₁ t) r → s .chains .head r ≡ s₁ .chains .head r
-  pub gets-same : rank (txnOf s t .phase) ≡ phasePrepared → versionRows (s .sizes) (s .chains) (txnOf s t .writes) ≡ versionRows (s₁ .sizes) (s₁ .chains) (txnOf s₁ t .writes)
+  pub gets-same : rank (txnOf s t .phase) ≡ phasePrepared
+      → versionRows (s .sizes) (s .chains) (txnOf s t .writes) ≡ versionRows (s₁ .sizes) (s₁ .chains) (txnOf s₁ t .writes)
   -- Installed or Ended: these got one, over the head that prepare saw, and the others have that head still
-  pub made-same : phaseInstalled ≤ rank (txnOf s t .phase) → madeRows (s .sizes) (s .chains) t (txnOf s t .writes) ≡ versionRows (s₁ .sizes) (s₁ .chains) (txnOf s₁ t .writes)
-  pub made-over : phaseInstalled ≤ rank (txnOf s t .phase) → (r : ℕ) → Gets (s₁ .sizes) (s₁ .chains) (txnOf s₁ t) r → s .chains .next (s .chains .head r) ≡ s₁ .chains .head r
-  pub head-stays : phaseInstalled ≤ rank (txnOf s t .phase) → (r : ℕ) → Writes (s₁ .sizes) (txnOf s₁ t) r → (Gets (s₁ .sizes) (s₁ .chains) (txnOf s₁ t) r → ⊥) → s .chains .head r ≡ s₁ .chains .head r
+  pub made-same : phaseInstalled ≤ rank (txnOf s t .phase)
+      → madeRows (s .sizes) (s .chains) t (txnOf s t .writes) ≡ versionRows (s₁ .sizes) (s₁ .chains) (txnOf s₁ t .writes)
+  pub made-over : phaseInstalled ≤ rank (txnOf s t .phase) → (r : ℕ) → Gets (s₁ .sizes) (s₁ .chains) (txnOf s₁ t) r
+      → s .chains .next (s .chains .head r) ≡ s₁ .chains .head r
+  pub head-stays : phaseInstalled ≤ rank (txnOf s t .phase) → (r : ℕ) → Writes (s₁ .sizes) (txnOf s₁ t) r → (Gets (s₁ .sizes) (s₁ .chains) (txnOf s₁ t) r → ⊥)
+      → s .chains .head r ≡ s₁ .chains .head r
 
 -- an erase of nothing costs nothing: the install and the publish of t leave every version, head, stamp and posting as they were
 pub record CostsNothing (s : Store) (t : ℕ) : Type 0 where

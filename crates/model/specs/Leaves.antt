@@ -118,7 +118,8 @@ candidatesAfter s (abort t) rs = []
 -- the snapshot that begin takes: below the new clock, without every live transaction that is not Ended; its xmin is the least of these and the own number
 pub record TakenAt (s : Store) (v : Snapshot) : Type 0 where
   pub xmax-is : v .xmax ≡ suc (s .clock)
-  pub active-are : (n : ℕ) → Among n (v .active) ↔ ((i : ℕ) × (i < mostLive) × Live (s .txns i) × (rank (s .txns i .phase) < phaseEnded) × (n ≡ s .txns i .number))
+  pub active-are : (n : ℕ) → Among n (v .active)
+      ↔ ((i : ℕ) × (i < mostLive) × Live (s .txns i) × (rank (s .txns i .phase) < phaseEnded) × (n ≡ s .txns i .number))
   pub xmin-below : (v .xmin ≤ s .clock) × ((n : ℕ) → Among n (v .active) → v .xmin ≤ n)
   pub xmin-is : (v .xmin ≡ s .clock) ⊎ Among (v .xmin) (v .active)
 

@@ -63,8 +63,7 @@ gives s a = record { store = s; answer = a }
 abbrev pub at : Store → ℕ → ℕ
 at s t = placeOf (s .txns) t
 
--- a step's rule: whose step it is; the phases in which it is right, by their numbers; its tests after 4 and 5, in document 01's order; the store that it leaves,
--- where the one who asks stands at place i; and its answer
+-- a step's rule: whose it is, the phases in which it is right by their numbers, its tests after 4 and 5 in order, what it leaves and what it answers
 pub record Rule : Type 0 where
   pub whose : Option ℕ
   pub right : ℕ → Bool
@@ -100,13 +99,14 @@ rule (publish t) = ofTxn t (only phaseEnded) noTests published (λ s x. Stamp (s
 rule (validate t) = ofTxn t (only phaseOpen) validateChecks (λ s i. s) (λ s x. Judged (verdict (s .chains) (s .index) x))
 rule (abort t) = ofTxn t (λ n. ltb n phaseInstalled) noTests ended done
 
--- who acts: the number that a step names, 0 where it names none
-abbrev pub numberNamed : Option ℕ → ℕ
-numberNamed none = 0
-numberNamed (some t) = t
+-- the number that a step names, or else this one
+abbrev pub namedOr : ℕ → Option ℕ → ℕ
+namedOr n none = n
+namedOr n (some t) = t
 
+-- who acts: the number that a step names, 0 where it names none
 abbrev pub actor : Step → ℕ
-actor a = numberNamed (rule a .whose)
+actor a = namedOr 0 (rule a .whose)
 
 -- 4 and 5 come before a step's own tests where it names a transaction
 abbrev pub foundFirst : Store → Option ℕ → Bool → List (Bool × Refusal) → List (Bool × Refusal)

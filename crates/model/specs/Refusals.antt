@@ -88,9 +88,6 @@ versionsAfter s x = s .chains .used + reserved (s .sizes) (s .chains) (s .txns) 
 abbrev pub found : Store → ℕ → Bool → List (Bool × Refusal) → List (Bool × Refusal)
 found s t phase more = (eqb t 0 || not (ltb (placeOf (s .txns) t) mostLive), NoSuch) ∷ (not phase, WrongPhase) ∷ more
 
-abbrev pub inPhase : Store → ℕ → ℕ → Bool
-inPhase s t n = eqb (rank (txnOf s t .phase)) n
-
 -- a needed bucket is held by another
 abbrev pub bucketsTaken : Store → Txn → List ℕ → Bool
 bucketsTaken s x bs = some-of (byAnother (s .held .holder) (x .number)) bs

@@ -42,7 +42,8 @@ goodRanges z used x =
 
 -- each pending row of an Installed or Ended transaction headed by a version of that xmin; or its last write is an erase, and it has no live head
 unfoldable pub goodHeads : Sizes → Chains → Txn → Bool
-goodHeads z c x = ltb (rank (x .phase)) phaseInstalled || all-of (λ r. headedBy c (x .number) r || not (getsVersion c (x .writes) r)) (pendingRows z (x .writes))
+goodHeads z c x = ltb (rank (x .phase)) phaseInstalled || all-of (λ r. headedBy c (x .number) r || not (getsVersion c (x .writes) r))
+    (pendingRows z (x .writes))
 
 -- a live transaction: its number below the clock, snapshot xmin the least of its active numbers and its own
 unfoldable pub goodTxn : Store → Txn → Bool

@@ -59,7 +59,8 @@ pub record Acts (s : Store) (y : Local) (t : Store) (a : Step) (read : List (ℕ
 module _ (s : Store) (q : Quiet s) (x : Local) (t : Store) (a : Alone s x t) where
   -- one place goes on
   pub alone-set : (t′ : Store) (w : Txn) (y : Local) → Good t′ → t′ .sizes ≡ t .sizes → t′ .clock ≡ t .clock → t′ .chains ≡ t .chains → t′ .index ≡ t .index → t′ .txns ≡ update (t .txns) 0 w
-      → w .number ≡ t .txns 0 .number → w .snapshot ≡ t .txns 0 .snapshot → w .marked ≡ t .txns 0 .marked → w .phase ≡ y .phase → rank (y .phase) < phaseInstalled
+      → w .number ≡ t .txns 0 .number → w .snapshot ≡ t .txns 0 .snapshot → w .marked ≡ t .txns 0 .marked → w .phase ≡ y .phase → rank
+      (y .phase) < phaseInstalled
       → bucketsOf (w .reads) ≡ y .buckets → ((r : IndexRead) → Among r (w .reads) → r .stamp ≡ s .index .stamp (r .bucket)) → w .writes ≡ y .writes → map (λ (r : ReadRecord). r .row) (w .records) ≡ y .records → Alone s y t′
   alone-set t′ w y g zs ck cs ix ts nu sn ma ph early bu st wr re =
       let here : t′ .txns 0 ≡ w = ap (λ f. f 0) ts ∙ update-same (t .txns) 0 w in
@@ -168,7 +169,8 @@ module _ (s : Store) (q : Quiet s) (x : Local) (t : Store) (a : Alone s x t) whe
 
   -- a write is appended
   after-write : (w : Write) → Good (written t 0 w) → Alone s (writing x w) (written t 0 w)
-  after-write w g = alone-set (written t 0 w) _ _ g refl refl refl refl refl refl refl refl (a .phase-is) (a .early) (a .buckets-are) (a .stamps-are) (ap (λ ws. ws ++ (w ∷ [])) (a .writes-are)) (a .records-are)
+  after-write w g = alone-set (written t 0 w) _ _ g refl refl refl refl refl refl refl refl (a .phase-is) (a .early) (a .buckets-are) (a .stamps-are)
+      (ap (λ ws. ws ++ (w ∷ [])) (a .writes-are)) (a .records-are)
 
   -- it is ready, unmarked, and has room
   can-write : (r : ℕ) → r < s .sizes .rows → length (x .writes) < mostWrites → (txnOf t (s .clock) .marked ≡ false) × ((r < t .sizes .rows) × (length (txnOf t (s .clock) .writes) < mostWrites))
@@ -181,7 +183,12 @@ module _ (s : Store) (q : Quiet s) (x : Local) (t : Store) (a : Alone s x t) whe
       let ok = write-0 t (s .clock) r c .1 ((right-shape t (a .good), lives s q x t a, phase-of ∙ ap rank p), can-write r u v) in
       let does = done-does t (write (s .clock) r c) ok in
       let store-is = ap (λ v. v .store) does ∙ ap (λ i. written t i (pendingWrite r c)) (place s q x t a) in
-      record { done = ok; reads-are = ap (λ v. returned t (s .clock) (v .answer)) does; next = rw store-is (after-write (pendingWrite r c) (rw store-is at (good-move t _ (a .good) (step-move t (write (s .clock) r c))))) }
+      record {
+        done = ok;
+        reads-are = ap (λ v. returned t (s .clock) (v .answer)) does;
+        next = rw store-is
+            (after-write (pendingWrite r c) (rw store-is at (good-move t _ (a .good) (step-move t (write (s .clock) r c)))));
+      }
 
   pub validate-acts : x .phase ≡ Open → Acts s x t (validate (s .clock)) []
   unfolding accepted

@@ -39,7 +39,9 @@ pub renamed : (s : Store) (i : ℕ) (es : List Entry) (n t : ℕ) → n ≡ t �
 renamed s i es n t e w = rw e at w
 
 -- who has ended stays so
-pub gone-move : (s s′ : Store) {b : ℕ} → Move s b s′ → (n : ℕ) → (n < s .clock) × ((i : ℕ) → Live (s .txns i) → s .txns i .number ≡ n → rank (s .txns i .phase) ≡ phaseEnded) → (n < s′ .clock) × ((i : ℕ) → Live (s′ .txns i) → s′ .txns i .number ≡ n → rank (s′ .txns i .phase) ≡ phaseEnded)
+pub gone-move : (s s′ : Store) {b : ℕ} → Move s b s′ → (n : ℕ)
+    → (n < s .clock) × ((i : ℕ) → Live (s .txns i) → s .txns i .number ≡ n → rank (s .txns i .phase) ≡ phaseEnded)
+    → (n < s′ .clock) × ((i : ℕ) → Live (s′ .txns i) → s′ .txns i .number ≡ n → rank (s′ .txns i .phase) ≡ phaseEnded)
 gone-move s s′ m n h = (omega (arith, h .0, clock-move s s′ m), go (numbering s s′ m))
   where
     go : Numbering s s′ → (i : ℕ) → Live (s′ .txns i) → s′ .txns i .number ≡ n → rank (s′ .txns i .phase) ≡ phaseEnded
@@ -77,7 +79,8 @@ module _ (z : Sizes) (c₀ : ℕ) where
   -- all that is kept from step to step: who has not ended is followed, entries are of older numbers, who has ended stays so, and the turn
   pub record SideBySide (s : Store) (es : List Entry) : Type 0 where
     pub good : Good s
-    pub follow : (i : ℕ) → Live (s .txns i) → rank (s .txns i .phase) < phaseEnded → (x : Local) × Followed s i (s .txns i .number) (doneBy (s .txns i .number) es) x
+    pub follow : (i : ℕ) → Live (s .txns i) → rank (s .txns i .phase) < phaseEnded
+        → (x : Local) × Followed s i (s .txns i .number) (doneBy (s .txns i .number) es) x
     pub older : (e : Entry) → Among e es → e .who < s .clock
     pub gone : (n : ℕ) → Among n (endOrder es) → (n < s .clock) × ((i : ℕ) → Live (s .txns i) → s .txns i .number ≡ n → rank (s .txns i .phase) ≡ phaseEnded)
     pub beside : Beside s es
@@ -101,7 +104,8 @@ module _ (z : Sizes) (c₀ : ℕ) where
       (who-old : e .who < s′ .clock)
       (turn-free : (n : ℕ) → Among n (endOrder es) → eqb (e .who) n && not (isPublish (e .what)) ≡ false)
       (not-five : Live (s .txns b) → rank (s .txns b .phase) ≢ phaseInstalled)
-      (own : Live (s′ .txns b) → rank (s′ .txns b .phase) < phaseEnded → (y : Local) × Followed s′ b (s′ .txns b .number) (doneBy (s′ .txns b .number) (es ++ (e ∷ []))) y) where
+      (own : Live (s′ .txns b) → rank (s′ .txns b .phase) < phaseEnded → (y : Local) × Followed s′ b (s′ .txns b .number)
+      (doneBy (s′ .txns b .number) (es ++ (e ∷ []))) y) where
     g′ : Good s′
     g′ = good-move s s′ (h .good) m
 
@@ -126,7 +130,8 @@ module _ (z : Sizes) (c₀ : ℕ) where
           order-same (sizes-move s s′ m) (live-kept s s′ (h .good) g′ m no-end) (counted-move s s′ (h .good) m no-end);
     }
       where
-        others : (i : ℕ) → i ≢ b → Live (s′ .txns i) → rank (s′ .txns i .phase) < phaseEnded → (y : Local) × Followed s′ i (s′ .txns i .number) (doneBy (s′ .txns i .number) (es ++ (e ∷ []))) y
+        others : (i : ℕ) → i ≢ b → Live (s′ .txns i) → rank (s′ .txns i .phase) < phaseEnded
+            → (y : Local) × Followed s′ i (s′ .txns i .number) (doneBy (s′ .txns i .number) (es ++ (e ∷ []))) y
         others i d l a =
             let same = untouched s s′ m i d in
             let l₀ : Live (s .txns i) = rw same at l in

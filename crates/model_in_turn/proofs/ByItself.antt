@@ -75,7 +75,8 @@ pub data Plays (z : Sizes) (m : ℕ → Content) (n : ℕ) (x : Local) : Step �
   plays-rows : (room k : ℕ) (rs : List ℕ) (read : List (ℕ × Content)) → x .phase ≡ Collected k → rs ≡ rowsIn z m (x .writes) k → read ≡ readIn z m (x .writes) k
       → length rs ≤ min room mostRows → length (recordRows (x .writes) (x .records) rs) ≤ mostRecords
       → Plays z m n x (rows n room) read (record { phase = Open; buckets = x .buckets; writes = x .writes; records = recordRows (x .writes) (x .records) rs; done = x .done ++ ((k, x .writes) ∷ []) })
-  plays-write : (r : ℕ) (c : Content) → x .phase ≡ Open → r < z .rows → length (x .writes) < mostWrites → Plays z m n x (write n r c) [] (writing x (pendingWrite r c))
+  plays-write : (r : ℕ) (c : Content) → x .phase ≡ Open → r < z .rows → length (x .writes) < mostWrites
+      → Plays z m n x (write n r c) [] (writing x (pendingWrite r c))
   plays-validate : x .phase ≡ Open → Plays z m n x (validate n) [] x
   plays-prepare : x .phase ≡ Open → Plays z m n x (prepare n) [] (phased x Prepared)
   plays-install : x .phase ≡ Prepared → Plays z m n x (install n) [] (phased x Installed)

@@ -69,11 +69,18 @@ module _ (z : Sizes) (posted : ℕ → Option ℕ) (x : Txn) where
 
     pub count-installed : rank (x .phase) ≡ phaseInstalled → Counts z posted x (length (versionsOver z posted (x .writes))) 1 0
     unfolding waiting
-    count-installed e = let o = runs-on (omega arith) in record { waits = rw (live-test x l, eq-eqb (rank (x .phase)) phaseInstalled e) refl; runs = o .0; is-over = o .1 }
+    count-installed e = let o = runs-on (omega arith) in
+        record { waits = rw (live-test x l, eq-eqb (rank (x .phase)) phaseInstalled e) refl; runs = o .0; is-over = o .1 }
 
     pub count-ended : rank (x .phase) ≡ phaseEnded → Counts z posted x 0 0 1
     unfolding running over
-    count-ended e = record { waits = wait-not (λ f. omega arith); runs = rw (not-below (rank (x .phase)) phaseEnded (omega arith), and-false (live x)) refl; is-over = rw (live-test x l, not-below (rank (x .phase)) phaseEnded (omega arith)) refl }
+    count-ended e = record {
+      waits = wait-not (λ f. omega arith);
+      runs = rw
+          (not-below (rank (x .phase)) phaseEnded (omega arith), and-false (live x)) refl;
+      is-over =
+          rw (live-test x l, not-below (rank (x .phase)) phaseEnded (omega arith)) refl;
+    }
 
 live-parts : (x : Txn) → one (live x) ≡ running x + over x
 unfolding running over
@@ -113,20 +120,25 @@ pub record Counted (s s′ : Store) : Type 0 where
   pub count-is : s .clock + sum over (s .txns) mostLive + sum running (s′ .txns) mostLive ≤ s′ .clock + sum over (s′ .txns) mostLive + sum running (s .txns) mostLive
 
 -- one place goes on and neither installs nor ends
-on-counted : (s s′ : Store) (i : ℕ) (x : Txn) → Good s → s′ .txns ≡ update (s .txns) i x → s′ .chains ≡ s .chains → s′ .index ≡ s .index → s′ .clock ≡ s .clock → Live (s .txns i) → x .number ≡ s .txns i .number → rank (s .txns i .phase) < phaseInstalled → rank (x .phase) < phaseInstalled → Counted s s′
+on-counted : (s s′ : Store) (i : ℕ) (x : Txn) → Good s → s′ .txns ≡ update (s .txns) i x → s′ .chains ≡ s .chains → s′ .index ≡ s .index → s′ .clock ≡ s .clock
+    → Live (s .txns i) → x .number ≡ s .txns i .number → rank (s .txns i .phase) < phaseInstalled → rank (x .phase) < phaseInstalled → Counted s s′
 on-counted s s′ i x g ts cs xs ck l e a b =
     let c = change (s .sizes) (s .index .posted) (s .txns) i x (in-place (s .clock) (s .txns) (g .numbers) i l) (count-early (s .sizes) (s .index .posted) (s .txns i) l a) (count-early (s .sizes) (s .index .posted) x (omega arith) b) in
     record { wait-is = rw (ts, cs, xs) (omega (arith, c .waits)); count-is = rw (ts, ck) (omega (arith, c .runs, c .are-over)) }
 
 -- what one waits for is not changed by another's publish
-posted-waits : (s : Store) (i : ℕ) → Good s → rank (s .txns i .phase) ≡ phaseEnded → (j : ℕ) → waiting (s .sizes) (published s i .index .posted) (published s i .txns j) ≡ waiting (s .sizes) (s .index .posted) (published s i .txns j)
+posted-waits : (s : Store) (i : ℕ) → Good s → rank (s .txns i .phase) ≡ phaseEnded → (j : ℕ)
+    → waiting (s .sizes) (published s i .index .posted) (published s i .txns j) ≡ waiting (s .sizes) (s .index .posted) (published s i .txns j)
 unfolding waiting
 posted-waits s i g a j = update-elim (λ y. waiting (s .sizes) (published s i .index .posted) y ≡ waiting (s .sizes) (s .index .posted) y) (s .txns) i noTxn j
     (λ e. refl)
     (λ d. go d (ℕ-discrete (rank (s .txns j .phase)) phaseInstalled))
   where
-    go : j ≢ i → Dec (rank (s .txns j .phase) ≡ phaseInstalled) → waiting (s .sizes) (published s i .index .posted) (s .txns j) ≡ waiting (s .sizes) (s .index .posted) (s .txns j)
-    go d (yes e) = ap (λ rs. cond (live (s .txns j) && eqb (rank (s .txns j .phase)) phaseInstalled) (length rs) 0) (versions-same (s .sizes) (s .index .posted) (published s i .index .posted) (s .txns j) (λ r w. posted-kept s i (g .numbers) (g .holders) (omega arith) j r d (omega arith) w))
+    go : j ≢ i → Dec (rank (s .txns j .phase) ≡ phaseInstalled)
+        → waiting (s .sizes) (published s i .index .posted) (s .txns j) ≡ waiting (s .sizes) (s .index .posted) (s .txns j)
+    go d (yes e) = ap (λ rs. cond (live (s .txns j) && eqb (rank (s .txns j .phase)) phaseInstalled) (length rs) 0)
+        (versions-same (s .sizes) (s .index .posted) (published s i .index .posted) (s .txns j)
+        (λ r w. posted-kept s i (g .numbers) (g .holders) (omega arith) j r d (omega arith) w))
     go d (no f) = wait-not (s .sizes) (published s i .index .posted) (s .txns j) f ∙ sym (wait-not (s .sizes) (s .index .posted) (s .txns j) f)
 
 module _ (s : Store) (g : Good s) (i : ℕ) where
@@ -161,7 +173,8 @@ module _ (s : Store) (g : Good s) (i : ℕ) where
         let c = change (s .sizes) (s .index .posted) (s .txns) i noTxn u (count-early (s .sizes) (s .index .posted) (s .txns i) l a) (count-free (s .sizes) (s .index .posted) noTxn refl) in
         record { wait-is = omega (arith, c .waits); count-is = omega (arith, c .runs, c .are-over) }
 
-pub counted-move : (s s′ : Store) {b : ℕ} → Good s → Move s b s′ → ((i : ℕ) → Live (s .txns i) → rank (s .txns i .phase) ≡ phaseInstalled → s′ ≡ becomes s i Ended → ⊥) → Counted s s′
+pub counted-move : (s s′ : Store) {b : ℕ} → Good s → Move s b s′
+    → ((i : ℕ) → Live (s .txns i) → rank (s .txns i .phase) ≡ phaseInstalled → s′ ≡ becomes s i Ended → ⊥) → Counted s s′
 counted-move s s′ g (stay i) no-end = record { wait-is = refl; count-is = omega arith }
 counted-move s s′ g (did-begin i a b c d) no-end = begin-counted s g i a b
 counted-move s s′ g (did-mark i a b) no-end = on-counted s s′ i _ g refl refl refl refl a refl (omega arith) (omega arith)

@@ -71,7 +71,8 @@ module _ (z : Sizes) (c₀ : ℕ) where
     followed = renamed s b es (s .txns b .number) t number-b (h .follow b live-b (omega (arith, fifth)))
 
     -- all that it did, by itself over the rows as they are before its end
-    own : (y : Local) × Played (s .sizes) (liveRow s) t (doneBy t es ++ (e ∷ [])) y × (y .phase ≡ Ended) × (y .writes ≡ s .txns b .writes) × (step s (end t) .store ≡ becomes s b Ended) × (rank (s .txns b .phase) ≡ phaseInstalled)
+    own : (y : Local) × Played (s .sizes) (liveRow s) t (doneBy t es ++ (e ∷ [])) y × (y .phase ≡ Ended) × (y .writes ≡ s .txns b .writes)
+        × (step s (end t) .store ≡ becomes s b Ended) × (rank (s .txns b .phase) ≡ phaseInstalled)
     own = own-end s (h .good) b t (doneBy t es) (followed .0) (followed .1 .0) (followed .1 .1) ok
 
     good′ : Good (becomes s b Ended)
@@ -155,7 +156,8 @@ module _ (z : Sizes) (c₀ : ℕ) where
         m : Move s b (becomes s b Ended)
         m = did-end b live-b fifth
 
-        follow′ : (i : ℕ) → Live (becomes s b Ended .txns i) → rank (becomes s b Ended .txns i .phase) < phaseEnded → (y : Local) × Followed (becomes s b Ended) i (becomes s b Ended .txns i .number) (doneBy (becomes s b Ended .txns i .number) es′) y
+        follow′ : (i : ℕ) → Live (becomes s b Ended .txns i) → rank (becomes s b Ended .txns i .phase) < phaseEnded
+            → (y : Local) × Followed (becomes s b Ended) i (becomes s b Ended .txns i .number) (doneBy (becomes s b Ended .txns i .number) es′) y
         follow′ i l a = elim (ℕ-discrete i b) [
           | yes d ↦ absurd (omega (arith, a, ap (λ j. rank (becomes s b Ended .txns j .phase)) d, ap (λ (v : Txn). rank (v .phase)) (update-same (s .txns) b (withPhase (s .txns b) Ended))))
           | no d ↦
@@ -167,7 +169,9 @@ module _ (z : Sizes) (c₀ : ℕ) where
               (w .0, rw (same, others-same (s .txns i .number) es e free) f)
         ]
 
-        gone′ : (n : ℕ) → Among n (endOrder es′) → (n < s .clock) × ((i : ℕ) → Live (becomes s b Ended .txns i) → becomes s b Ended .txns i .number ≡ n → rank (becomes s b Ended .txns i .phase) ≡ phaseEnded)
+        gone′ : (n : ℕ) → Among n (endOrder es′)
+            → (n < s .clock) × ((i : ℕ) → Live (becomes s b Ended .txns i) → becomes s b Ended .txns i .number ≡ n
+            → rank (becomes s b Ended .txns i .phase) ≡ phaseEnded)
         gone′ n o = ⊎-elim (λ c. gone-move s (becomes s b Ended) m n (h .gone n c)) (λ c. (omega (arith, c, number-b, h .good .numbers .below b), λ i l p. new i l (p ∙ c))) (among-last n t (endOrder es) (rw order-is at o))
           where
             new : (i : ℕ) → Live (becomes s b Ended .txns i) → becomes s b Ended .txns i .number ≡ t → rank (becomes s b Ended .txns i .phase) ≡ phaseEnded

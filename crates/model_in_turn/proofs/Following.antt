@@ -140,7 +140,8 @@ module _ (s : Store) (i n : ℕ) (script : List Entry) (x : Local) (m : ℕ → 
         agree q o r u p = rw (f .late b r) (undisturbed s g j g′ l a i d (omega (arith, ap rank (f .phase-is))) (q .0) (f .reads-in q o) r)
 
 -- another goes on, neither from Installed nor to it
-one-place : (s s′ : Store) (i n : ℕ) (script : List Entry) (x : Local) (j : ℕ) (y : Txn) → i ≢ j → s′ .sizes ≡ s .sizes → s′ .chains ≡ s .chains → s′ .txns ≡ update (s .txns) j y → (Live (s .txns j) → rank (s .txns j .phase) ≢ phaseInstalled) → rank (y .phase) ≢ phaseInstalled
+one-place : (s s′ : Store) (i n : ℕ) (script : List Entry) (x : Local) (j : ℕ) (y : Txn) → i ≢ j → s′ .sizes ≡ s .sizes → s′ .chains ≡ s .chains
+    → s′ .txns ≡ update (s .txns) j y → (Live (s .txns j) → rank (s .txns j .phase) ≢ phaseInstalled) → rank (y .phase) ≢ phaseInstalled
     → Good s → Good s′ → Followed s i n script x → Followed s′ i n script x
 one-place s s′ i n script x j y d zs cs ts old new g g′ f = (f .0, follow-still s i n script x (f .0) (f .1) s′ zs cs (ap (λ t. t i) ts ∙ update-other (s .txns) j y i d) (live-set s s′ j y ts cs old new g g′))
 

@@ -56,7 +56,8 @@ module _ (s : Store) (g : Good s) (i n : ℕ) (script : List Entry) (x : Local) 
   rank-of k e = sym (ap rank (f .phase-is)) ∙ (ap (λ (v : Txn). rank (v .phase)) (sym txn-of) ∙ e)
 
   -- its place goes on, before it prepares
-  follow-set : (s′ : Store) (w : Txn) (y : Local) (script′ : List Entry) → s′ .sizes ≡ s .sizes → s′ .chains ≡ s .chains → s′ .txns ≡ update (s .txns) i w → rank (x .phase) < phasePrepared → rank (y .phase) < phasePrepared
+  follow-set : (s′ : Store) (w : Txn) (y : Local) (script′ : List Entry) → s′ .sizes ≡ s .sizes → s′ .chains ≡ s .chains → s′ .txns ≡ update (s .txns) i w
+      → rank (x .phase) < phasePrepared → rank (y .phase) < phasePrepared
       → w .number ≡ s .txns i .number → w .snapshot ≡ s .txns i .snapshot → w .phase ≡ y .phase → bucketsOf (w .reads) ≡ y .buckets → w .writes ≡ y .writes → map (λ (r : ReadRecord). r .row) (w .records) ≡ y .records
       → Played (s .sizes) m n script′ y → ((q : ℕ × List Write) → Among q (y .done) → Relied (s .sizes) (s .chains) w (q .0) (q .1)) → Follow s′ i n script′ y m
   follow-set s′ w y script′ zs cs ts b c nu sn ph bu wr re pl ke =
@@ -197,7 +198,8 @@ module _ (s : Store) (g : Good s) (i n : ℕ) (script : List Entry) (x : Local) 
       kept-all : (q : ℕ × List Write) → Among q (x .done ++ ((keyIn (x .phase), x .writes) ∷ [])) → Relied (s .sizes) (s .chains) (readTxn s (s .txns i)) (q .0) (q .1)
       kept-all q o = ⊎-elim (λ d. kept-on (readTxn s (s .txns i)) refl (λ b h. h) (λ r c. recordAll-keeps (s .chains) (s .txns i) (s .txns i .records) (foundRows s (s .txns i)) r c) (q .0) (q .1) (f .kept (omega (arith, third)) q d)) (λ e. rw e this) (among-last q (keyIn (x .phase), x .writes) (x .done) o)
 
-  appended : (a : Step) (w : Write) → step s a .store ≡ written s i w → entryOf s a ≡ record { who = n; what = a; read = [] } → rank (x .phase) ≡ phaseOpen → Plays (s .sizes) m n x a [] (writing x w) → (y : Local) × Followed (step s a .store) i n (script ++ (entryOf s a ∷ [])) y
+  appended : (a : Step) (w : Write) → step s a .store ≡ written s i w → entryOf s a ≡ record { who = n; what = a; read = [] } → rank (x .phase) ≡ phaseOpen
+      → Plays (s .sizes) m n x a [] (writing x w) → (y : Local) × Followed (step s a .store) i n (script ++ (entryOf s a ∷ [])) y
   appended a w store-is entry-is first d = (
     writing x w,
     (
@@ -207,7 +209,8 @@ module _ (s : Store) (g : Good s) (i n : ℕ) (script : List Entry) (x : Local) 
     ),
   )
 
-  pub own-write : (r : ℕ) (c : Content) → number s (write n r c) ≡ 0 → (y : Local) × Followed (step s (write n r c) .store) i n (script ++ (entryOf s (write n r c) ∷ [])) y
+  pub own-write : (r : ℕ) (c : Content) → number s (write n r c) ≡ 0
+      → (y : Local) × Followed (step s (write n r c) .store) i n (script ++ (entryOf s (write n r c) ∷ [])) y
   unfolding accepted
   own-write r c ok =
       let d = write-0 s n r c .0 ok in
@@ -337,7 +340,9 @@ module _ (s : Store) (g : Good s) (i n : ℕ) (script : List Entry) (x : Local) 
       entry-is = ap (λ (v : Stepped). record { who = n; what = install n; read = returned s n (v .answer) }) does
 
   -- at its end all that it did holds over the rows as they are then, before its own writes
-  pub own-end : number s (end n) ≡ 0 → (y : Local) × Played (s .sizes) (liveRow s) n (script ++ (entryOf s (end n) ∷ [])) y × (y .phase ≡ Ended) × (y .writes ≡ s .txns i .writes) × (step s (end n) .store ≡ becomes s i Ended) × (rank (s .txns i .phase) ≡ phaseInstalled)
+  pub own-end : number s (end n) ≡ 0
+      → (y : Local) × Played (s .sizes) (liveRow s) n (script ++ (entryOf s (end n) ∷ [])) y × (y .phase ≡ Ended) × (y .writes ≡ s .txns i .writes)
+      × (step s (end n) .store ≡ becomes s i Ended) × (rank (s .txns i .phase) ≡ phaseInstalled)
   unfolding accepted
   own-end ok =
       let fifth = rank-of 5 (end-0 s n .0 ok .2) in

@@ -28,7 +28,8 @@ unfolding carries
 carries-key o payload k e = sym (key-content o payload) ∙ same-key _ _ e
 
 -- clear: each row that was read, or would be read now, holds the same
-module _ (s : Store) (g : Good s) (i : ℕ) (l : Live (s .txns i)) (a : rank (s .txns i .phase) < phaseInstalled) (k : ℕ) (ws : List Write) (relied : Relied (s .sizes) (s .chains) (s .txns i) k ws) (clear : Cleared (s .chains) (s .index) (s .txns i))
+module _ (s : Store) (g : Good s) (i : ℕ) (l : Live (s .txns i)) (a : rank (s .txns i .phase) < phaseInstalled) (k : ℕ) (ws : List Write)
+    (relied : Relied (s .sizes) (s .chains) (s .txns i) k ws) (clear : Cleared (s .chains) (s .index) (s .txns i))
     (untaken : (b : ℕ) → Among b (readBuckets (s .txns i)) → byAnother (s .held .holder) (s .txns i .number) b ≡ false) where
   same-content : (r : ℕ) → r < s .sizes .rows → pending ws r ≡ false → keyAt (s .chains) (versionOf (s .chains) (s .txns i .snapshot) r) ≡ some k → liveRow s r ≡ contentOf (s .chains) (s .txns i .snapshot) r
   unfolding contentOf
@@ -39,7 +40,8 @@ module _ (s : Store) (g : Good s) (i : ℕ) (l : Live (s .txns i)) (a : rank (s 
   agrees r u b = (λ e. same-content r u b (carries-key _ _ k e), λ e. same-content r u b (now-read s g i l a k ws relied clear untaken r (carries-key _ _ k e)))
 
 -- prepared: it holds the buckets of its reads, so who ends meanwhile writes no row from or to a key that it read
-module _ (s : Store) (g : Good s) (i : ℕ) (g′ : Good (becomes s i Ended)) (l : Live (s .txns i)) (a : rank (s .txns i .phase) ≡ phaseInstalled) (j : ℕ) (d : j ≢ i) (b : phasePrepared ≤ rank (s .txns j .phase)) (k : ℕ) (h : hasRead (s .txns j .reads) (bucketOf (s .sizes) k) ≡ true) where
+module _ (s : Store) (g : Good s) (i : ℕ) (g′ : Good (becomes s i Ended)) (l : Live (s .txns i)) (a : rank (s .txns i .phase) ≡ phaseInstalled) (j : ℕ)
+    (d : j ≢ i) (b : phasePrepared ≤ rank (s .txns j .phase)) (k : ℕ) (h : hasRead (s .txns j .reads) (bucketOf (s .sizes) k) ≡ true) where
   reads : Wants (s .sizes) (s .index .posted) (s .txns j) (bucketOf (s .sizes) k)
   unfolding needs readBuckets
   reads = let w = read-bucket (s .txns j .reads) (bucketOf (s .sizes) k) h in

@@ -43,7 +43,8 @@ module _ (c : Chains) (x : Txn) (m : ℕ → Content) (m-is : (r : ℕ) → m r 
       go true = sym (carries-same _ _ k)
       go false = sym (carries-same _ _ k)
 
-module _ (s : Store) (g : Good s) (i : ℕ) (l : Live (s .txns i)) (a : rank (s .txns i .phase) ≡ phaseCollected) (m : ℕ → Content) (m-is : (r : ℕ) → m r ≡ contentOf (s .chains) (s .txns i .snapshot) r) where
+module _ (s : Store) (g : Good s) (i : ℕ) (l : Live (s .txns i)) (a : rank (s .txns i .phase) ≡ phaseCollected) (m : ℕ → Content)
+    (m-is : (r : ℕ) → m r ≡ contentOf (s .chains) (s .txns i .snapshot) r) where
   abbrev x : Txn
   x = s .txns i
 

@@ -31,7 +31,8 @@ use Rattle.model_in_turn.proofs.Beside.{renamed, SideBySide, beside-mov
 
 module _ (z : Sizes) (c₀ : ℕ) where
   -- a step that names a transaction, takes it on, and neither ends nor publishes it
-  beside-named : (s : Store) (es : List Entry) → SideBySide z c₀ s es → (a : Step) (t : ℕ) → Move s (at s t) (step s a .store) → entryOf s a .who ≡ t → endIn (entryOf s a .what) ≡ [] → isPublish (entryOf s a .what) ≡ false → Lives s t → rank (txnOf s t .phase) < phaseInstalled
+  beside-named : (s : Store) (es : List Entry) → SideBySide z c₀ s es → (a : Step) (t : ℕ) → Move s (at s t) (step s a .store) → entryOf s a .who ≡ t
+      → endIn (entryOf s a .what) ≡ [] → isPublish (entryOf s a .what) ≡ false → Lives s t → rank (txnOf s t .phase) < phaseInstalled
       → ((x : Local) (m : ℕ → Content) → Follow s (at s t) t (doneBy t es) x m → (y : Local) × Followed (step s a .store) (at s t) t (doneBy t es ++ (entryOf s a ∷ [])) y) → SideBySide z c₀ (step s a .store) (es ++ (entryOf s a ∷ []))
   beside-named s es h a t m who-is end-none no-publish lives few own =
       beside-move z c₀ s (step s a .store) es (entryOf s a) m h end-none
@@ -61,7 +62,8 @@ module _ (z : Sizes) (c₀ : ℕ) where
       → SideBySide z c₀ (step s (write t r c) .store) (es ++ (entryOf s (write t r c) ∷ []))
   beside-write s es h t r c ok =
       let d = write-0 s t r c .0 ok .0 in
-      beside-named s es h (write t r c) t (step-move s (write t r c)) refl refl refl (d .1) (omega (arith, d .2)) (λ x m f. own-write s (h .good) (at s t) t (doneBy t es) x m f r c ok)
+      beside-named s es h (write t r c) t (step-move s (write t r c)) refl refl refl (d .1) (omega (arith, d .2))
+      (λ x m f. own-write s (h .good) (at s t) t (doneBy t es) x m f r c ok)
 
   pub beside-validate : (s : Store) (es : List Entry) → SideBySide z c₀ s es → (t : ℕ) → number s (validate t) ≡ 0 → SideBySide z c₀ (step s (validate t) .store) (es ++ (entryOf s (validate t) ∷ []))
   beside-validate s es h t ok = let c = validate-0 s t .0 ok .0 in beside-named s es h (validate t) t (step-move s (validate t)) refl refl refl (c .1) (omega (arith, c .2)) (λ x m f. own-validate s (h .good) (at s t) t (doneBy t es) x m f ok)

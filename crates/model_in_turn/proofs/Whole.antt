@@ -67,12 +67,15 @@ module _ (s : Store) (q : Quiet s) where
   n = s .clock
 
   -- from an early stage
-  from-early : (x y : Local) (t : Store) (a : Step) (read : List (ℕ × Content)) → Alone s x t → Plays (s .sizes) (liveRow s) n x a read y → (phasePrepared ≤ rank (y .phase) → VersionsFit s (y .writes)) → Goes s y t n a read
+  from-early : (x y : Local) (t : Store) (a : Step) (read : List (ℕ × Content)) → Alone s x t → Plays (s .sizes) (liveRow s) n x a read y
+      → (phasePrepared ≤ rank (y .phase) → VersionsFit s (y .writes)) → Goes s y t n a read
   unfolding accepted
   from-early x y t a read l (plays-capture k p o) h = let w = capture-acts s q x t l k p o in record { done = w .done; entry-is = ap (λ r. record { who = n; what = capture n k; read = r }) (w .reads-are); stage = early-on (w .next) }
   from-early x y t a read l (plays-collect b k p) h = let w = collect-acts s q x t l b k p in record { done = w .done; entry-is = ap (λ r. record { who = n; what = collect n; read = r }) (w .reads-are); stage = early-on (w .next) }
   from-early x y t a read l (plays-rows room k rs rd p e f u v) h = let w = rows-acts s q x t l room k rs rd p e f u v in record { done = w .done; entry-is = ap (λ r. record { who = n; what = rows n room; read = r }) (w .reads-are); stage = early-on (w .next) }
-  from-early x y t a read l (plays-write r c p u v) h = let w = write-acts s q x t l r c p u v in record { done = w .done; entry-is = ap (λ o. record { who = n; what = write n r c; read = o }) (w .reads-are); stage = early-on (w .next) }
+  from-early x y t a read l (plays-write r c p u v) h = let w =
+      write-acts s q x t l r c p u v in
+      record { done = w .done; entry-is = ap (λ o. record { who = n; what = write n r c; read = o }) (w .reads-are); stage = early-on (w .next) }
   from-early x y t a read l (plays-validate p) h = let w = validate-acts s q x t l p in record { done = w .done; entry-is = ap (λ r. record { who = n; what = validate n; read = r }) (w .reads-are); stage = early-on (w .next) }
   from-early x y t a read l (plays-prepare p) h = let w = prepare-acts s q x t l p (h (omega arith)) in record { done = w .done; entry-is = ap (λ r. record { who = n; what = prepare n; read = r }) (w .reads-are); stage = early-on (w .next) }
   from-early x y t a read l (plays-install p) h = record {
@@ -109,13 +112,15 @@ module _ (s : Store) (q : Quiet s) where
   from-ended x y a read (plays-install d) = omega (arith, ap rank d)
   from-ended x y a read (plays-end d) = omega (arith, ap rank d)
 
-  goes : (x y : Local) (t : Store) (a : Step) (read : List (ℕ × Content)) → Stage s x t → Plays (s .sizes) (liveRow s) n x a read y → (phasePrepared ≤ rank (y .phase) → VersionsFit s (y .writes)) → Goes s y t n a read
+  goes : (x y : Local) (t : Store) (a : Step) (read : List (ℕ × Content)) → Stage s x t → Plays (s .sizes) (liveRow s) n x a read y
+      → (phasePrepared ≤ rank (y .phase) → VersionsFit s (y .writes)) → Goes s y t n a read
   goes x y t a read (early-on l) d h = from-early x y t a read l d h
   goes x y t a read (has-installed {x = w} {t = v} l p e) d h = from-installed w y v t a read l p e d
   goes x y t a read (has-ended {x = w} {t = v} l p e) d h = absurd (from-ended w y a read d)
 
 -- from prepare on the writes stay
-writes-stay : (z : Sizes) (m : ℕ → Content) (n : ℕ) (x y : Local) (a : Step) (read : List (ℕ × Content)) → Plays z m n x a read y → phasePrepared ≤ rank (x .phase) → (phasePrepared ≤ rank (y .phase)) × (y .writes ≡ x .writes)
+writes-stay : (z : Sizes) (m : ℕ → Content) (n : ℕ) (x y : Local) (a : Step) (read : List (ℕ × Content)) → Plays z m n x a read y
+    → phasePrepared ≤ rank (x .phase) → (phasePrepared ≤ rank (y .phase)) × (y .writes ≡ x .writes)
 writes-stay z m n x y a read (plays-capture k p o) l = absurd (omega (arith, ap rank p))
 writes-stay z m n x y a read (plays-collect b k p) l = absurd (omega (arith, ap rank p))
 writes-stay z m n x y a read (plays-rows room k rs rd p e f u v) l = absurd (omega (arith, ap rank p))
@@ -135,7 +140,8 @@ module _ (s : Store) (q : Quiet s) (numbers : s .clock + 2 ≤ lastNumber) where
   unfolding accepted
   first-entry = one-entry s begin (begin-done s q numbers) ∙ ap (λ (v : Stepped). record { who = s .clock; what = begin; read = returned s 0 (v .answer) } ∷ []) (done-does s begin (begin-done s q numbers))
 
-  pub ran : (es : List Entry) (x : Local) → Played (s .sizes) (liveRow s) (s .clock) es x → (phasePrepared ≤ rank (x .phase) → VersionsFit s (x .writes)) → Ran s es x
+  pub ran : (es : List Entry) (x : Local) → Played (s .sizes) (liveRow s) (s .clock) es x → (phasePrepared ≤ rank (x .phase) → VersionsFit s (x .writes))
+      → Ran s es x
   ran es x begins h = record { same = first-entry; stage = rw (one-run s begin) (early-on (begin-alone s q numbers)) }
   ran es y (then {es = ds} {x = x} {a = a} {read = read} d p) h =
       let w = ran ds x d (λ l. let k = writes-stay (s .sizes) (liveRow s) (s .clock) x y a read p l in rw (k .1) at (h (k .0))) in

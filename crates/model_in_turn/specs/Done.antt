@@ -5,8 +5,8 @@ use mathlib.Core.List.{List, [], _∷_, map}
 use lib.Dec.{eqb}
 use Rattle.model.specs.Store.{Store}
 use Rattle.model.specs.Contents.{Content, shownTo}
-use Rattle.model.specs.Refusals.{Step, begin, capture, collect, rows, write, prepare, install, end, publish, validate, abort, txnOf}
-use Rattle.model.specs.Machine.{Answer, Done, Number, Stamp, Count, Rows, Judged, Refused, actor, step}
+use Rattle.model.specs.Refusals.{Step, txnOf}
+use Rattle.model.specs.Machine.{Answer, Done, Number, Stamp, Count, Rows, Judged, Refused, rule, namedOr, actor, step}
 use Rattle.model.specs.Given.{number}
 
 -- what a read returned to transaction t: each row of the answer with its key and payload, own pending writes included
@@ -27,17 +27,7 @@ pub record Entry : Type 0 where
 
 -- whose a step is: begin's is the number that it gives
 abbrev pub whose : Store → Step → ℕ
-whose s begin = s .clock
-whose s (capture t k) = t
-whose s (collect t) = t
-whose s (rows t room) = t
-whose s (write t r c) = t
-whose s (prepare t) = t
-whose s (install t) = t
-whose s (end t) = t
-whose s (publish t) = t
-whose s (validate t) = t
-whose s (abort t) = t
+whose s a = namedOr (s .clock) (rule a .whose)
 
 -- the entry of a step that is accepted
 abbrev pub entryOf : Store → Step → Entry

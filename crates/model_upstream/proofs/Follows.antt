@@ -23,6 +23,7 @@ use Rattle.model.specs.History.{eventOf, addEvents, stepEvents, historyOver, hi
 use Rattle.model.specs.Refusals.{Step, begin, capture, collect, rows, write, prepare, install, end, publish, validate, abort, placeOf, txnOf, liveCount}
 use Rattle.model.specs.Machine.{at, actor, accepted, step, run, canOpen}
 use Rattle.model.specs.Given.{number, Ready}
+use Rattle.model.proofs.Ruled.{Publishes, may-publish, quiet, ruled}
 use Rattle.model.proofs.Move.{live-test, place-number}
 use Rattle.model.proofs.Numbers.{active-which, which-active, in-place}
 use Rattle.model.proofs.Good.{Good, good-run, opened-good}
@@ -50,7 +51,8 @@ record Calm (t t′ : ℕ → Txn) : Type 0 where
   late : (j : ℕ) → phaseEnded ≤ rank (t j .phase) → phaseEnded ≤ rank (t′ j .phase)
   early : (j : ℕ) → rank (t j .phase) < phaseEnded → rank (t′ j .phase) < phaseEnded
 
-calm-set : (t : ℕ → Txn) (i : ℕ) (x : Txn) → x .number ≡ t i .number → x .snapshot ≡ t i .snapshot → (phaseEnded ≤ rank (t i .phase) → phaseEnded ≤ rank (x .phase)) → (rank (t i .phase) < phaseEnded → rank (x .phase) < phaseEnded) → Calm t (update t i x)
+calm-set : (t : ℕ → Txn) (i : ℕ) (x : Txn) → x .number ≡ t i .number → x .snapshot ≡ t i .snapshot
+    → (phaseEnded ≤ rank (t i .phase) → phaseEnded ≤ rank (x .phase)) → (rank (t i .phase) < phaseEnded → rank (x .phase) < phaseEnded) → Calm t (update t i x)
 calm-set t i x n v late early = record {
   number-same = λ j. update-elim (λ y. y .number ≡ t j .number) t i x j (λ e. rw e n) (λ d. refl);
   snapshot-same = λ j. update-elim (λ y. y .snapshot ≡ t j .snapshot) t i x j (λ e. rw e v) (λ d. refl);
@@ -109,10 +111,12 @@ module _ (s : Store) (es : List Event) (p : Protocol) (g : Good s) (f : Follows 
     runs = λ j. update-elim (λ y. Live y → rank (y .phase) < phaseEnded → update (p .active) (s .clock) true (y .number) ≡ true) (s .txns) i (newTxn s) j
         (λ e l r. update-same (p .active) (s .clock) true)
         (λ d l r. update-elim (λ b. b ≡ true) (p .active) (s .clock) true _ (λ e. refl) (λ e. f .runs j l r));
-    who-runs = λ n. update-elim (λ b. b ≡ true → (j : ℕ) × Live (update (s .txns) i (newTxn s) j) × (rank (update (s .txns) i (newTxn s) j .phase) < phaseEnded) × (n ≡ update (s .txns) i (newTxn s) j .number)) (p .active) (s .clock) true n
+    who-runs = λ n. update-elim (λ b. b ≡ true → (j : ℕ) × Live (update (s .txns) i (newTxn s) j) × (rank (update (s .txns) i (newTxn s) j .phase) < phaseEnded)
+        × (n ≡ update (s .txns) i (newTxn s) j .number)) (p .active) (s .clock) true n
         (λ e t. let o = update-same (s .txns) i (newTxn s) in (i, rw o (g .numbers .clock-pos), rw o (omega arith), rw o e))
         (λ d t. let w = f .who-runs n t in let o = update-other (s .txns) i (newTxn s) (w .0) (λ e. omega (arith, rw e at (w .1))) in (w .0, rw o (w .1), rw o (w .2), rw o (w .3)));
-    has-ended = λ j. update-elim (λ y. Live y → phaseEnded ≤ rank (y .phase) → p .ended (y .number) ≡ true) (s .txns) i (newTxn s) j (λ e l r. absurd (omega arith)) (λ d. f .has-ended j);
+    has-ended = λ j. update-elim (λ y. Live y → phaseEnded ≤ rank (y .phase) → p .ended (y .number) ≡ true) (s .txns) i (newTxn s) j
+        (λ e l r. absurd (omega arith)) (λ d. f .has-ended j);
     unpublished = λ j. update-elim (λ y. Live y → p .published (y .number) ≡ none) (s .txns) i (newTxn s) j (λ e l. new-unpublished) (λ d. f .unpublished j);
     observes = λ j. update-elim (λ y. Live y → update (p .observed) (s .clock) (some (update (update (p .active) (s .clock) true) (s .clock) false)) (y .number) ≡ some (λ n. member n (y .snapshot .active))) (s .txns) i (newTxn s) j
         (λ e l. update-same (p .observed) (s .clock) _ ∙ ap some (fun-ext active-same))
@@ -127,20 +131,23 @@ module _ (s : Store) (es : List Event) (p : Protocol) (g : Good s) (f : Follows 
     others j d e = d (g .numbers .distinct j i (omega arith) e)
 
     -- who runs after the number has stopped is another
-    still-runs : (x : Txn) (n : ℕ) → n ≢ s .txns i .number → p .active n ≡ true → (j : ℕ) × Live (update (s .txns) i x j) × (rank (update (s .txns) i x j .phase) < phaseEnded) × (n ≡ update (s .txns) i x j .number)
+    still-runs : (x : Txn) (n : ℕ) → n ≢ s .txns i .number → p .active n ≡ true
+        → (j : ℕ) × Live (update (s .txns) i x j) × (rank (update (s .txns) i x j .phase) < phaseEnded) × (n ≡ update (s .txns) i x j .number)
     still-runs x n d t =
         let w = f .who-runs n t in
         let o = update-other (s .txns) i x (w .0) (λ e. d (w .3 ∙ ap (λ k. s .txns k .number) e)) in
         (w .0, rw o (w .1), rw o (w .2), rw o (w .3))
 
     -- the number stops being active: the record goes on Ended, or goes
-    follows-ended : (x : Txn) → (Live x → (x .number ≡ s .txns i .number) × (x .snapshot ≡ s .txns i .snapshot) × (phaseEnded ≤ rank (x .phase))) → Follows (s .clock) (update (s .txns) i x) es (afterAction p (End (s .txns i .number)))
+    follows-ended : (x : Txn) → (Live x → (x .number ≡ s .txns i .number) × (x .snapshot ≡ s .txns i .snapshot) × (phaseEnded ≤ rank (x .phase)))
+        → Follows (s .clock) (update (s .txns) i x) es (afterAction p (End (s .txns i .number)))
     follows-ended x h = record {
       clock-is = f .clock-is;
       runs = λ j. update-elim (λ y. Live y → rank (y .phase) < phaseEnded → update (p .active) (s .txns i .number) false (y .number) ≡ true) (s .txns) i x j
           (λ e a r. absurd (omega (arith, h a .2)))
           (λ d a r. update-other (p .active) _ false (s .txns j .number) (others j d) ∙ f .runs j a r);
-      who-runs = λ n. update-elim (λ b. b ≡ true → (j : ℕ) × Live (update (s .txns) i x j) × (rank (update (s .txns) i x j .phase) < phaseEnded) × (n ≡ update (s .txns) i x j .number)) (p .active) (s .txns i .number) false n
+      who-runs = λ n. update-elim (λ b. b ≡ true → (j : ℕ) × Live (update (s .txns) i x j) × (rank (update (s .txns) i x j .phase) < phaseEnded) ×
+          (n ≡ update (s .txns) i x j .number)) (p .active) (s .txns i .number) false n
           (λ e t. absurd (true≢false (sym t)))
           (still-runs x n);
       has-ended = λ j. update-elim (λ y. Live y → phaseEnded ≤ rank (y .phase) → update (p .ended) (s .txns i .number) true (y .number) ≡ true) (s .txns) i x j
@@ -152,12 +159,17 @@ module _ (s : Store) (es : List Event) (p : Protocol) (g : Good s) (f : Follows 
       stamped = f .stamped;
     }
 
-    follows-published : rank (s .txns i .phase) ≡ phaseEnded → Follows (suc (s .clock)) (update (s .txns) i noTxn) (addEvents s (s .txns i) (madeRows (s .sizes) (s .chains) (s .txns i .number) (s .txns i .writes)) es) (afterAction p (Publish (s .txns i .number) (s .clock)))
+    follows-published : rank (s .txns i .phase) ≡ phaseEnded
+        → Follows (suc (s .clock)) (update (s .txns) i noTxn)
+        (addEvents s (s .txns i) (madeRows (s .sizes) (s .chains) (s .txns i .number) (s .txns i .writes)) es)
+        (afterAction p (Publish (s .txns i .number) (s .clock)))
     follows-published r = record {
       clock-is = refl;
-      runs = λ j. update-elim (λ y. Live y → rank (y .phase) < phaseEnded → p .active (y .number) ≡ true) (s .txns) i noTxn j (λ e a. absurd (omega arith)) (λ d. f .runs j);
+      runs = λ j. update-elim (λ y. Live y → rank (y .phase) < phaseEnded → p .active (y .number) ≡ true) (s .txns) i noTxn j (λ e a. absurd (omega arith))
+          (λ d. f .runs j);
       who-runs = λ n t. still-runs noTxn n (λ e. true≢false (sym (f .has-ended i l (omega arith)) ∙ rw e at (v .disjoint n t))) t;
-      has-ended = λ j. update-elim (λ y. Live y → phaseEnded ≤ rank (y .phase) → p .ended (y .number) ≡ true) (s .txns) i noTxn j (λ e a. absurd (omega arith)) (λ d. f .has-ended j);
+      has-ended = λ j. update-elim (λ y. Live y → phaseEnded ≤ rank (y .phase) → p .ended (y .number) ≡ true) (s .txns) i noTxn j (λ e a. absurd (omega arith))
+          (λ d. f .has-ended j);
       unpublished = λ j. update-elim (λ y. Live y → update (p .published) (s .txns i .number) (some (s .clock)) (y .number) ≡ none) (s .txns) i noTxn j
           (λ e a. absurd (omega arith))
           (λ d a. update-other (p .published) _ (some (s .clock)) (s .txns j .number) (others j d) ∙ f .unpublished j a);
@@ -185,7 +197,8 @@ module _ (clock : ℕ) (s : Store) (es : List Event) (acts : List Action) (g : G
   abbrev here : Protocol
   here = protocolAfter clock acts
 
-  ends : (i t : ℕ) → s .txns i .number ≡ t → Live (s .txns i) → rank (s .txns i .phase) < phaseEnded → (x : Txn) → (Live x → (x .number ≡ s .txns i .number) × (x .snapshot ≡ s .txns i .snapshot) × (phaseEnded ≤ rank (x .phase)))
+  ends : (i t : ℕ) → s .txns i .number ≡ t → Live (s .txns i) → rank (s .txns i .phase) < phaseEnded → (x : Txn)
+      → (Live x → (x .number ≡ s .txns i .number) × (x .snapshot ≡ s .txns i .snapshot) × (phaseEnded ≤ rank (x .phase)))
       → ProtocolHistory clock (End t ∷ acts) × Follows (s .clock) (update (s .txns) i x) es (protocolAfter clock (End t ∷ acts))
   ends i t e l r x w = rw (← e) ((h .1 .runs i l r, h .0), follows-ended s es here g (h .1) (protocol-valid clock acts (h .0)) i l x w)
 
@@ -225,17 +238,11 @@ module _ (clock : ℕ) (s : Store) (es : List Event) (acts : List Action) (g : G
   -- a refused step adds no event
   no-event : (a : Step) → eqb (number s a) 0 ≡ false → stepEvents s a es ≡ es
   unfolding stepEvents
-  no-event begin e = refl
-  no-event (capture t k) e = refl
-  no-event (collect t) e = refl
-  no-event (rows t room) e = refl
-  no-event (write t r c) e = refl
-  no-event (prepare t) e = refl
-  no-event (install t) e = refl
-  no-event (end t) e = refl
-  no-event (publish t) e = rw e
-  no-event (validate t) e = refl
-  no-event (abort t) e = refl
+  no-event a = by a (ruled s a .publishes)
+    where
+      by : (b : Step) → Publishes s b → eqb (number s b) 0 ≡ false → stepEvents s b es ≡ es
+      by b (may-publish t) e = rw e
+      by b (quiet i q) e = q es
 
   pub step-beside : (a : Step) → Beside clock (step s a .store) (stepEvents s a es) (stepActions s a acts)
   unfolding stepActions

@@ -18,10 +18,11 @@ use Rattle.model.specs.Seeing.{versionOf, keyAt, Live}
 use Rattle.model.specs.Steps.{madeRows, newKey, keyBuckets}
 use Rattle.model.specs.Upstream.{Event, eventBuckets, stampAt, pointer}
 use Rattle.model.specs.History.{eventOf, addEvents, stepEvents, historyOver, history, changing}
-use Rattle.model.specs.Refusals.{Step, begin, capture, collect, rows, write, prepare, install, end, publish, validate, abort, txnOf}
+use Rattle.model.specs.Refusals.{Step, rows, publish, txnOf}
 use Rattle.model.specs.Machine.{step, run, canOpen}
 use Rattle.model.specs.Given.{number}
 use Rattle.model.specs.Holding.{Unpublished}
+use Rattle.model.proofs.Ruled.{Publishes, may-publish, quiet, ruled}
 use Rattle.model.proofs.SeeingLaws.{same-key, keyAt-zero, keyAt-key, key-bucket}
 use Rattle.model.proofs.Made.{made-writes}
 use Rattle.model.proofs.Holders.{needs-old, needs-new}
@@ -96,17 +97,13 @@ module _ (clock : ℕ) (s : Store) (es : List Event) (acts : List Action) (h : B
 
   guarded-step : (z : Sizes) → GuardedStampHistory z (λ b. 0) es → (a : Step) → GuardedStampHistory z (λ b. 0) (stepEvents s a es)
   unfolding stepEvents
-  guarded-step z g begin = g
-  guarded-step z g (capture t k) = g
-  guarded-step z g (collect t) = g
-  guarded-step z g (rows t room) = g
-  guarded-step z g (write t r c) = g
-  guarded-step z g (prepare t) = g
-  guarded-step z g (install t) = g
-  guarded-step z g (end t) = g
-  guarded-step z g (publish t) = cond-elim (GuardedStampHistory z (λ b. 0)) (eqb (number s (publish t)) 0) _ es (λ e. guarded-added z s (txnOf s t) (madeRows (s .sizes) (s .chains) (txnOf s t .number) (txnOf s t .writes)) es (λ q m. omega (arith, stamp-below q m .1)) g) (λ e. g)
-  guarded-step z g (validate t) = g
-  guarded-step z g (abort t) = g
+  guarded-step z g a = by a (ruled s a .publishes)
+    where
+      by : (b : Step) → Publishes s b → GuardedStampHistory z (λ b. 0) (stepEvents s b es)
+      by b (may-publish t) = cond-elim (GuardedStampHistory z (λ b. 0)) (eqb (number s (publish t)) 0) _ es
+          (λ e. guarded-added z s (txnOf s t) (madeRows (s .sizes) (s .chains) (txnOf s t .number) (txnOf s t .writes)) es
+          (λ q m. omega (arith, stamp-below q m .1)) g) (λ e. g)
+      by b (quiet i q) = rw (q es) g
 
 guarded-run : (z : Sizes) (clock : ℕ) (s : Store) (es : List Event) (acts : List Action) (more : List Step) → Good s → Beside clock s es acts → GuardedStampHistory z (λ b. 0) es → GuardedStampHistory z (λ b. 0) (historyOver es s more)
 unfolding historyOver run

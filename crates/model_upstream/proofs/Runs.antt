@@ -125,7 +125,8 @@ unfolding computes
 good = opened-good sizes 1 told refl (omega arith)
 
 -- after it no place has the number 4, and nobody has installed
-none-left : (pick (λ w. eqb (s₆ .txns w .number) 4) 0 mostLive ≡ []) × (pick (λ w. leb phaseInstalled (rank (s₆ .txns w .phase))) 0 mostLive ≡ []) × (s₆ .clock ≡ 6) × (s₆ .txns 0 .number ≡ 3)
+none-left : (pick (λ w. eqb (s₆ .txns w .number) 4) 0 mostLive ≡ []) × (pick (λ w. leb phaseInstalled (rank (s₆ .txns w .phase))) 0 mostLive ≡ [])
+    × (s₆ .clock ≡ 6) × (s₆ .txns 0 .number ≡ 3)
 unfolding computes
 none-left = (refl, refl, refl, refl)
 
@@ -134,7 +135,9 @@ pub gone-met : (more : List Step) → Gone (run s₆ more) 4
 gone-met more = no-resurrection s₆ good 4 (λ e. omega (arith, e)) (omega (arith, none-left .2)) (λ j e. rw (none-left .0) at (which-pick (λ w. eqb (s₆ .txns w .number) 4) 0 mostLive j (omega arith) (omega (arith, in-place (s₆ .clock) (s₆ .txns) (good .numbers) j (omega (arith, e)))) (eq-eqb _ 4 e))) more
 
 not-installed : (w : ℕ) → Live (s₆ .txns w) → phaseInstalled ≤ rank (s₆ .txns w .phase) → ⊥
-not-installed w l h = rw (none-left .1) at (which-pick (λ v. leb phaseInstalled (rank (s₆ .txns v .phase))) 0 mostLive w (omega arith) (omega (arith, in-place (s₆ .clock) (s₆ .txns) (good .numbers) w l)) (le-leb phaseInstalled (rank (s₆ .txns w .phase)) h))
+not-installed w l h = rw (none-left .1) at
+    (which-pick (λ v. leb phaseInstalled (rank (s₆ .txns v .phase))) 0 mostLive w (omega arith)
+    (omega (arith, in-place (s₆ .clock) (s₆ .txns) (good .numbers) w l)) (le-leb phaseInstalled (rank (s₆ .txns w .phase)) h))
 
 -- the history of the run is valid for transaction 3
 pub valid-met : HistoryValid 1 s₆ (s₆ .txns 0) (history (fresh sizes 1) told) (actions (fresh sizes 1) told)

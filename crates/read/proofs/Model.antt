@@ -187,15 +187,19 @@ module _ (s : Store) (rows versions lists : List ℕ) (used : ℕ) (t : Transact
 
     by-tests : (phase short many : Bool) → (many ≡ false → ReadAs s lists found t (doneRows t lists found (matchedRows seen (s .sizes .rows)) new))
         → RowsAs s lists found t (cond phase (some WrongPhase) (cond short (some NoRoom) (cond many (some ManyRecords) none)))
-        (cond phase (refusedRows t (refusalNumber WrongPhase) lists found) (cond short (refusedRows t (refusalNumber NoRoom) lists found) (cond many (refusedRows t (refusalNumber ManyRecords) lists found) (doneRows t lists found (matchedRows seen (s .sizes .rows)) new))))
+        (cond phase (refusedRows t (refusalNumber WrongPhase) lists found)
+        (cond short (refusedRows t (refusalNumber NoRoom) lists found)
+        (cond many (refusedRows t (refusalNumber ManyRecords) lists found) (doneRows t lists found (matchedRows seen (s .sizes .rows)) new))))
     by-tests true short many ok = refl
     by-tests false true many ok = refl
     by-tests false false true ok = refl
     by-tests false false false ok = ok refl
 
     -- the step: where the model refuses it, the words answer its number and are as they were; else they leave what the model does
-    pub rows-model : RowsAs s lists found t (refusal ((not (eqb (rank (txn .phase)) phaseCollected), WrongPhase) ∷ rowsChecks s txn room)) (rowsOf rows versions lists found (s .sizes .rows) used room t)
+    pub rows-model : RowsAs s lists found t (refusal ((not (eqb (rank (txn .phase)) phaseCollected), WrongPhase) ∷ rowsChecks s txn room))
+        (rowsOf rows versions lists found (s .sizes .rows) used room t)
     unfolding rowsOf readingOf refusal
     rows-model =
         rw (room-same room (length found) lent, count-same)
-        (by-tests (not (eqb (rank (txn .phase)) phaseCollected)) (ltb (min room mostRows) (length (foundRows s txn))) (ltb mostRecords (t .«records_n» + length new)) (λ e. read-as (ltb-false mostRecords (t .«records_n» + length new) e)))
+        (by-tests (not (eqb (rank (txn .phase)) phaseCollected)) (ltb (min room mostRows) (length (foundRows s txn)))
+        (ltb mostRecords (t .«records_n» + length new)) (λ e. read-as (ltb-false mostRecords (t .«records_n» + length new) e)))

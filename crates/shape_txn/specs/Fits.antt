@@ -51,7 +51,8 @@ rowsHeaded rows versions lists slot n number k = every k (λ i. rowFits rows ver
 
 -- each pending row of an Installed or Ended transaction
 unfoldable pub headsFit : List ℕ → List ℕ → List ℕ → Transaction → Bool
-headsFit rows versions lists t = ltb (rank (phaseView (t .phase))) phaseInstalled || rowsHeaded rows versions lists (t .slot) (t .«writes_n») (t .number) (t .«writes_n»)
+headsFit rows versions lists t = ltb (rank (phaseView (t .phase))) phaseInstalled || rowsHeaded rows versions lists (t .slot) (t .«writes_n») (t .number)
+    (t .«writes_n»)
 
 -- snapshot xmin the least of its active numbers and its own
 abbrev pub leastOf : Transaction → ℕ

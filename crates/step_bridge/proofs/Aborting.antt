@@ -19,8 +19,8 @@ use Rattle.base_lists.proofs.ListLaws.{among-cases, join-which, join-same}
 use Rattle.model.specs.Store as model
 use Rattle.model.specs.Store.{bucketIn, rank, phaseInstalled}
 use Rattle.model.specs.Steps.{freed, keyBuckets, oldKey, newKey, neededBuckets, pendingRows}
-use Rattle.model.specs.Refusals.{refusalNumber, WrongPhase, refusal, txnOf}
-use Rattle.model.specs.Machine.{gives, lentAfter, checks, accepted, afterRefusal, carried}
+use Rattle.model.specs.Refusals.{refusalNumber, WrongPhase, refusal}
+use Rattle.model.specs.Machine.{gives, lentAfter, accepted, afterRefusal, carried}
 use Rattle.model.specs.Machine as machine
 use Rattle.model.specs.Holding.{needs, Wants}
 use Rattle.model.proofs.Good.{Good, right-shape}
@@ -200,7 +200,8 @@ ended-at w z p l rows buckets a o clock clock′ c x h e₁ e₂ e₃ e₄ r b t
     }
 
 module _ (w : Words) (z : Sized w) (g : Good (view w)) (n : ℕ) where
-  aborted-at : standing w n < mostLive → 1 ≤ txnAt w (standing w n) .number → (b : Bool) → leb phaseInstalled (rank (phaseView (txnAt w (standing w n) .phase))) ≡ b
+  aborted-at : standing w n < mostLive → 1 ≤ txnAt w (standing w n) .number → (b : Bool)
+      → leb phaseInstalled (rank (phaseView (txnAt w (standing w n) .phase))) ≡ b
       → SameAt w (standing w n)
       (inAborted
       (cond b (record { reply = refusedOf (txnAt w (standing w n)) (refusalNumber WrongPhase); rows = w .tables .rows; buckets = w .tables .buckets })
@@ -217,14 +218,16 @@ module _ (w : Words) (z : Sized w) (g : Good (view w)) (n : ℕ) where
       let q = standing w n in
       let t = txnAt w q in
       let rs = rowsWritten (w .tables .lists) (t .slot) (t .«writes_n») in
-      ended-at w z q l _ _ tell.Done machine.Done (w .clock) (w .clock) _ _ _ refl (abort-chains w (t .number) rs) (abort-index w (t .number) rs (freedList w q)) (abort-held w z g q a (leb-false phaseInstalled (rank (phaseView (t .phase))) e))
+      ended-at w z q l _ _ tell.Done machine.Done (w .clock) (w .clock) _ _ _ refl (abort-chains w (t .number) rs)
+      (abort-index w (t .number) rs (freedList w q)) (abort-held w z g q a (leb-false phaseInstalled (rank (phaseView (t .phase))) e))
       (unclaim-all-length (w .sizes .rows) (t .number) (w .tables .rows) rs) (free-all-length (w .sizes .buckets) (t .number) (w .tables .buckets) (freedList w q)) refl refl
 
   -- buckets and claims are freed, and the record ends
   pub abort-same : Same w (ask.Abort n)
-  unfolding checks refusal abortOf
-  abort-same = by-place w z (ask.Abort n) refl (ltb (rank (txnOf (view w) n .phase)) phaseInstalled) [] refl
+  unfolding refusal abortOf
+  abort-same = by-place w z (ask.Abort n) refl tt
       (λ l d e.
       let q = standing w n in
       let a : 1 ≤ txnAt w q .number = live-at w n d e in
-      rw (freed-buckets w q z, ← late-test (rank (phaseView (txnAt w q .phase)))) (aborted-at l a (leb phaseInstalled (rank (phaseView (txnAt w q .phase)))) refl))
+      rw (freed-buckets w q z, ← late-test (rank (phaseView (txnAt w q .phase))))
+      (aborted-at l a (leb phaseInstalled (rank (phaseView (txnAt w q .phase)))) refl))

@@ -17,8 +17,8 @@ use Rattle.base_lists.specs.Lists.{member, some-of}
 use Rattle.model.specs.Store as model
 use Rattle.model.specs.Store.{bucketOf, phaseOpen}
 use Rattle.model.specs.Steps.{hasRead, addRead}
-use Rattle.model.specs.Refusals.{refusalNumber, WrongPhase, Marked, Taken, Stale, ManyReads, byAnother, captureChecks, refusal, inPhase, txnOf}
-use Rattle.model.specs.Machine.{checks, accepted, afterRefusal, carried}
+use Rattle.model.specs.Refusals.{refusalNumber, WrongPhase, Marked, Taken, Stale, ManyReads, byAnother, refusal}
+use Rattle.model.specs.Machine.{accepted, afterRefusal, carried}
 use Rattle.model.proofs.Ranges.{good-sized, bucket-in}
 use Rattle.base_protocol.specs.declared.Step.the-variants as ask
 use Rattle.base_protocol.specs.declared.Answer.the-variants as tell
@@ -45,7 +45,7 @@ use Rattle.step.specs.Words.{Words, sizesView, view, txnAt, SizedTxn, Sized}
 use Rattle.step_bridge.proofs.Shaped.{Shaped}
 use Rattle.step_bridge.proofs.Places.{standing, sized-at}
 use Rattle.step_bridge.proofs.Placed.{slot-view, txns-set, sized-set}
-use Rattle.step_bridge.proofs.Same.{same-store, SameAt, Same, refused-same, by-place}
+use Rattle.step_bridge.proofs.Same.{same-store, SameAt, Same, refused-same, later-tests, by-place}
 use Rattle.step_bridge.proofs.Tabled.{part-update, part-other}
 use Rattle.step_bridge.proofs.Judging.{reads-length, taken-same}
 
@@ -98,7 +98,9 @@ module _ (w : Words) (z : Sized w) (g : Shaped w) (n k : ℕ) (l : standing w n 
   pub key-in : bucketOf (view w .sizes) k < w .sizes .buckets
   key-in = bucket-in (view w .sizes) (good-sized (view w .sizes) (g .sizes)) k
 
-  marked-at : SameAt w (standing w n) (inBuckets (left (refusedOf (withMark (txnAt w (standing w n))) (refusalNumber Stale)) (w .tables .buckets) (w .tables .lists)) (w .clock) (w .used) (w .tables)) (carried (view w) (asked (ask.Capture n k)) (some Stale))
+  marked-at : SameAt w (standing w n)
+      (inBuckets (left (refusedOf (withMark (txnAt w (standing w n))) (refusalNumber Stale)) (w .tables .buckets) (w .tables .lists)) (w .clock) (w .used)
+      (w .tables)) (carried (view w) (asked (ask.Capture n k)) (some Stale))
   unfolding carried afterRefusal
   marked-at = let s = sized-at w z (standing w n) in record {
     store = same-store _ _ refl refl refl refl refl (txns-set w z (standing w n) l (w .tables .lists) (withMark (txnAt w (standing w n))) (λ j d. refl));
@@ -164,7 +166,7 @@ module _ (w : Words) (z : Sized w) (g : Shaped w) (n k : ℕ) (l : standing w n 
   captured-at f st q r false false false false false h = held-at f st q r h
 
   captured-place : SameAt w (standing w n) (inBuckets (captureAt (txnAt w (standing w n)) (bucketOf (view w .sizes) k) k (w .tables .buckets) (w .tables .lists)) (w .clock) (w .used) (w .tables))
-      (carried (view w) (asked (ask.Capture n k)) (refusal ((not (inPhase (view w) n phaseOpen), WrongPhase) ∷ captureChecks (view w) (txnOf (view w) n) k)))
+      (carried (view w) (asked (ask.Capture n k)) (refusal (later-tests (view w) (asked (ask.Capture n k)))))
   unfolding captureAt refusal
   captured-place =
       let q = standing w n in
@@ -174,10 +176,11 @@ module _ (w : Words) (z : Sized w) (g : Shaped w) (n k : ℕ) (l : standing w n 
       let st : stampOf (w .tables .buckets) b ≡ view w .index .stamp b = sym (part-field 2 0 (w .sizes .buckets) (w .tables .buckets) b (omega arith) key-in) in
       let has = has-place xs t b (sized-at w z q .reads) in
       rw (taken-same w z g (t .number) b key-in, st, has, reads-length xs t, many-same (readPrefix xs (t .slot) (t .«reads_n») b) (t .«reads_n»))
-      (captured-at (readPrefix xs (t .slot) (t .«reads_n») b) (view w .index .stamp b) refl has (not (eqb (model.rank (phaseView (t .phase))) model.phaseOpen)) (t .marked) (byAnother (view w .held .holder) (t .number) b)
+      (captured-at (readPrefix xs (t .slot) (t .«reads_n») b) (view w .index .stamp b) refl has (not (eqb (model.rank (phaseView (t .phase))) model.phaseOpen))
+      (t .marked) (byAnother (view w .held .holder) (t .number) b)
       (not (ltb (view w .index .stamp b) (t .number))) (tooMany (readPrefix xs (t .slot) (t .«reads_n») b) (t .«reads_n»)) refl)
 
 -- the key's bucket is taken
 pub capture-same : (w : Words) → Sized w → Shaped w → (n k : ℕ) → Same w (ask.Capture n k)
-unfolding checks bucketOf
-capture-same w z g n k = by-place w z (ask.Capture n k) refl (inPhase (view w) n phaseOpen) (captureChecks (view w) (txnOf (view w) n) k) refl (λ l d e. captured-place w z g n k l)
+unfolding bucketOf
+capture-same w z g n k = by-place w z (ask.Capture n k) refl tt (λ l d e. captured-place w z g n k l)

@@ -17,8 +17,8 @@ use Rattle.base_lists.proofs.ListLaws.{pick-same, pick-few}
 use Rattle.model.specs.Store as model
 use Rattle.model.specs.Store.{sameKey, bucketIn, keyIn, phaseHolding}
 use Rattle.model.specs.Steps.{postedRows}
-use Rattle.model.specs.Refusals.{refusalNumber, WrongPhase, refusal, inPhase}
-use Rattle.model.specs.Machine.{checks, accepted, afterRefusal, carried}
+use Rattle.model.specs.Refusals.{refusalNumber, WrongPhase, refusal}
+use Rattle.model.specs.Machine.{accepted, afterRefusal, carried}
 use Rattle.model.proofs.Ranges.{good-sized}
 use Rattle.base_protocol.specs.declared.Step.the-variants as ask
 use Rattle.base_protocol.specs.View.{asked}
@@ -124,6 +124,7 @@ module _ (w : Words) (z : Sized w) (g : Shaped w) where
 
   -- the posted rows are kept, and the bucket is free
   pub collect-same : (n : ℕ) → Same w (ask.Collect n)
-  unfolding checks refusal collectOf
-  collect-same n = by-place w z (ask.Collect n) refl (inPhase (view w) n phaseHolding) [] refl
-      (λ l d e. rw (posted-same (keyIn (phaseView (txnAt w (standing w n) .phase)))) (collected-at n l (live-at w n d e) (not (eqb (model.rank (phaseView (txnAt w (standing w n) .phase))) model.phaseHolding))))
+  unfolding refusal collectOf
+  collect-same n = by-place w z (ask.Collect n) refl tt
+      (λ l d e. rw (posted-same (keyIn (phaseView (txnAt w (standing w n) .phase))))
+      (collected-at n l (live-at w n d e) (not (eqb (model.rank (phaseView (txnAt w (standing w n) .phase))) model.phaseHolding))))

@@ -14,8 +14,8 @@ use Rattle.base_lists.specs.Table.{update}
 use Rattle.model.specs.Store.{phaseCollected}
 use Rattle.model.specs.Store as model
 use Rattle.model.specs.Steps.{foundRows, recordsAfter}
-use Rattle.model.specs.Refusals.{WrongPhase, NoRoom, ManyRecords, rowsChecks, refusal, inPhase, txnOf}
-use Rattle.model.specs.Machine.{checks, accepted, afterRefusal, carried}
+use Rattle.model.specs.Refusals.{WrongPhase, NoRoom, ManyRecords, refusal, txnOf}
+use Rattle.model.specs.Machine.{accepted, afterRefusal, carried}
 use Rattle.model.proofs.Ranges.{good-sized}
 use Rattle.base_protocol.specs.declared.Step.the-variants as ask
 use Rattle.base_protocol.specs.View.{asked}
@@ -83,9 +83,10 @@ module _ (w : Words) (z : Sized w) (g : Shaped w) where
 
   -- the matches go to the front of the lent list, where the room asked for is no more than that list
   pub rows-same : (n room : ℕ) → min room mostRows ≤ length (w .tables .found) → Same w (ask.Rows n room)
-  unfolding checks refusal
+  unfolding refusal
   rows-same n room h =
       let x = txnOf (view w) n in
-      by-place w z (ask.Rows n room) refl (inPhase (view w) n phaseCollected) (rowsChecks (view w) x room) refl
-      (λ l d e. found-at n room l _ (not (inPhase (view w) n phaseCollected)) (ltb (min room mostRows) (length (foundRows (view w) x))) (ltb mostRecords (length (recordsAfter (view w) x)))
+      by-place w z (ask.Rows n room) refl tt
+      (λ l d e. found-at n room l _ (not (eqb (model.rank (x .phase)) phaseCollected)) (ltb (min room mostRows) (length (foundRows (view w) x)))
+      (ltb mostRecords (length (recordsAfter (view w) x)))
       (rows-model (view w) (w .tables .rows) (w .tables .versions) (w .tables .lists) (w .used) (txnAt w (standing w n)) chains-shown (good-sized (view w .sizes) (g .sizes) .rows-most) (lists-stand (standing w n) l) (w .tables .found) room h))

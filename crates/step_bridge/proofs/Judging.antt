@@ -14,8 +14,8 @@ use Rattle.model.specs.Store.{phaseOpen}
 use Rattle.model.specs.Store as model
 use Rattle.model.specs.Steps.{readBuckets}
 use Rattle.model.specs.Verdict as judged
-use Rattle.model.specs.Refusals.{refusalNumber, WrongPhase, Taken, byAnother, validateChecks, refusal, inPhase, txnOf}
-use Rattle.model.specs.Machine.{checks, accepted, afterRefusal, carried}
+use Rattle.model.specs.Refusals.{refusalNumber, WrongPhase, Taken, byAnother, refusal, txnOf}
+use Rattle.model.specs.Machine.{accepted, afterRefusal, carried}
 use Rattle.base_protocol.specs.declared.Step.the-variants as ask
 use Rattle.base_protocol.specs.declared.Answer.the-variants as tell
 use Rattle.base_protocol.specs.declared.Verdict.{Verdict}
@@ -80,7 +80,10 @@ module _ (w : Words) (z : Sized w) (g : Shaped w) where
       })
 
   judged-at : (n : ℕ) (v : Verdict) → v ≡ verdictTold (judged.verdict (view w .chains) (view w .index) (txnOf (view w) n)) → (b c : Bool)
-      → SameAt w (standing w n) (stays (withClock (cond b (refusedOf (txnAt w (standing w n)) (refusalNumber WrongPhase)) (cond c (refusedOf (txnAt w (standing w n)) (refusalNumber Taken)) (record { answer = tell.Judged v; txn = txnAt w (standing w n) }))) (w .clock) (w .used)) (w .tables))
+      → SameAt w (standing w n) (stays
+      (withClock (cond b (refusedOf (txnAt w (standing w n)) (refusalNumber WrongPhase))
+      (cond c (refusedOf (txnAt w (standing w n)) (refusalNumber Taken)) (record { answer = tell.Judged v; txn = txnAt w (standing w n) }))) (w .clock)
+      (w .used)) (w .tables))
       (carried (view w) (asked (ask.Validate n)) (cond b (some WrongPhase) (cond c (some Taken) none)))
   unfolding carried accepted afterRefusal
   judged-at n v e true c = refused-same w z (standing w n) WrongPhase
@@ -89,9 +92,10 @@ module _ (w : Words) (z : Sized w) (g : Shaped w) where
 
   -- validate changes nothing
   pub validate-same : (n : ℕ) → Same w (ask.Validate n)
-  unfolding checks refusal validateOf
-  validate-same n = by-place w z (ask.Validate n) refl (inPhase (view w) n phaseOpen) (validateChecks (view w) (txnOf (view w) n)) refl
+  unfolding refusal validateOf
+  validate-same n = by-place w z (ask.Validate n) refl tt
       (λ l d e.
       let a = live-at w n d e in
       rw (reads-taken (standing w n) a)
-      (judged-at n _ (verdict-same (standing w n) a) (not (eqb (model.rank (phaseView (txnAt w (standing w n) .phase))) model.phaseOpen)) (some-of (byAnother (view w .held .holder) (txnAt w (standing w n) .number)) (readBuckets (view w .txns (standing w n))))))
+      (judged-at n _ (verdict-same (standing w n) a) (not (eqb (model.rank (phaseView (txnAt w (standing w n) .phase))) model.phaseOpen))
+      (some-of (byAnother (view w .held .holder) (txnAt w (standing w n) .number)) (readBuckets (view w .txns (standing w n))))))

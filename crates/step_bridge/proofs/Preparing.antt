@@ -4,7 +4,7 @@ use Prim.Native.Nat.{ℕ, _≤_, _<_}
 use mathlib.Core.Path.{_≡_, refl, sym, ap, _∙_}
 use mathlib.Core.Bool.{Bool, true, false, cond, not, _&&_, _||_}
 use mathlib.Core.Option.{none, some}
-use mathlib.Core.List.{List, _∷_}
+use mathlib.Core.List.{List}
 use native.Mathlib.Omega.{arith}
 use lib.Dec.{eqb, ltb}
 use lib.ListN.{length, take, getD, replicate, List·getD-map}
@@ -15,8 +15,8 @@ use Rattle.base_lists.proofs.ListLaws.{same-test, some-which, which-some}
 use Rattle.model.specs.Store.{rank, phaseOpen, phasePrepared}
 use Rattle.model.specs.Verdict as judged
 use Rattle.model.specs.Steps.{pendingRows, neededBuckets, preparedHeld, versionRows}
-use Rattle.model.specs.Refusals.{refusalNumber, WrongPhase, Taken, Conflict, NoVersions, byAnother, reservedBy, reserved, versionsAfter, prepareChecks, refusal, inPhase, txnOf}
-use Rattle.model.specs.Machine.{checks, accepted, afterRefusal, carried}
+use Rattle.model.specs.Refusals.{refusalNumber, WrongPhase, Taken, Conflict, NoVersions, byAnother, reservedBy, reserved, versionsAfter, refusal}
+use Rattle.model.specs.Machine.{accepted, afterRefusal, carried}
 use Rattle.base_protocol.specs.declared.Step.the-variants as ask
 use Rattle.base_protocol.specs.declared.Answer.the-variants as tell
 use Rattle.base_protocol.specs.View.{asked, verdictTold}
@@ -38,7 +38,7 @@ use Rattle.step.specs.Words.{Words, sizesView, view, txnAt, othersIn, Sized}
 use Rattle.step_bridge.proofs.Shaped.{Shaped}
 use Rattle.step_bridge.proofs.Places.{standing, live-at, sized-at}
 use Rattle.step_bridge.proofs.Placed.{txns-set, sized-set}
-use Rattle.step_bridge.proofs.Same.{same-store, SameAt, Same, refused-same, by-place}
+use Rattle.step_bridge.proofs.Same.{same-store, SameAt, Same, refused-same, later-tests, by-place}
 use Rattle.step_bridge.proofs.Listing.{listed-all, some-same}
 use Rattle.step_bridge.proofs.Tabled.{hold-all, hold-other, hold-length, claim-all, claim-other, claim-length}
 use Rattle.step_bridge.proofs.Writing.{sized-phase}
@@ -85,7 +85,8 @@ module _ (w : Words) (z : Sized w) (g : Shaped w) where
 
   reserved-one : (i : ℕ) → versionsIn (w .tables .rows) (w .tables .versions) (w .tables .lists) i (getD (othersIn (w .txns) .prepared) i 0) ≡ reservedBy (view w .sizes) (view w .chains) (view w .txns i)
   unfolding reservedBy
-  reserved-one i = rw (List·getD-map preparedOf (w .txns) i (idleOf i)) (by (eqb (txnAt w i .number) 0) refl (eqb (rank (phaseView (txnAt w i .phase))) phasePrepared))
+  reserved-one i = rw (List·getD-map preparedOf (w .txns) i (idleOf i))
+      (by (eqb (txnAt w i .number) 0) refl (eqb (rank (phaseView (txnAt w i .phase))) phasePrepared))
     where
       by : (b : Bool) → eqb (txnAt w i .number) 0 ≡ b → (c : Bool) → versionsIn (w .tables .rows) (w .tables .versions) (w .tables .lists) i (cond b 0 (cond c (txnAt w i .«writes_n») 0)) ≡ cond (not b && c) (length (versionRows (view w .sizes) (view w .chains) (view w .txns i .writes))) 0
       by true e c = none-reserved (w .tables .rows) (w .tables .versions) (w .tables .lists) i
@@ -154,16 +155,18 @@ module _ (w : Words) (z : Sized w) (g : Shaped w) where
   -- the tests after the phase
   prepare-place : (n : ℕ) → standing w n < mostLive → 1 ≤ txnAt w (standing w n) .number
       → SameAt w (standing w n) (inPrepared (prepareOf (w .tables .versions) (w .tables .lists) (w .sizes .buckets) (w .sizes .versions) (w .used) (othersIn (w .txns) .prepared) (txnAt w (standing w n)) (w .tables .rows) (w .tables .buckets)) (w .clock) (w .used) (w .tables))
-      (carried (view w) (asked (ask.Prepare n)) (refusal ((not (inPhase (view w) n phaseOpen), WrongPhase) ∷ prepareChecks (view w) (txnOf (view w) n))))
+      (carried (view w) (asked (ask.Prepare n)) (refusal (later-tests (view w) (asked (ask.Prepare n)))))
   unfolding prepareOf prepareWith lacks refusal
   prepare-place n l o =
       let q = standing w n in
       let t = txnAt w q in
       rw (needed-front q, taken-needs q o, claimed-rows q o, verdict-same w z g q o, clear-same (judged.verdict (view w .chains) (view w .index) (view w .txns q)), reserved-same, versions-counted w z g q o)
-      (prepared-at n l o (not (eqb (rank (phaseView (t .phase))) phaseOpen)) (some-of (byAnother (view w .held .holder) (t .number)) (neededBuckets (view w) (view w .txns q))) (some-of (byAnother (view w .held .claim) (t .number)) (pendingRows (view w .sizes) (view w .txns q .writes)))
-      (not (eqb (judged.verdictNumber (judged.verdict (view w .chains) (view w .index) (view w .txns q))) 0)) (ltb (w .sizes .versions) (versionsAfter (view w) (view w .txns q))))
+      (prepared-at n l o (not (eqb (rank (phaseView (t .phase))) phaseOpen))
+      (some-of (byAnother (view w .held .holder) (t .number)) (neededBuckets (view w) (view w .txns q)))
+      (some-of (byAnother (view w .held .claim) (t .number)) (pendingRows (view w .sizes) (view w .txns q .writes)))
+      (not (eqb (judged.verdictNumber (judged.verdict (view w .chains) (view w .index) (view w .txns q))) 0))
+      (ltb (w .sizes .versions) (versionsAfter (view w) (view w .txns q))))
 
   -- all that is needed is free, the verdict is clear, there are versions: all is taken
   pub prepare-same : (n : ℕ) → Same w (ask.Prepare n)
-  unfolding checks
-  prepare-same n = by-place w z (ask.Prepare n) refl (inPhase (view w) n phaseOpen) (prepareChecks (view w) (txnOf (view w) n)) refl (λ l d e. prepare-place n l (live-at w n d e))
+  prepare-same n = by-place w z (ask.Prepare n) refl tt (λ l d e. prepare-place n l (live-at w n d e))

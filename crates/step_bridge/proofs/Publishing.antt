@@ -5,7 +5,7 @@ use mathlib.Core.Path.{_≡_, refl, ap, _∙_, fun-ext}
 use mathlib.Core.Bool.{Bool, true, false, cond, not}
 use mathlib.Core.Logic.{inl, inr}
 use mathlib.Core.Option.{Option, none, some}
-use mathlib.Core.List.{List, [], _∷_}
+use mathlib.Core.List.{List, _∷_}
 use native.Mathlib.Omega.{arith}
 use lib.Dec.{eqb}
 use lib.ListN.{length}
@@ -18,8 +18,8 @@ use Rattle.model.specs.Store as model
 use Rattle.model.specs.Store.{bucketIn, rank, phaseInstalled, phaseEnded}
 use Rattle.model.specs.Seeing.{live}
 use Rattle.model.specs.Steps.{pendingRows, repost, changedBuckets, publishedIndex, freed}
-use Rattle.model.specs.Refusals.{refusalNumber, WrongPhase, liveCount, refusal, inPhase}
-use Rattle.model.specs.Machine.{checks, accepted, afterRefusal, carried}
+use Rattle.model.specs.Refusals.{refusalNumber, WrongPhase, liveCount, refusal}
+use Rattle.model.specs.Machine.{accepted, afterRefusal, carried}
 use Rattle.model.specs.Machine as machine
 use Rattle.model.proofs.Move.{live-test}
 use Rattle.model.proofs.Good.{Good, right-shape}
@@ -36,7 +36,7 @@ use Rattle.step.specs.Steps.{publishStep, publishedFrom, inPublished}
 use Rattle.step.specs.Words.{Words, sizesView, view, txnAt, Sized}
 use Rattle.step_bridge.proofs.Shaped.{Shaped, shaped}
 use Rattle.step_bridge.proofs.Places.{standing, sized-at, live-at}
-use Rattle.step_bridge.proofs.Same.{two-held, SameAt, Same, refused-same, by-place}
+use Rattle.step_bridge.proofs.Same.{two-held, SameAt, Same, refused-same, later-tests, by-place}
 use Rattle.step_bridge.proofs.Listing.{listed-all}
 use Rattle.step_bridge.proofs.Tabled.{part, InRange, stamp-all, stamp-other, stamp-length}
 use Rattle.step_bridge.proofs.Freeing.{freedAt, freed-release, free-all, unclaim-all, free-all-other, unclaim-all-other, free-all-length, unclaim-all-length}
@@ -148,7 +148,9 @@ module _ (w : Words) (z : Sized w) (g : Good (view w)) (n : ℕ) (l : standing w
   abbrev sh : Shaped w
   sh = shaped w z (right-shape (view w) g)
 
-  publish-held : phaseInstalled ≤ rank (phaseView (txnAt w (standing w n) .phase)) → heldView (rowsPart (sizesView (w .sizes)) (rowsAfter w (standing w n))) (bucketsPart (sizesView (w .sizes)) (bucketsAfter w (standing w n))) ≡ freed (view w .held) (txnAt w (standing w n) .number)
+  publish-held : phaseInstalled ≤ rank (phaseView (txnAt w (standing w n) .phase))
+      → heldView (rowsPart (sizesView (w .sizes)) (rowsAfter w (standing w n))) (bucketsPart (sizesView (w .sizes)) (bucketsAfter w (standing w n)))
+      ≡ freed (view w .held) (txnAt w (standing w n) .number)
   publish-held k =
       let p = standing w n in
       two-held _ _ _ _ (holders-freed w z sh p a ∙ freed-release (txnAt w p .number) (view w .held .holder) (heldOf w p) (held-listed w z g p a k))
@@ -171,11 +173,11 @@ module _ (w : Words) (z : Sized w) (g : Good (view w)) (n : ℕ) (l : standing w
       ended-at w z q l _ _ (tell.Stamp (w .clock)) (machine.Stamp (w .clock)) (oneMore (w .clock)) (suc (w .clock)) _ _ _ (one-up (w .clock) (clock-below w sh q l a)) (publish-chains w z q) (publish-index w z sh q a) (publish-held k) (rows-long w z q) (buckets-long w z q) refl refl
 
   published-place : SameAt w (standing w n) (inPublished (publishStep (w .tables .versions) (w .tables .lists) (w .sizes .buckets) (txnAt w (standing w n)) (w .clock) (w .used) (w .tables .rows) (w .tables .buckets)) (w .tables))
-      (carried (view w) (asked (ask.Publish n)) (refusal ((not (inPhase (view w) n phaseEnded), WrongPhase) ∷ [])))
+      (carried (view w) (asked (ask.Publish n)) (refusal (later-tests (view w) (asked (ask.Publish n)))))
   unfolding publishStep publishOf refusal
-  published-place = rw (stamped-is w z (standing w n), freed-is w z (standing w n) (stamped w (standing w n))) (published-at (not (eqb (rank (phaseView (txnAt w (standing w n) .phase))) phaseEnded)) refl)
+  published-place = rw (stamped-is w z (standing w n), freed-is w z (standing w n) (stamped w (standing w n)))
+      (published-at (not (eqb (rank (phaseView (txnAt w (standing w n) .phase))) phaseEnded)) refl)
 
 -- changed buckets are stamped, postings moved, buckets and claims freed, and the record ends
 pub publish-same : (w : Words) → Sized w → Good (view w) → (n : ℕ) → Same w (ask.Publish n)
-unfolding checks
-publish-same w z g n = by-place w z (ask.Publish n) refl (inPhase (view w) n phaseEnded) [] refl (λ l d e. published-place w z g n l (live-at w n d e))
+publish-same w z g n = by-place w z (ask.Publish n) refl tt (λ l d e. published-place w z g n l (live-at w n d e))

@@ -18,8 +18,8 @@ use Rattle.model.specs.Store as model
 use Rattle.model.specs.Store.{rank, phasePrepared}
 use Rattle.model.specs.Seeing.{lastWrite}
 use Rattle.model.specs.Steps.{newKey, writtenPayload, push, pushAll, versionRows}
-use Rattle.model.specs.Refusals.{refusalNumber, WrongPhase, reservedBy, reserved, refusal, inPhase}
-use Rattle.model.specs.Machine.{checks, accepted, afterRefusal, carried}
+use Rattle.model.specs.Refusals.{refusalNumber, WrongPhase, reservedBy, reserved, refusal}
+use Rattle.model.specs.Machine.{accepted, afterRefusal, carried}
 use Rattle.model.proofs.Made.{gets-writes}
 use Rattle.model.proofs.Room.{reserves}
 use Rattle.model.proofs.Ranges.{good-sized}
@@ -40,7 +40,7 @@ use Rattle.step.specs.Words.{Words, sizesView, view, txnAt, Sized}
 use Rattle.step_bridge.proofs.Shaped.{Shaped}
 use Rattle.step_bridge.proofs.Places.{standing, sized-at, live-at}
 use Rattle.step_bridge.proofs.Placed.{txns-set, sized-set}
-use Rattle.step_bridge.proofs.Same.{same-store, SameAt, Same, refused-same, by-place}
+use Rattle.step_bridge.proofs.Same.{same-store, SameAt, Same, refused-same, later-tests, by-place}
 use Rattle.step_bridge.proofs.Tabled.{part, part-update, part-other, InRange}
 use Rattle.step_bridge.proofs.Writing.{sized-phase}
 use Rattle.step_bridge.proofs.Needing.{row-in, pending-row}
@@ -158,7 +158,9 @@ abbrev after-rows : Words → ℕ → install.Chains
 after-rows w p = pushedRows (w .tables .lists) (txnAt w p .slot) (txnAt w p .«writes_n») (txnAt w p .number) (chainsIn w) (versionRows (view w .sizes) (view w .chains) (view w .txns p .writes))
 
 module _ (w : Words) (z : Sized w) (g : Shaped w) (n : ℕ) (l : standing w n < mostLive) (a : 1 ≤ txnAt w (standing w n) .number) where
-  install-chains : rank (phaseView (txnAt w (standing w n) .phase)) ≡ phasePrepared → chainsOf (view w .sizes) (after-rows w (standing w n)) ≡ pushAll (view w .txns (standing w n)) (versionRows (view w .sizes) (view w .chains) (view w .txns (standing w n) .writes)) (view w .chains)
+  install-chains : rank (phaseView (txnAt w (standing w n) .phase)) ≡ phasePrepared
+      → chainsOf (view w .sizes) (after-rows w (standing w n))
+      ≡ pushAll (view w .txns (standing w n)) (versionRows (view w .sizes) (view w .chains) (view w .txns (standing w n) .writes)) (view w .chains)
   install-chains r =
       let q = standing w n in
       let ps = versionRows (view w .sizes) (view w .chains) (view w .txns q .writes) in
@@ -181,7 +183,16 @@ module _ (w : Words) (z : Sized w) (g : Shaped w) (n : ℕ) (l : standing w n < 
   installed-at : (b : Bool) → not (eqb (rank (phaseView (txnAt w (standing w n) .phase))) phasePrepared) ≡ b
       → SameAt w (standing w n)
       (inInstalled
-      (cond b (record { reply = record { answer = tell.Refused (refusalNumber WrongPhase); txn = txnAt w (standing w n); used = w .used }; rows = w .tables .rows; versions = w .tables .versions })
+      (cond b (record {
+        reply = record {
+          answer = tell.Refused (refusalNumber WrongPhase);
+          txn = txnAt w
+              (standing w n);
+          used = w .used;
+        };
+        rows = w .tables .rows;
+        versions = w .tables .versions;
+      })
       (install.installed (txnAt w (standing w n)) (after-rows w (standing w n))))
       (w .clock) (w .tables))
       (carried (view w) (asked (ask.Install n)) (cond b (some WrongPhase) none))
@@ -191,7 +202,8 @@ module _ (w : Words) (z : Sized w) (g : Shaped w) (n : ℕ) (l : standing w n < 
       let q = standing w n in
       let t = txnAt w q in
       let ps = versionRows (view w .sizes) (view w .chains) (view w .txns q .writes) in
-      let r : rank (phaseView (t .phase)) ≡ phasePrepared = eqb-true (rank (phaseView (t .phase))) phasePrepared (not-false (eqb (rank (phaseView (t .phase))) phasePrepared) e) in
+      let r : rank (phaseView (t .phase))
+      ≡ phasePrepared = eqb-true (rank (phaseView (t .phase))) phasePrepared (not-false (eqb (rank (phaseView (t .phase))) phasePrepared) e) in
       record {
         store = same-store _ _ refl refl (install-chains r) install-index install-held (txns-set w z q l (w .tables .lists) (withPhase t phase.Installed) (λ j d. refl));
         answer = refl;
@@ -199,11 +211,11 @@ module _ (w : Words) (z : Sized w) (g : Shaped w) (n : ℕ) (l : standing w n < 
         sized = sized-set w z q l _ _ _ _ (sized-phase q t phase.Installed (sized-at w z q)) (all-rows-length (w .tables .lists) (t .slot) (t .«writes_n») (t .number) ps (chainsIn w)) (all-versions-length (w .tables .lists) (t .slot) (t .«writes_n») (t .number) ps (chainsIn w)) refl refl;
       }
 
-  installed-place : SameAt w (standing w n) (inInstalled (installOf (w .tables .lists) (txnAt w (standing w n)) (chainsIn w)) (w .clock) (w .tables)) (carried (view w) (asked (ask.Install n)) (refusal ((not (inPhase (view w) n phasePrepared), WrongPhase) ∷ [])))
+  installed-place : SameAt w (standing w n) (inInstalled (installOf (w .tables .lists) (txnAt w (standing w n)) (chainsIn w)) (w .clock) (w .tables))
+      (carried (view w) (asked (ask.Install n)) (refusal (later-tests (view w) (asked (ask.Install n)))))
   unfolding installOf toInstall refusal
   installed-place = rw (versions-front w z g (standing w n) a) (installed-at (not (eqb (rank (phaseView (txnAt w (standing w n) .phase))) phasePrepared)) refl)
 
 -- each distinct pending row that gets a version has it
 pub install-same : (w : Words) → Sized w → Shaped w → (n : ℕ) → Same w (ask.Install n)
-unfolding checks
-install-same w z g n = by-place w z (ask.Install n) refl (inPhase (view w) n phasePrepared) [] refl (λ l d e. installed-place w z g n l (live-at w n d e))
+install-same w z g n = by-place w z (ask.Install n) refl tt (λ l d e. installed-place w z g n l (live-at w n d e))

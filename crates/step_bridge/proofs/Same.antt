@@ -13,7 +13,9 @@ use Rattle.base_limits.specs.Limits.{mostLive}
 use Rattle.model.specs.Store as model
 use Rattle.model.specs.Refusals.{Step as Asked, Refusal, NoSuch, WrongPhase, refusalNumber, placeOf, refusal, found}
 use Rattle.model.specs.Machine as machine
-use Rattle.model.specs.Machine.{checks, gives, lentAfter, carried, afterRefusal, stepIn}
+use Rattle.model.specs.Machine.{gives, lentAfter, carried, afterRefusal, stepIn}
+use Rattle.model.specs.Given.{Names}
+use Rattle.model.proofs.Ruled.{phase-of, own-tests, ruled}
 use Rattle.model.proofs.Move.{place-number}
 use Rattle.base_protocol.specs.declared.Step.{Step}
 use Rattle.base_protocol.specs.declared.Answer.{Answer}
@@ -78,18 +80,23 @@ unmoved-at w z p a o e f = record {
 pub refused-same : (w : Words) → Sized w → (p : ℕ) (r : Refusal) → SameAt w p (unmoved w p (tell.Refused (refusalNumber r))) (gives (view w) (machine.Refused r))
 refused-same w z p r = unmoved-at w z p (tell.Refused (refusalNumber r)) (machine.Refused r) refl refl
 
--- the model refuses with 4; else it goes on with the phase
-module _ (v : model.Store) (a : Asked) (t : ℕ) (ph : Bool) (more : List (Bool × Refusal)) (e : checks v a ≡ found v t ph more) where
-  none-model : eqb t 0 || not (ltb (placeOf (v .txns) t) mostLive) ≡ true → stepIn v a ≡ gives v (machine.Refused NoSuch)
-  unfolding stepIn carried refusal afterRefusal
-  none-model h = rw (e, h)
+-- the tests of a step once its transaction is found: the phase, and its own
+abbrev pub later-tests : model.Store → Asked → List (Bool × Refusal)
+later-tests v a = (not (rule a .right (phase-of v a)), WrongPhase) ∷ own-tests v a
 
-  found-model : eqb t 0 || not (ltb (placeOf (v .txns) t) mostLive) ≡ false → stepIn v a ≡ carried v a (refusal ((not ph, WrongPhase) ∷ more))
+-- the model refuses with 4; else it goes on with the phase
+module _ (v : model.Store) (a : Asked) (n : Names a) where
+  none-model : eqb (actor a) 0 || not (ltb (placeOf (v .txns) (actor a)) mostLive) ≡ true → stepIn v a ≡ gives v (machine.Refused NoSuch)
+  unfolding stepIn carried refusal afterRefusal
+  none-model h = rw (ruled v a .finds-first n, h)
+
+  found-model : eqb (actor a) 0 || not (ltb (placeOf (v .txns) (actor a)) mostLive) ≡ false → stepIn v a ≡ carried v a (refusal (later-tests v a))
   unfolding stepIn refusal
-  found-model h = rw (e, h)
+  found-model h = rw (ruled v a .finds-first n, h)
 
 module _ (w : Words) (z : Sized w) (s : Step) (b : isBegin s ≡ false) where
-  moved-none : (p : ℕ) → placeFor (w .txns) s ≡ p → p < mostLive → eqb (wantedOf s) 0 || not (eqb (txnAt w p .number) (wantedOf s)) ≡ true → movedBy w s ≡ unmoved w p (tell.Refused (refusalNumber NoSuch))
+  moved-none : (p : ℕ) → placeFor (w .txns) s ≡ p → p < mostLive → eqb (wantedOf s) 0 || not (eqb (txnAt w p .number) (wantedOf s)) ≡ true
+      → movedBy w s ≡ unmoved w p (tell.Refused (refusalNumber NoSuch))
   unfolding movedBy stepOf missesOf
   moved-none p e l h = rw (e, default-any (w .txns) p (idleOf 0) (idleOf p) (omega (arith, z .eight)), b, h)
 
@@ -100,11 +107,13 @@ module _ (w : Words) (z : Sized w) (s : Step) (b : isBegin s ≡ false) where
 
   -- a step that names a transaction, and what is done to all that it leaves unless nothing was changed: the same where nobody has the number, and so the same where it is the same for the one who has it
   pub by-place-as : (done : Moved → Moved) → ((p : ℕ) (a : Answer) → placeFor (w .txns) s ≡ p → p < mostLive → done (unmoved w p a) ≡ unmoved w p a)
-      → (ph : Bool) (more : List (Bool × Refusal)) → checks (view w) (asked s) ≡ found (view w) (wantedOf s) ph more
-      → (standing w (wantedOf s) < mostLive → wantedOf s ≢ 0 → txnAt w (standing w (wantedOf s)) .number ≡ wantedOf s → placeFor (w .txns) s ≡ standing w (wantedOf s)
-      → SameAt w (standing w (wantedOf s)) (done (doneBy (w .sizes) (othersIn (w .txns)) (txnAt w (standing w (wantedOf s))) (w .clock) (w .used) s (w .tables))) (carried (view w) (asked s) (refusal ((not ph, WrongPhase) ∷ more))))
+      → Names (asked s) → (standing w (wantedOf s) < mostLive → wantedOf s ≢ 0 → txnAt w (standing w (wantedOf s)) .number ≡ wantedOf s → placeFor
+      (w .txns) s ≡ standing w (wantedOf s)
+      → SameAt w (standing w (wantedOf s))
+      (done (doneBy (w .sizes) (othersIn (w .txns)) (txnAt w (standing w (wantedOf s))) (w .clock) (w .used) s (w .tables)))
+      (carried (view w) (asked s) (refusal (later-tests (view w) (asked s)))))
       → SameAs w s (done (movedBy w s))
-  by-place-as done kept ph more e h = go (ℕ-discrete (wantedOf s) 0) (decLt (standing w (wantedOf s)) mostLive)
+  by-place-as done kept names h = go (ℕ-discrete (wantedOf s) 0) (decLt (standing w (wantedOf s)) mostLive)
     where
       go : Dec (wantedOf s ≡ 0) → Dec (standing w (wantedOf s) < mostLive) → SameAs w s (done (movedBy w s))
       go (no n) (yes l) =
@@ -112,23 +121,26 @@ module _ (w : Words) (z : Sized w) (s : Step) (b : isBegin s ≡ false) where
           let i : txnAt w q .number ≡ wantedOf s = place-number (view w) (wantedOf s) l in
           same-from w s q _ _ (there w z s l)
           (ap done (moved-found q (there w z s l) l (rw (ne-eqb (wantedOf s) 0 n, eq-eqb (txnAt w q .number) (wantedOf s) i))))
-          (found-model (view w) (asked s) (wantedOf s) ph more e (rw (ne-eqb (wantedOf s) 0 n, lt-ltb q mostLive l)))
+          (found-model (view w) (asked s) names (rw (ne-eqb (wantedOf s) 0 n, lt-ltb q mostLive l)))
           (h l n i (there w z s l))
       go (no n) (no l) =
           let k : mostLive ≤ standing w (wantedOf s) = omega (arith, l) in
           same-from w s 0 _ _ (nowhere w z s k)
-          (ap done (moved-none 0 (nowhere w z s k) (omega arith) (rw (ne-eqb (wantedOf s) 0 n, ne-eqb (txnAt w 0 .number) (wantedOf s) (not-there w z (wantedOf s) k 0 (omega arith))))) ∙ kept 0 (tell.Refused (refusalNumber NoSuch)) (nowhere w z s k) (omega arith))
-          (none-model (view w) (asked s) (wantedOf s) ph more e (rw (ne-eqb (wantedOf s) 0 n, le-ltb (standing w (wantedOf s)) mostLive k)))
+          (ap done (moved-none 0 (nowhere w z s k) (omega arith)
+          (rw (ne-eqb (wantedOf s) 0 n, ne-eqb (txnAt w 0 .number) (wantedOf s) (not-there w z (wantedOf s) k 0 (omega arith))))) ∙ kept 0
+          (tell.Refused (refusalNumber NoSuch)) (nowhere w z s k) (omega arith))
+          (none-model (view w) (asked s) names (rw (ne-eqb (wantedOf s) 0 n, le-ltb (standing w (wantedOf s)) mostLive k)))
           (refused-same w z 0 NoSuch)
       go (yes n) d =
           let l = place-in w z s in
           same-from w s (placeFor (w .txns) s) _ _ refl
-          (ap done (moved-none (placeFor (w .txns) s) refl l (rw (eq-eqb (wantedOf s) 0 n))) ∙ kept (placeFor (w .txns) s) (tell.Refused (refusalNumber NoSuch)) refl l)
-          (none-model (view w) (asked s) (wantedOf s) ph more e (rw (eq-eqb (wantedOf s) 0 n)))
+          (ap done (moved-none (placeFor (w .txns) s) refl l (rw (eq-eqb (wantedOf s) 0 n))) ∙ kept (placeFor (w .txns) s)
+          (tell.Refused (refusalNumber NoSuch)) refl l)
+          (none-model (view w) (asked s) names (rw (eq-eqb (wantedOf s) 0 n)))
           (refused-same w z (placeFor (w .txns) s) NoSuch)
 
-  pub by-place : (ph : Bool) (more : List (Bool × Refusal)) → checks (view w) (asked s) ≡ found (view w) (wantedOf s) ph more
-      → (standing w (wantedOf s) < mostLive → wantedOf s ≢ 0 → txnAt w (standing w (wantedOf s)) .number ≡ wantedOf s
-      → SameAt w (standing w (wantedOf s)) (doneBy (w .sizes) (othersIn (w .txns)) (txnAt w (standing w (wantedOf s))) (w .clock) (w .used) s (w .tables)) (carried (view w) (asked s) (refusal ((not ph, WrongPhase) ∷ more))))
+  pub by-place : Names (asked s) → (standing w (wantedOf s) < mostLive → wantedOf s ≢ 0 → txnAt w (standing w (wantedOf s)) .number ≡ wantedOf s
+      → SameAt w (standing w (wantedOf s)) (doneBy (w .sizes) (othersIn (w .txns)) (txnAt w (standing w (wantedOf s))) (w .clock) (w .used) s (w .tables))
+      (carried (view w) (asked s) (refusal (later-tests (view w) (asked s)))))
       → Same w s
-  by-place ph more e h = by-place-as (λ m. m) (λ p a q l. refl) ph more e (λ l n i q. h l n i)
+  by-place names h = by-place-as (λ m. m) (λ p a q l. refl) names (λ l n i q. h l n i)

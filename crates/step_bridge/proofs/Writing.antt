@@ -16,8 +16,8 @@ use Rattle.base_lists.specs.Table.{update}
 use Rattle.model.specs.Store.{phaseOpen, phaseInstalled}
 use Rattle.model.specs.Store as model
 use Rattle.model.specs.Steps as does
-use Rattle.model.specs.Refusals.{refusalNumber, Step as Asked, WrongPhase, Marked, NoRow, ManyWrites, refusal, inPhase, txnOf, writeChecks}
-use Rattle.model.specs.Machine.{gives, checks, accepted, afterRefusal, carried}
+use Rattle.model.specs.Refusals.{refusalNumber, Step as Asked, WrongPhase, Marked, NoRow, ManyWrites, refusal, txnOf, writeChecks}
+use Rattle.model.specs.Machine.{gives, accepted, afterRefusal, carried}
 use Rattle.model.specs.Machine as machine
 use Rattle.base_protocol.specs.declared.Step.the-variants as ask
 use Rattle.base_protocol.specs.declared.Answer.the-variants as tell
@@ -61,7 +61,9 @@ written-view xs p t z l h i x =
     )
 
 module _ (w : Words) (z : Sized w) (n : ℕ) (l : standing w n < mostLive) where
-  ended-at : (b : Bool) → SameAt w (standing w n) (stays (withClock (cond b (refusedOf (txnAt w (standing w n)) (refusalNumber WrongPhase)) (record { answer = tell.Done; txn = withPhase (txnAt w (standing w n)) phase.Ended })) (w .clock) (w .used)) (w .tables))
+  ended-at : (b : Bool) → SameAt w (standing w n)
+      (stays (withClock (cond b (refusedOf (txnAt w (standing w n)) (refusalNumber WrongPhase))
+      (record { answer = tell.Done; txn = withPhase (txnAt w (standing w n)) phase.Ended })) (w .clock) (w .used)) (w .tables))
       (carried (view w) (asked (ask.End n)) (cond b (some WrongPhase) none))
   unfolding carried accepted afterRefusal
   ended-at true = refused-same w z (standing w n) WrongPhase
@@ -104,26 +106,29 @@ module _ (w : Words) (z : Sized w) (p : ℕ) (l : p < mostLive) (x : Write) (a :
 
 -- the number stops being active
 pub end-same : (w : Words) → Sized w → (n : ℕ) → Same w (ask.End n)
-unfolding checks endOf refusal
-end-same w z n = by-place w z (ask.End n) refl (inPhase (view w) n phaseInstalled) [] refl (λ l d e. ended-at w z n l (not (eqb (model.rank (phaseView (txnAt w (standing w n) .phase))) model.phaseInstalled)))
+unfolding endOf refusal
+end-same w z n = by-place w z (ask.End n) refl tt
+    (λ l d e. ended-at w z n l (not (eqb (model.rank (phaseView (txnAt w (standing w n) .phase))) model.phaseInstalled)))
 
 -- a pending write is appended, for put and erase alike
 module _ (w : Words) (z : Sized w) (n : ℕ) (x : Write) (l : standing w n < mostLive) (a : Asked) where
   written-place : accepted (view w) a ≡ gives (does.written (view w) (standing w n) (writeView x)) machine.Done
       → SameAt w (standing w n) (inLists (writeOf (w .sizes .rows) (txnAt w (standing w n)) x (w .tables .lists)) (w .clock) (w .used) (w .tables))
-      (carried (view w) a (refusal ((not (inPhase (view w) n phaseOpen), WrongPhase) ∷ writeChecks (view w) (txnOf (view w) n) (x .row))))
+      (carried (view w) a (refusal ((not (eqb (model.rank (txnOf (view w) n .phase)) phaseOpen), WrongPhase) ∷ writeChecks (view w) (txnOf (view w) n)
+      (x .row))))
   unfolding writeOf refusal
   written-place e =
       let t = txnAt w (standing w n) in
       rw (writes-length (w .tables .lists) t)
-      (written-at w z (standing w n) l x a e (not (inPhase (view w) n phaseOpen)) (t .marked) (not (ltb (x .row) (w .sizes .rows))) (leb mostWrites (t .«writes_n»)) refl)
+      (written-at w z (standing w n) l x a e (not (eqb (model.rank (phaseView (t .phase))) phaseOpen)) (t .marked) (not (ltb (x .row) (w .sizes .rows)))
+      (leb mostWrites (t .«writes_n»)) refl)
 
 pub put-same : (w : Words) → Sized w → (n r k payload : ℕ) → Same w (ask.Put n r k payload)
-unfolding checks accepted
-put-same w z n r k payload = by-place w z (ask.Put n r k payload) refl (inPhase (view w) n phaseOpen) (writeChecks (view w) (txnOf (view w) n) r) refl
+unfolding accepted
+put-same w z n r k payload = by-place w z (ask.Put n r k payload) refl tt
     (λ l d e. written-place w z n (record { row = r; keyed = 1; key = k; payload = payload }) l (asked (ask.Put n r k payload)) refl)
 
 pub erase-same : (w : Words) → Sized w → (n r : ℕ) → Same w (ask.Erase n r)
-unfolding checks accepted
-erase-same w z n r = by-place w z (ask.Erase n r) refl (inPhase (view w) n phaseOpen) (writeChecks (view w) (txnOf (view w) n) r) refl
+unfolding accepted
+erase-same w z n r = by-place w z (ask.Erase n r) refl tt
     (λ l d e. written-place w z n (record { row = r; keyed = 0; key = 0; payload = 0 }) l (asked (ask.Erase n r)) refl)

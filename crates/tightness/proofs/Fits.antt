@@ -40,7 +40,8 @@ fits (rows, versions, lists, z, clock, used, t) = placeFits rows versions lists 
 abbrev rowsTested : (List ℕ → List ℕ → List ℕ → Transaction → ℕ → Bool) → Given → Bool
 rowsTested row-fits (rows, versions, lists, z, clock, used, t) =
     eqb (t .number) 0
-    || (ltb (t .number) clock && eqb (t .snapshot .xmin) (leastOf t) && countsFit t && rangesFit lists z used t && (ltb (rank (phaseView (t .phase))) phaseInstalled || every (t .«writes_n») (λ i. row-fits rows versions lists t (writeAt lists (t .slot) i .row))))
+    || (ltb (t .number) clock && eqb (t .snapshot .xmin) (leastOf t) && countsFit t && rangesFit lists z used t &&
+    (ltb (rank (phaseView (t .phase))) phaseInstalled || every (t .«writes_n») (λ i. row-fits rows versions lists t (writeAt lists (t .slot) i .row))))
 
 -- `place_fits`: a free place is tested as a live one is
 pub place-fits-free-tested : Excludes fits (λ (rows, versions, lists, z, clock, used, t). txnFits rows versions lists z clock used t)

@@ -54,7 +54,8 @@ pub prepared-count-open : Excludes {A = ℕ × Phase × ℕ} (λ (n, ph, writes)
 prepared-count-open = apart (1, phase.Open, 1) itself refl
 
 -- `prepared_count`: a free place has reserved versions
-pub prepared-count-free : Excludes {A = ℕ × Phase × ℕ} (λ (n, ph, writes). preparedCount n ph writes) (λ (n, ph, writes). cond (eqb (rank (phaseView ph)) phasePrepared) writes 0)
+pub prepared-count-free : Excludes {A = ℕ × Phase × ℕ} (λ (n, ph, writes). preparedCount n ph writes)
+    (λ (n, ph, writes). cond (eqb (rank (phaseView ph)) phasePrepared) writes 0)
 prepared-count-free = apart (0, phase.Prepared, 1) itself refl
 
 -- `live_count`: every place counts

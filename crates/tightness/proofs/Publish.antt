@@ -26,7 +26,8 @@ unfolding computes
 end-any-phase = apart (live 1 phase.Open) (λ (a : Answered). numberIn (a .answer)) refl
 
 -- `end`: the transaction stays Installed
-pub end-stays-installed : Excludes endOf (λ t. cond (not (eqb (rank (phaseView (t .phase))) phaseInstalled)) (refusedOf t 5) (record { answer = tell.Done; txn = t }))
+pub end-stays-installed : Excludes endOf
+    (λ t. cond (not (eqb (rank (phaseView (t .phase))) phaseInstalled)) (refusedOf t 5) (record { answer = tell.Done; txn = t }))
 unfolding computes
 end-stays-installed = apart (live 1 phase.Installed) (λ (a : Answered). rank (phaseView (a .txn .phase))) refl
 

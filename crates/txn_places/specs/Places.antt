@@ -4,25 +4,16 @@ use mathlib.Core.Bool.{Bool, true, false, cond, not, _&&_, _||_}
 use mathlib.Core.List.{List, [], _∷_}
 use lib.Dec.{eqb}
 use Rattle.model.specs.Store.{rank, phasePrepared, phaseEnded}
+use Rattle.model.specs.Machine.{actor}
 use Rattle.base_protocol.specs.declared.Step.{Step}
 use Rattle.base_protocol.specs.declared.Step.the-variants as ask
+use Rattle.base_protocol.specs.View.{asked}
 use Rattle.txn.specs.View.{phaseView}
 use Rattle.txn.specs.declared.Phase.{Phase}
 
 -- the number that a step names; 0, a free place's, for begin
 abbrev pub wantedOf : Step → ℕ
-wantedOf ask.Begin = 0
-wantedOf (ask.Capture t k) = t
-wantedOf (ask.Collect t) = t
-wantedOf (ask.Rows t room) = t
-wantedOf (ask.Put t r k payload) = t
-wantedOf (ask.Erase t r) = t
-wantedOf (ask.Prepare t) = t
-wantedOf (ask.Install t) = t
-wantedOf (ask.End t) = t
-wantedOf (ask.Publish t) = t
-wantedOf (ask.Validate t) = t
-wantedOf (ask.Abort t) = t
+wantedOf s = actor (asked s)
 
 abbrev pub isBegin : Step → Bool
 isBegin ask.Begin = true
