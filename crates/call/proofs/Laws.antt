@@ -12,6 +12,8 @@ use borrow.Author.Tests.{leb-true}
 use Rattle.base_limits.specs.Limits.{mostLive}
 use Rattle.base_lists.proofs.ListLaws.{and-l, and-r}
 use Rattle.base_protocol.specs.declared.Step.{Step}
+use Rattle.table.specs.Fields.{rowWords, versionWords, bucketWords}
+use Rattle.table.specs.Lists.{slotWords}
 use Rattle.txn.specs.Methods.{idleOf}
 use Rattle.txn.specs.declared.Transaction.{Transaction}
 use Rattle.txn_places.specs.declared.Sizes.{Sizes}
@@ -22,8 +24,8 @@ use Rattle.step.specs.Words.{othersIn, placeFor, movedBy}
 use Rattle.step_bridge.proofs.Places.{default-any}
 use Rattle.shape.specs.Shape.{tablesLent, tablesFit, shapeOf, wordsOf}
 use Rattle.shape.specs.declared.Machine.{Machine}
-use Rattle.call.specs.declared.Turned.{Turned}
-use Rattle.call.specs.Turns.{Left, left, asker, Swept, sweptFor, turnOf, placedOf, cleared}
+use Rattle.call.specs.declared.Called.{Called}
+use Rattle.call.specs.Calls.{Left, left, asker, Swept, sweptFor, callOf, placedOf, cleared}
 
 -- the list lent for the rows of a read is no part of the shape
 pub shape-found : (rows versions buckets lists found : List ℕ) (m : Machine) → shapeOf (wordsOf rows versions buckets lists found m) ≡ shapeOf (wordsOf rows versions buckets lists [] m)
@@ -44,12 +46,12 @@ module _ (rows versions buckets lists found : List ℕ) (m : Machine) (s : Step)
   asker-same : asker (wordsOf rows versions buckets lists found m) s ≡ getD (m .txns) p d
   asker-same = rw place-same (default-any (m .txns) p (idleOf 0) d (omega arith))
 
-  pub turn-done : (mv : Moved) (sw : Swept) (r : Turned) → shapeOf (wordsOf rows versions buckets lists found m) ≡ true
+  pub call-done : (mv : Moved) (sw : Swept) (r : Called) → shapeOf (wordsOf rows versions buckets lists found m) ≡ true
       → mv ≡ stepOf (m .sizes) o (getD (m .txns) p d) (m .clock) (m .used) s (wordsOf rows versions buckets lists found m .tables)
       → sw ≡ sweptFor (m .sizes) (getD (m .txns) p d .number) (mv .stepped .txn .number) (mv .rows) (mv .buckets) → r ≡ placedOf m p (mv .stepped)
-      → left r (sw .rows) (mv .versions) (sw .buckets) (mv .lists) (mv .found) ≡ turnOf (wordsOf rows versions buckets lists found m) s
-  unfolding turnOf
-  turn-done mv sw r shape moved swept placed =
+      → left r (sw .rows) (mv .versions) (sw .buckets) (mv .lists) (mv .found) ≡ callOf (wordsOf rows versions buckets lists found m) s
+  unfolding callOf
+  call-done mv sw r shape moved swept placed =
       let e : movedBy (wordsOf rows versions buckets lists found m) s ≡ mv = moved-same ∙ sym moved in
       rw (shape, e, asker-same, place-same, swept, placed)
 
@@ -73,26 +75,28 @@ pub clear-done : (l xs : List ℕ) (i n : ℕ) → i ≤ n → n ≤ i → xs �
 clear-done l xs i n a b e = let d : i ≡ n = omega arith in e ∙ ap (λ (j : ℕ). cleared j l) d
 
 -- the words that a size names are there
-module _ (rows versions buckets lists : List ℕ) (z : Sizes) (e : tablesLent rows versions buckets lists z ≡ true) where
-  three : leb (4 * z .rows) (length rows) && leb (6 * suc (z .versions)) (length versions) && leb (2 * z .buckets) (length buckets) ≡ true
-  three = and-l _ (leb 4352 (length lists)) e
+pub record Roomy (rows versions buckets lists : List ℕ) (z : Sizes) : Type 0 where
+  pub rows-there : rowWords * z .rows ≤ length rows
+  pub versions-there : versionWords * suc (z .versions) ≤ length versions
+  pub buckets-there : bucketWords * z .buckets ≤ length buckets
+  pub lists-there : mostLive * slotWords ≤ length lists
 
-  two : leb (4 * z .rows) (length rows) && leb (6 * suc (z .versions)) (length versions) ≡ true
-  two = and-l _ (leb (2 * z .buckets) (length buckets)) three
-
-  pub rows-lent : 4 * z .rows ≤ length rows
-  rows-lent = leb-true _ _ (and-l (leb (4 * z .rows) (length rows)) (leb (6 * suc (z .versions)) (length versions)) two)
-
-  pub versions-lent : 6 * suc (z .versions) ≤ length versions
-  versions-lent = leb-true _ _ (and-r (leb (4 * z .rows) (length rows)) (leb (6 * suc (z .versions)) (length versions)) two)
-
-  pub buckets-lent : 2 * z .buckets ≤ length buckets
-  buckets-lent = leb-true _ _ (and-r (leb (4 * z .rows) (length rows) && leb (6 * suc (z .versions)) (length versions)) (leb (2 * z .buckets) (length buckets)) three)
-
-  pub lists-lent : 4352 ≤ length lists
-  lists-lent = leb-true 4352 (length lists) (and-r (leb (4 * z .rows) (length rows) && leb (6 * suc (z .versions)) (length versions) && leb (2 * z .buckets) (length buckets)) (leb 4352 (length lists)) e)
+pub lent-roomy : (rows versions buckets lists : List ℕ) (z : Sizes) → tablesLent rows versions buckets lists z ≡ true → Roomy rows versions buckets lists z
+lent-roomy rows versions buckets lists z e =
+    let r = leb (rowWords * z .rows) (length rows) in
+    let v = leb (versionWords * suc (z .versions)) (length versions) in
+    let b = leb (bucketWords * z .buckets) (length buckets) in
+    let l = leb (mostLive * slotWords) (length lists) in
+    let three = and-l (r && v && b) l e in
+    let two = and-l (r && v) b three in
+    record {
+      rows-there = leb-true _ _ (and-l r v two);
+      versions-there = leb-true _ _ (and-r r v two);
+      buckets-there = leb-true _ _ (and-r (r && v) b three);
+      lists-there = leb-true _ _ (and-r (r && v && b) l e);
+    }
 
 -- an empty list that was lent comes back empty
-pub lent-none : (r : Turned) (rows versions buckets lists found : List ℕ) (x : Left) → length found ≡ 0 → left r rows versions buckets lists found ≡ x → left r rows versions buckets lists [] ≡ x
+pub lent-none : (r : Called) (rows versions buckets lists found : List ℕ) (x : Left) → length found ≡ 0 → left r rows versions buckets lists found ≡ x → left r rows versions buckets lists [] ≡ x
 lent-none r rows versions buckets lists [] x n e = e
 lent-none r rows versions buckets lists (y ∷ found) x n e = absurd (omega arith)

@@ -1,9 +1,4 @@
 // Open, and any step of a machine: the shape first, 16 where it is wrong; then the step of the transaction that it names.
-use shape_open::can_open;
-use shape_open::free_places;
-use txn_places::Sizes;
-use txn_places::place_of;
-use txn_places::wanted;
 use base_protocol::Answer;
 use base_protocol::Step;
 use base_protocol::WRONG_SHAPE;
@@ -12,13 +7,18 @@ use shape::Machine;
 use shape::others_of;
 use shape::right_shape;
 use shape::tables_lent;
+use shape_open::can_open;
+use shape_open::free_places;
 use step::Stepped;
 use step::step;
-use table_sweeps::release_every;
-use table_sweeps::unclaim_every;
 use table::BUCKET_WORDS;
 use table::ROW_WORDS;
 use table::VERSION_WORDS;
+use table_sweeps::release_every;
+use table_sweeps::unclaim_every;
+use txn_places::Sizes;
+use txn_places::place_of;
+use txn_places::wanted;
 ghost use mathlib.Core.Path.{_≡_};
 ghost use mathlib.Core.List.{[]};
 ghost use Prim.Native.Nat.{_<_, _≤_};
@@ -26,10 +26,10 @@ ghost use lib.ListN.{length};
 ghost use Rattle.base_limits.specs.Limits.{mostLive};
 ghost use Rattle.base_protocol.specs.declared.Answer.the-variants as tell;
 ghost use Rattle.shape.specs.Shape.{wordsOf};
-ghost use Rattle.call.specs.Turns.{left, sweptFor, turnOf, placedOf, cleared, freshOf, closedOf, openOf};
+ghost use Rattle.call.specs.Calls.{left, sweptFor, callOf, placedOf, cleared, freshOf, closedOf, openOf};
 
 // An answer, with the machine that goes back.
-pub struct Turned {
+pub struct Called {
     pub answer: Answer,
     pub machine: Machine,
 }
@@ -50,7 +50,7 @@ fn fresh(sizes: Sizes, clock: u64) -> Machine
 }
 
 // A refused open: a machine of no shape, so that every step of it gets 16.
-fn refused_open(why: u64) -> Turned
+fn refused_open(why: u64) -> Called
     ensures { λ r. ⌜ r ≡ record { answer = tell.Refused why; machine = closedOf } ⌝ }
 {
     let machine = fresh(
@@ -61,7 +61,7 @@ fn refused_open(why: u64) -> Turned
         },
         0,
     );
-    Turned {
+    Called {
         answer: Answer::Refused(why),
         machine: machine,
     }
@@ -81,34 +81,27 @@ fn clear(xs: &mut [u64], n: usize)
 
 // Open: a fresh store in the lent tables; words past a table's size keep their contents, and so do the lists.
 pub fn open(
-    rows_table: &mut [u64],
+    rows: &mut [u64],
     versions: &mut [u64],
     buckets: &mut [u64],
     lists: &[u64],
-    rows: u64,
-    version_count: u64,
-    bucket_count: u64,
+    sizes: Sizes,
     clock: u64,
-) -> Turned
-    ensures { λ r. ⌜ left r (now («rows_table» .exit)) (now (versions .exit)) (now (buckets .exit)) (now (lists .entry)) []
-        ≡ openOf (now («rows_table» .entry)) (now (versions .entry)) (now (buckets .entry)) (now (lists .entry)) (record { rows = rows; versions = «version_count»; buckets = «bucket_count» }) clock ⌝ }
+) -> Called
+    ensures { λ r. ⌜ left r (now (rows .exit)) (now (versions .exit)) (now (buckets .exit)) (now (lists .entry)) []
+        ≡ openOf (now (rows .entry)) (now (versions .entry)) (now (buckets .entry)) (now (lists .entry)) sizes clock ⌝ }
 {
-    let sizes = Sizes {
-        rows: rows,
-        versions: version_count,
-        buckets: bucket_count,
-    };
     if !can_open(sizes, clock) {
         return refused_open(WRONG_SIZE);
     }
-    if !tables_lent(rows_table, versions, buckets, lists, sizes) {
+    if !tables_lent(rows, versions, buckets, lists, sizes) {
         return refused_open(WRONG_SHAPE);
     }
-    clear(rows_table, ROW_WORDS * (rows as usize));
-    clear(versions, VERSION_WORDS * (version_count as usize + 1));
-    clear(buckets, BUCKET_WORDS * (bucket_count as usize));
+    clear(rows, ROW_WORDS * (sizes.rows as usize));
+    clear(versions, VERSION_WORDS * (sizes.versions as usize + 1));
+    clear(buckets, BUCKET_WORDS * (sizes.buckets as usize));
     let machine = fresh(sizes, clock);
-    Turned {
+    Called {
         answer: Answer::Done,
         machine: machine,
     }
@@ -117,7 +110,7 @@ pub fn open(
 // ---- steps
 
 // The record goes back to its place, and clock and last used pointer are taken over.
-fn placed(m: Machine, p: usize, done: Stepped) -> Turned
+fn placed(m: Machine, p: usize, done: Stepped) -> Called
     requires { ⌜ p < mostLive ⌝ }
     ensures { λ r. ⌜ r ≡ placedOf m p done ⌝ }
 {
@@ -126,7 +119,7 @@ fn placed(m: Machine, p: usize, done: Stepped) -> Turned
     let txn = done.txn;
     let mut txns = m.txns;
     txns[p] = txn;
-    Turned {
+    Called {
         answer: answer,
         machine: Machine {
             sizes: sizes,
@@ -138,8 +131,8 @@ fn placed(m: Machine, p: usize, done: Stepped) -> Turned
 }
 
 // Where the record ended, every bucket and every claim that still carries its number is freed.
-fn sweep(rows_table: &mut [u64], buckets: &mut [u64], sizes: Sizes, number: u64, number_after: u64)
-    ensures { λ _. ⌜ record { rows = now («rows_table» .exit); buckets = now (buckets .exit) } ≡ sweptFor sizes number «number_after» (now («rows_table» .entry)) (now (buckets .entry)) ⌝ }
+fn sweep(rows: &mut [u64], buckets: &mut [u64], sizes: Sizes, number: u64, number_after: u64)
+    ensures { λ _. ⌜ record { rows = now (rows .exit); buckets = now (buckets .exit) } ≡ sweptFor sizes number «number_after» (now (rows .entry)) (now (buckets .entry)) ⌝ }
 {
     if number == 0 {
         return;
@@ -147,25 +140,25 @@ fn sweep(rows_table: &mut [u64], buckets: &mut [u64], sizes: Sizes, number: u64,
     if number_after != 0 {
         return;
     }
-    unclaim_every(rows_table, sizes.rows, number);
+    unclaim_every(rows, sizes.rows, number);
     release_every(buckets, sizes.buckets, number);
 }
 
 // Any step: the shape first, then the step of the transaction that it names; nothing stays held or claimed for one that ended.
-pub fn turn(
-    rows_table: &mut [u64],
+pub fn call(
+    rows: &mut [u64],
     versions: &mut [u64],
     buckets: &mut [u64],
     lists: &mut [u64],
     found: &mut [u64],
     m: Machine,
     s: Step,
-) -> Turned
-    ensures { λ r. ⌜ left r (now («rows_table» .exit)) (now (versions .exit)) (now (buckets .exit)) (now (lists .exit)) (now (found .exit))
-        ≡ turnOf (wordsOf (now («rows_table» .entry)) (now (versions .entry)) (now (buckets .entry)) (now (lists .entry)) (now (found .entry)) m) s ⌝ }
+) -> Called
+    ensures { λ r. ⌜ left r (now (rows .exit)) (now (versions .exit)) (now (buckets .exit)) (now (lists .exit)) (now (found .exit))
+        ≡ callOf (wordsOf (now (rows .entry)) (now (versions .entry)) (now (buckets .entry)) (now (lists .entry)) (now (found .entry)) m) s ⌝ }
 {
-    if !right_shape(rows_table, versions, buckets, lists, m) {
-        return Turned {
+    if !right_shape(rows, versions, buckets, lists, m) {
+        return Called {
             answer: Answer::Refused(WRONG_SHAPE),
             machine: m,
         };
@@ -177,7 +170,7 @@ pub fn turn(
     let p = place_of(numbers, wanted(s));
     let t = txns[p];
     let done = step(
-        rows_table,
+        rows,
         versions,
         buckets,
         lists,
@@ -190,22 +183,22 @@ pub fn turn(
         s,
     );
     let txn = done.txn;
-    sweep(rows_table, buckets, sizes, t.number, txn.number);
+    sweep(rows, buckets, sizes, t.number, txn.number);
     placed(m, p, done)
 }
 
 // A step that finds no rows needs no list for them.
-pub fn turn_without_list(
-    rows_table: &mut [u64],
+pub fn call_without_list(
+    rows: &mut [u64],
     versions: &mut [u64],
     buckets: &mut [u64],
     lists: &mut [u64],
     m: Machine,
     s: Step,
-) -> Turned
-    ensures { λ r. ⌜ left r (now («rows_table» .exit)) (now (versions .exit)) (now (buckets .exit)) (now (lists .exit)) []
-        ≡ turnOf (wordsOf (now («rows_table» .entry)) (now (versions .entry)) (now (buckets .entry)) (now (lists .entry)) [] m) s ⌝ }
+) -> Called
+    ensures { λ r. ⌜ left r (now (rows .exit)) (now (versions .exit)) (now (buckets .exit)) (now (lists .exit)) []
+        ≡ callOf (wordsOf (now (rows .entry)) (now (versions .entry)) (now (buckets .entry)) (now (lists .entry)) [] m) s ⌝ }
 {
     let mut none = [0u64; 0];
-    turn(rows_table, versions, buckets, lists, &mut none, m, s)
+    call(rows, versions, buckets, lists, &mut none, m, s)
 }

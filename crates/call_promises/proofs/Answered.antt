@@ -25,7 +25,7 @@ use Rattle.report_answers.specs.Answers as answers
 use Rattle.report_answers.specs.Answers.{numberOf, valuesOf}
 use Rattle.step.specs.Words.{Words, sizesView, view}
 use Rattle.shape.specs.Shape.{tablesLent, tablesFit}
-use Rattle.call.specs.Turns.{Left, refusedOpen, openOf}
+use Rattle.call.specs.Calls.{Left, refusedOpen, openOf}
 use Rattle.call_promises.specs.Calls.{Call, asking, lending, called, Typed, AnyCall}
 use Rattle.call_promises.specs.Refused.{Marks}
 use Rattle.call_promises.specs.Demands.{ExactCall, Opening, openNumber, ExactOpen, validating, JudgedCall}

@@ -32,10 +32,10 @@ use Rattle.step_bridge.proofs.Same.{SameAs}
 use Rattle.step_bridge.proofs.Running.{Stands}
 use Rattle.step_bridge.proofs.Stepping.{Lent}
 use Rattle.shape.specs.Shape.{tablesLent, inPlace, allInPlace, tablesFit, shapeOf}
-use Rattle.call.specs.Turns.{turnedBy, wordsTurned, turnOf}
-use Rattle.call.proofs.Laws.{rows-lent, versions-lent, buckets-lent, lists-lent}
+use Rattle.call.specs.Calls.{calledBy, wordsCalled, callOf}
+use Rattle.call.proofs.Laws.{lent-roomy}
 use Rattle.call_promises.specs.Calls.{Call, roomWithin, asking, lending, called, calls, stepsOf, Typed, CalledAs, AnyCall}
-use Rattle.call_promises.proofs.Turned.{turn-same}
+use Rattle.call_promises.proofs.Called.{call-same}
 
 -- ---- the room that a call asks for
 
@@ -45,8 +45,8 @@ module _ (w : Words) where
   unfolding movedBy placeFor stepOf missesOf rowsOf readingOf
   rows-cut n room = let e : roomFor (min room (length (w .tables .found))) (length (w .tables .found)) ≡ roomFor room (length (w .tables .found)) = omega arith in rw e
 
-  room-cut : (s : Step) → turnOf w (roomWithin (length (w .tables .found)) s) ≡ turnOf w s
-  unfolding turnOf placeFor
+  room-cut : (s : Step) → callOf w (roomWithin (length (w .tables .found)) s) ≡ callOf w s
+  unfolding callOf placeFor
   room-cut ask.Begin = refl
   room-cut (ask.Capture n k) = refl
   room-cut (ask.Collect n) = refl
@@ -99,14 +99,16 @@ sized-txn i t n e =
 fit-sized : (w : Words) → Typed w → tablesFit w ≡ true → Sized w
 unfolding tablesFit
 fit-sized w t e =
-    let lent = and-l (tablesLent (w .tables .rows) (w .tables .versions) (w .tables .buckets) (w .tables .lists) (w .sizes)) (allInPlace (w .txns)) e in
-    let placed = and-r (tablesLent (w .tables .rows) (w .tables .versions) (w .tables .buckets) (w .tables .lists) (w .sizes)) (allInPlace (w .txns)) e in
+    let all-lent = tablesLent (w .tables .rows) (w .tables .versions) (w .tables .buckets) (w .tables .lists) (w .sizes) in
+    let lent = and-l all-lent (allInPlace (w .txns)) e in
+    let placed = and-r all-lent (allInPlace (w .txns)) e in
+    let room = lent-roomy (w .tables .rows) (w .tables .versions) (w .tables .buckets) (w .tables .lists) (w .sizes) lent in
     record {
       eight = t .eight;
-      rows = rows-lent (w .tables .rows) (w .tables .versions) (w .tables .buckets) (w .tables .lists) (w .sizes) lent;
-      versions = versions-lent (w .tables .rows) (w .tables .versions) (w .tables .buckets) (w .tables .lists) (w .sizes) lent;
-      buckets = buckets-lent (w .tables .rows) (w .tables .versions) (w .tables .buckets) (w .tables .lists) (w .sizes) lent;
-      lists = lists-lent (w .tables .rows) (w .tables .versions) (w .tables .buckets) (w .tables .lists) (w .sizes) lent;
+      rows = room .rows-there;
+      versions = room .versions-there;
+      buckets = room .buckets-there;
+      lists = room .lists-there;
       txns = λ i l. sized-txn i (txnAt w i) (t .seven i l) (every-at mostLive (λ j. inPlace j (txnAt w j)) placed i l);
     }
 
@@ -171,31 +173,31 @@ module _ (w : Words) (c : Call) where
   cut = roomWithin (length (c .lent)) (c .asks)
 
   called-wrong : shapeOf w ≡ false → called w c ≡ record { answer = tell.Refused 16; words = lent }
-  unfolding turnOf
+  unfolding callOf
   called-wrong e = rw (lent-shape w (c .lent), e)
 
-  turn-right : shapeOf w ≡ true → turnOf lent cut ≡ record { answer = turnedBy lent cut .stepped .answer; words = wordsTurned lent cut }
-  unfolding turnOf
-  turn-right e = rw (lent-shape w (c .lent), e)
+  call-right : shapeOf w ≡ true → callOf lent cut ≡ record { answer = calledBy lent cut .stepped .answer; words = wordsCalled lent cut }
+  unfolding callOf
+  call-right e = rw (lent-shape w (c .lent), e)
 
-  called-right : shapeOf w ≡ true → called w c ≡ record { answer = turnedBy lent cut .stepped .answer; words = wordsTurned lent cut }
-  called-right e = sym (room-cut lent (c .asks)) ∙ turn-right e
+  called-right : shapeOf w ≡ true → called w c ≡ record { answer = calledBy lent cut .stepped .answer; words = wordsCalled lent cut }
+  called-right e = sym (room-cut lent (c .asks)) ∙ call-right e
 
   -- of right shape
   module _ (z : Sized w) (e : rightShape (view w) ≡ true) where
     right : shapeOf w ≡ true
     right = shape-is w ∙ rw (sized-fit w z, e)
 
-    turned : SameAs lent cut (turnedBy lent cut)
-    turned = turn-same lent (lent-sized w (c .lent) z) e cut (cut-lent lent (c .asks))
+    called : SameAs lent cut (calledBy lent cut)
+    called = call-same lent (lent-sized w (c .lent) z) e cut (cut-lent lent (c .asks))
 
     pub right-sized : Sized (called w c .words)
-    right-sized = rw (called-right right) (turned .sized)
+    right-sized = rw (called-right right) (called .sized)
 
     pub right-as : CalledAs w c
     right-as =
         let m = model-right (view w) (asking c) e in
-        record { answer = rw (called-right right, m) (turned .answer); store = rw (called-right right, m) (turned .store); found = rw (called-right right, m) (turned .lent) }
+        record { answer = rw (called-right right, m) (called .answer); store = rw (called-right right, m) (called .store); found = rw (called-right right, m) (called .lent) }
 
   -- of wrong shape
   wrong-as : tablesFit w ≡ true → rightShape (view w) ≡ false → CalledAs w c

@@ -1,7 +1,7 @@
 pub mod Opened
 pub mod Refusing
 pub mod Sweeping
-pub mod Turned
+pub mod Called
 pub mod Calls
 pub mod Answered
 pub mod Sequences

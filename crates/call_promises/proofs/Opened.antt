@@ -16,8 +16,8 @@ use Rattle.step.specs.Words.{Words, sizesView, view}
 use Rattle.step_bridge.proofs.Running.{Stands}
 use Rattle.step_bridge.proofs.Opening.{Opened, opened-view, opened-stands}
 use Rattle.shape.specs.Shape.{tablesLent, wordsOf}
-use Rattle.call.proofs.Laws.{lists-lent}
-use Rattle.call.specs.Turns.{cleared, freshOf, refusedOpen, openOf}
+use Rattle.call.proofs.Laws.{lent-roomy}
+use Rattle.call.specs.Calls.{cleared, freshOf, refusedOpen, openOf}
 
 -- so many words from the front are 0
 take-zero : (n : ℕ) (ys : List ℕ) (i : ℕ) → getD (take n (replicate n 0 ++ ys)) i 0 ≡ 0
@@ -66,7 +66,7 @@ module _ (rows versions buckets lists : List ℕ) (z : Sizes) (clock : ℕ) (l :
       rows-long = cleared-long (rowWords * z .rows) rows;
       versions-long = cleared-long (versionWords * suc (z .versions)) versions;
       buckets-long = cleared-long (bucketWords * z .buckets) buckets;
-      lists-long = lists-lent rows versions buckets lists z (tests .1);
+      lists-long = lent-roomy rows versions buckets lists z (tests .1) .lists-there;
     }
 
     pub open-stands : Stands (openOf rows versions buckets lists z clock .words)

@@ -46,7 +46,7 @@ use Rattle.step.specs.Steps.{Tables, Moved, publishStep, stays, inBuckets, inLi
 use Rattle.step.specs.Words.{Words, sizesView, othersIn, placeFor, movedBy, wordsAfter}
 use Rattle.step_bridge.proofs.Placed.{after}
 use Rattle.shape.specs.Shape.{tablesLent, shapeOf, wordsOf}
-use Rattle.call.specs.Turns.{asker, hasEnded, sweptFor, turnedBy, wordsTurned, turnOf, closedOf, openOf}
+use Rattle.call.specs.Calls.{asker, hasEnded, sweptFor, calledBy, wordsCalled, callOf, closedOf, openOf}
 use Rattle.call_promises.specs.Refused.{Marks}
 
 -- a test of a step: what holds either way holds
@@ -272,13 +272,13 @@ module _ (z : Sizes) (t : Transaction) (clock used : ℕ) (b : Tables) where
 
 -- where no record ended, nothing is swept
 module _ (w : Words) (s : Step) where
-  unswept : hasEnded (asker w s .number) (movedBy w s .stepped .txn .number) ≡ false → turnedBy w s ≡ movedBy w s
+  unswept : hasEnded (asker w s .number) (movedBy w s .stepped .txn .number) ≡ false → calledBy w s ≡ movedBy w s
   unfolding sweptFor
   unswept e = rw e
 
-  pub turned-stays : ends s ≡ false → turnedBy w s ≡ movedBy w s
+  pub called-stays : ends s ≡ false → calledBy w s ≡ movedBy w s
   unfolding movedBy
-  turned-stays d = unswept (step-stays (w .sizes) (asker w s) (w .clock) (w .used) (w .tables) (othersIn (w .txns)) s d)
+  called-stays d = unswept (step-stays (w .sizes) (asker w s) (w .clock) (w .used) (w .tables) (othersIn (w .txns)) s d)
 
 module _ (w : Words) (s : Step) (n : ℕ) where
   -- what a step leaves, with its record at its place
@@ -289,9 +289,9 @@ module _ (w : Words) (s : Step) (n : ℕ) where
   live-there : asker w s .number ≢ 0 → placeFor (w .txns) s < length (w .txns)
   live-there d = elim (decLt (placeFor (w .txns) s) (length (w .txns))) [ yes l ↦ l | no l ↦ absurd (d (ap (λ (t : Transaction). t .number) (List·getD-eq-default (w .txns) (idleOf 0) {n = placeFor (w .txns) s} (omega (arith, l))))) ]
 
-  turned-refused : movedBy w s .stepped .answer ≡ tell.Refused n → turnedBy w s ≡ movedBy w s
+  called-refused : movedBy w s .stepped .answer ≡ tell.Refused n → calledBy w s ≡ movedBy w s
   unfolding movedBy
-  turned-refused e = unswept w s (refused-stays (w .sizes) (asker w s) (w .clock) (w .used) (w .tables) s n _ (step-refused (w .sizes) (asker w s) (w .clock) (w .used) (w .tables) (othersIn (w .txns)) s n e))
+  called-refused e = unswept w s (refused-stays (w .sizes) (asker w s) (w .clock) (w .used) (w .tables) s n _ (step-refused (w .sizes) (asker w s) (w .clock) (w .used) (w .tables) (othersIn (w .txns)) s n e))
 
   moved-words : movedBy w s .stepped .answer ≡ tell.Refused n → (wordsAfter w s ≡ w) ⊎ Marks w s (wordsAfter w s) n
   unfolding movedBy
@@ -301,13 +301,13 @@ module _ (w : Words) (s : Step) (n : ℕ) where
       (λ c. inr (record { key = c .key; captures = c .captures; live = c .live; there = live-there (c .live); refusal = c .refusal; unmarked = c .unmarked; stale = ltb-false _ _ (c .stale); marks = ap placed (c .moved) }))
       (step-refused (w .sizes) (asker w s) (w .clock) (w .used) (w .tables) (othersIn (w .txns)) s n e)
 
-  turned-words : movedBy w s .stepped .answer ≡ tell.Refused n → (wordsTurned w s ≡ w) ⊎ Marks w s (wordsTurned w s) n
-  turned-words e = subst (λ (m : Moved). (placed m ≡ w) ⊎ Marks w s (placed m) n) (sym (turned-refused e)) (moved-words e)
+  called-words : movedBy w s .stepped .answer ≡ tell.Refused n → (wordsCalled w s ≡ w) ⊎ Marks w s (wordsCalled w s) n
+  called-words e = subst (λ (m : Moved). (placed m ≡ w) ⊎ Marks w s (placed m) n) (sym (called-refused e)) (moved-words e)
 
   -- a refused call leaves every word as found; a stale stamp alone marks the transaction that asked
-  pub refused-words : turnOf w s .answer ≡ tell.Refused n → (turnOf w s .words ≡ w) ⊎ Marks w s (turnOf w s .words) n
-  unfolding turnOf
-  refused-words = guard (shapeOf w) (λ e. rw e turned-words) (λ e. rw e (λ q. inl refl))
+  pub refused-words : callOf w s .answer ≡ tell.Refused n → (callOf w s .words ≡ w) ⊎ Marks w s (callOf w s .words) n
+  unfolding callOf
+  refused-words = guard (shapeOf w) (λ e. rw e called-words) (λ e. rw e (λ q. inl refl))
 
 -- a refused open leaves every lent table as given, and a closed machine
 pub refused-open : (rows versions buckets lists : List ℕ) (z : Sizes) (clock n : ℕ) → openOf rows versions buckets lists z clock .answer ≡ tell.Refused n

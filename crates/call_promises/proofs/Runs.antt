@@ -24,7 +24,7 @@ use Rattle.base_protocol.specs.declared.Verdict.the-variants as verdict
 use Rattle.base_protocol.specs.View.{told}
 use Rattle.report_answers.specs.Answers.{numberOf}
 use Rattle.table.specs.Lists.{listsWords}
-use Rattle.call.specs.Turns.{openOf}
+use Rattle.call.specs.Calls.{openOf}
 use Rattle.call_promises.specs.Calls.{Call, called}
 use Rattle.call_promises.specs.Demands.{Opening, opened, openNumber, after, storeAfter, reading, validating, preparing}
 use Rattle.call_promises.specs.InTurn.{bare, callsDone, callsOneByOne}
@@ -102,11 +102,11 @@ marked = (reached.met-marked .0, reached.met-marked .1)
 abbrev pub ending : List Call
 ending = before ++ (reading 3 list ∷ (between ++ without (ask.Put 3 1 5 8 ∷ ask.Prepare 3 ∷ ask.Install 3 ∷ ask.End 3 ∷ [])))
 
--- their turn: 1, then 4 as number 3, and then 3 as number 5
-abbrev pub turn : List Asked
-turn = begin ∷ put 1 2 6 10 ∷ prepare 1 ∷ install 1 ∷ end 1 ∷ publish 1 ∷ begin ∷ put 3 0 3 7 ∷ prepare 3 ∷ install 3 ∷ end 3 ∷ publish 3 ∷ begin ∷ capture 5 6 ∷ collect 5 ∷ rows 5 4 ∷ put 5 1 5 8 ∷ prepare 5 ∷ install 5 ∷ end 5 ∷ publish 5 ∷ []
+-- their call: 1, then 4 as number 3, and then 3 as number 5
+abbrev pub call : List Asked
+call = begin ∷ put 1 2 6 10 ∷ prepare 1 ∷ install 1 ∷ end 1 ∷ publish 1 ∷ begin ∷ put 3 0 3 7 ∷ prepare 3 ∷ install 3 ∷ end 3 ∷ publish 3 ∷ begin ∷ capture 5 6 ∷ collect 5 ∷ rows 5 4 ∷ put 5 1 5 8 ∷ prepare 5 ∷ install 5 ∷ end 5 ∷ publish 5 ∷ []
 
 -- what calls-in-turn speaks of there: its read, the sixteenth, is to hand over row 2 with key 6 and payload 10
-pub taking-turns : (endOrder (callsDone (opened o) ending) ≡ 1 ∷ 4 ∷ 3 ∷ []) × (stepsIn (callsOneByOne o ending) ≡ turn) × (take 1 (drop 15 (callsOneByOne o ending)) ≡ record { who = 5; what = rows 5 4; read = (2, some (6, 10)) ∷ [] } ∷ [])
+pub taking-turns : (endOrder (callsDone (opened o) ending) ≡ 1 ∷ 4 ∷ 3 ∷ []) × (stepsIn (callsOneByOne o ending) ≡ call) × (take 1 (drop 15 (callsOneByOne o ending)) ≡ record { who = 5; what = rows 5 4; read = (2, some (6, 10)) ∷ [] } ∷ [])
 unfolding computes entries endOrder doneBy inTurn shownTo contentOf
 taking-turns = (ap endOrder (done-after o opens ending), ap stepsIn (turn-after o opens ending), ap (λ (es : List Entry). take 1 (drop 15 es)) (turn-after o opens ending))

@@ -14,7 +14,7 @@ use Rattle.base_protocol.specs.declared.Answer.the-variants as tell
 use Rattle.base_protocol.specs.View.{asked, told}
 use Rattle.step.specs.Words.{Words, view, txnAt}
 use Rattle.shape.specs.Shape.{tablesFit, shapeOf}
-use Rattle.call.specs.Turns.{Left, turnOf}
+use Rattle.call.specs.Calls.{Left, callOf}
 
 -- a call of a public function: its step, and the row list that it lends
 pub record Call : Type 0 where
@@ -52,7 +52,7 @@ lending w found = record {
 
 -- what a call answers and leaves, and the words after a sequence of calls
 abbrev pub called : Words → Call → Left
-called w c = turnOf (lending w (c .lent)) (c .asks)
+called w c = callOf (lending w (c .lent)) (c .asks)
 
 unfoldable pub calls : Words → List Call → Words
 calls w [] = w

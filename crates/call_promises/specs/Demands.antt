@@ -24,7 +24,7 @@ use Rattle.report_answers.specs.Answers.{numberOf, valuesOf}
 use Rattle.txn_places.specs.declared.Sizes.{Sizes}
 use Rattle.step.specs.Words.{Words, sizesView, view}
 use Rattle.shape.specs.Shape.{tablesLent, tablesFit, wordsOf}
-use Rattle.call.specs.Turns.{closedOf, openOf}
+use Rattle.call.specs.Calls.{closedOf, openOf}
 use Rattle.call_promises.specs.Calls.{Call, asking, lending, called, calls, stepsOf, Typed}
 use Rattle.call_promises.specs.Refused.{Marks}
 

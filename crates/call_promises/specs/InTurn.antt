@@ -18,7 +18,7 @@ use Rattle.base_protocol.specs.declared.Answer.{Answer}
 use Rattle.base_protocol.specs.declared.Answer.the-variants as tell
 use Rattle.report_answers.specs.Answers.{numberOf}
 use Rattle.step.specs.Words.{Words, view, txnAt}
-use Rattle.call.specs.Turns.{Left}
+use Rattle.call.specs.Calls.{Left}
 use Rattle.call_promises.specs.Calls.{Call, asking, called}
 use Rattle.call_promises.specs.Demands.{Opening, opened, after}
 

@@ -9,7 +9,7 @@ use Rattle.base_protocol.specs.declared.Step.the-variants as ask
 use Rattle.table.specs.Fields.{stampOf}
 use Rattle.txn.specs.Methods.{withMark}
 use Rattle.step.specs.Words.{Words, placeFor}
-use Rattle.call.specs.Turns.{asker}
+use Rattle.call.specs.Calls.{asker}
 
 -- 8, to a capture by a transaction without a mark, of a bucket whose stamp is not below its number: that record is marked, and all else is as found
 pub record Marks (w : Words) (s : Step) (after : Words) (n : ℕ) : Type 0 where

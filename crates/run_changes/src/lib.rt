@@ -150,7 +150,7 @@ fn machine_seen(m: Machine, k: usize, place: u64, i: u64) -> Seen
 
 // The word of this name: of entry a, or of the record at place a and there of entry b; or one of the machine's own.
 pub fn look(
-    rows_table: &[u64],
+    rows: &[u64],
     versions: &[u64],
     buckets: &[u64],
     lists: &[u64],
@@ -159,11 +159,11 @@ pub fn look(
     a: u64,
     b: u64,
 ) -> Seen
-    ensures { λ r. ⌜ r ≡ lookOf (record { rows = now («rows_table» .entry); versions = now (versions .entry); buckets = now (buckets .entry); lists = now (lists .entry); machine = m }) name a b ⌝ }
+    ensures { λ r. ⌜ r ≡ lookOf (record { rows = now (rows .entry); versions = now (versions .entry); buckets = now (buckets .entry); lists = now (lists .entry); machine = m }) name a b ⌝ }
 {
     let k = word_named(name);
     if k < VERSION_NAMES {
-        return seen_at(rows_table, entry_place(rows_table.len(), ROW_WORDS, k, a));
+        return seen_at(rows, entry_place(rows.len(), ROW_WORDS, k, a));
     }
     if k < BUCKET_NAMES {
         return seen_at(
@@ -208,7 +208,7 @@ fn machine_changed(m: Machine, k: usize, place: u64, i: u64, value: u64) -> Mach
 
 // Another word of this name, where `look` would see one.
 pub fn change(
-    rows_table: &mut [u64],
+    rows: &mut [u64],
     versions: &mut [u64],
     buckets: &mut [u64],
     lists: &mut [u64],
@@ -218,13 +218,13 @@ pub fn change(
     b: u64,
     value: u64,
 ) -> Machine
-    ensures { λ r. ⌜ record { rows = now («rows_table» .exit); versions = now (versions .exit); buckets = now (buckets .exit); lists = now (lists .exit); machine = r }
-        ≡ changeOf (record { rows = now («rows_table» .entry); versions = now (versions .entry); buckets = now (buckets .entry); lists = now (lists .entry); machine = m }) name a b value ⌝ }
+    ensures { λ r. ⌜ record { rows = now (rows .exit); versions = now (versions .exit); buckets = now (buckets .exit); lists = now (lists .exit); machine = r }
+        ≡ changeOf (record { rows = now (rows .entry); versions = now (versions .entry); buckets = now (buckets .entry); lists = now (lists .entry); machine = m }) name a b value ⌝ }
 {
     let k = word_named(name);
     if k < VERSION_NAMES {
-        let at = entry_place(rows_table.len(), ROW_WORDS, k, a);
-        set_word(rows_table, at, value);
+        let at = entry_place(rows.len(), ROW_WORDS, k, a);
+        set_word(rows, at, value);
         return m;
     }
     if k < BUCKET_NAMES {

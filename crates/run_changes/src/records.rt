@@ -1,13 +1,13 @@
 // A record and the machine's own numbers as words, in the order of their names, and back.
-use table_chain::Snapshot;
 use base_limits::MOST_LIVE;
-use txn_places::Sizes;
+use shape::Machine;
+use table_chain::Snapshot;
 use txn::Phase;
 use txn::Transaction;
 use txn::bucket_in;
 use txn::key_in;
 use txn::phase_rank;
-use shape::Machine;
+use txn_places::Sizes;
 ghost use mathlib.Core.Path.{_≡_};
 ghost use Rattle.run_changes.specs.RecordWords.{markWord, recordWords, phaseOf, low, recordOf, ownWords, ownOf};
 

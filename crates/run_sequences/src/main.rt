@@ -11,7 +11,6 @@ use run_script::Line;
 use run_script::STEP;
 use run_script::line_of;
 use run_script::step_end;
-use shape::Machine;
 use steps_by_name::BUCKETS_LENT;
 use steps_by_name::LISTS_LENT;
 use steps_by_name::MOST_FOUND;
@@ -19,8 +18,10 @@ use steps_by_name::ROWS_LENT;
 use steps_by_name::VERSIONS_LENT;
 use steps_by_name::any_step;
 use steps_by_name::lent;
-use call::Turned;
-use call::open;
+use toruxeng::Called;
+use toruxeng::Machine;
+use toruxeng::Sizes;
+use toruxeng::open;
 ghost use Prim.Native.Nat.{_≤_};
 ghost use lib.ListN.{length};
 
@@ -53,7 +54,7 @@ fn seen_numbers(seen: Seen) -> Numbers {
 
 // A look at a word, and before it another word there where the line is a change.
 fn any_word(
-    rows_table: &mut [u64; ROWS_LENT],
+    rows: &mut [u64; ROWS_LENT],
     versions: &mut [u64; VERSIONS_LENT],
     buckets: &mut [u64; BUCKETS_LENT],
     lists: &mut [u64; LISTS_LENT],
@@ -64,7 +65,7 @@ fn any_word(
     let mut machine = m;
     if line.sign == CHANGE {
         machine = change(
-            rows_table,
+            rows,
             versions,
             buckets,
             lists,
@@ -76,7 +77,7 @@ fn any_word(
         );
     }
     let seen = look(
-        rows_table,
+        rows,
         versions,
         buckets,
         lists,
@@ -94,7 +95,7 @@ fn any_word(
 
 // A step, or a word.
 fn any_line(
-    rows_table: &mut [u64; ROWS_LENT],
+    rows: &mut [u64; ROWS_LENT],
     versions: &mut [u64; VERSIONS_LENT],
     buckets: &mut [u64; BUCKETS_LENT],
     lists: &mut [u64; LISTS_LENT],
@@ -104,10 +105,10 @@ fn any_line(
 ) -> Told {
     let n = line.numbers;
     if line.sign != STEP {
-        return any_word(rows_table, versions, buckets, lists, m, line);
+        return any_word(rows, versions, buckets, lists, m, line);
     }
-    let turned = any_step(
-        rows_table,
+    let called = any_step(
+        rows,
         versions,
         buckets,
         lists,
@@ -119,8 +120,8 @@ fn any_line(
         n[2],
         n[3],
     );
-    let answer = turned.answer;
-    let machine = turned.machine;
+    let answer = called.answer;
+    let machine = called.machine;
     let numbers = numbers_of(answer);
     Told {
         numbers: numbers,
@@ -130,25 +131,27 @@ fn any_line(
 
 // Open, in tables of which some words may be held back.
 fn opened(
-    rows_table: &mut [u64],
+    rows: &mut [u64],
     versions: &mut [u64],
     buckets: &mut [u64],
     lists: &[u64],
     line: Line,
-) -> Turned {
+) -> Called {
     let n = line.numbers;
-    let rows_lent = lent(rows_table.len(), n[4]);
+    let rows_lent = lent(rows.len(), n[4]);
     let versions_lent = lent(versions.len(), n[5]);
     let buckets_lent = lent(buckets.len(), n[6]);
     let lists_lent = lent(lists.len(), n[7]);
     open(
-        &mut rows_table[..rows_lent],
+        &mut rows[..rows_lent],
         &mut versions[..versions_lent],
         &mut buckets[..buckets_lent],
         &lists[..lists_lent],
-        n[0],
-        n[1],
-        n[2],
+        Sizes {
+            rows: n[0],
+            versions: n[1],
+            buckets: n[2],
+        },
         n[3],
     )
 }
@@ -219,16 +222,16 @@ fn differed(line: u64, told: Numbers) {
 
 // Plays one sequence in tables full of sevens; the first step opens them.
 fn play(name: &[u8], text: &[u8]) {
-    let mut rows_table = [7u64; ROWS_LENT];
+    let mut rows = [7u64; ROWS_LENT];
     let mut versions = [7u64; VERSIONS_LENT];
     let mut buckets = [7u64; BUCKETS_LENT];
     let mut lists = [7u64; LISTS_LENT];
     let mut found = [7u64; MOST_FOUND];
     let mut at = step_end(text, 0);
     let first = line_of(text, 0, at);
-    let turned = opened(&mut rows_table, &mut versions, &mut buckets, &lists, first);
-    let answer = turned.answer;
-    let mut m = turned.machine;
+    let called = opened(&mut rows, &mut versions, &mut buckets, &lists, first);
+    let answer = called.answer;
+    let mut m = called.machine;
     let mut step: u64 = 1;
     io::write_all(1, name);
     let begun = numbers_of(answer);
@@ -244,7 +247,7 @@ fn play(name: &[u8], text: &[u8]) {
         let next = step_end(text, at);
         let line = line_of(text, at, next);
         let told = any_line(
-            &mut rows_table,
+            &mut rows,
             &mut versions,
             &mut buckets,
             &mut lists,

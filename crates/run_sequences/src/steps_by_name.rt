@@ -1,27 +1,27 @@
 // A step by its name: a call of the public function that does it.
-use toruxeng_finishing::abort;
-use toruxeng_finishing::end;
-use toruxeng_finishing::install;
-use toruxeng_finishing::publish;
-use base_limits::MOST_BUCKETS;
-use base_limits::MOST_LIVE;
-use base_limits::MOST_ROWS;
-use base_limits::MOST_VERSIONS;
-use base_protocol::Answer;
-use toruxeng_reading::begin;
-use toruxeng_reading::capture;
-use toruxeng_reading::collect;
-use toruxeng_reading::rows;
-use shape::Machine;
-use table::BUCKET_WORDS;
-use table::ROW_WORDS;
-use table::VERSION_WORDS;
-use table::lists::SLOT_WORDS;
-use call::Turned;
-use toruxeng_writing::erase;
-use toruxeng_writing::prepare;
-use toruxeng_writing::put;
-use toruxeng_writing::validate;
+use toruxeng::Answer;
+use toruxeng::BUCKET_WORDS;
+use toruxeng::Called;
+use toruxeng::MOST_BUCKETS;
+use toruxeng::MOST_LIVE;
+use toruxeng::MOST_ROWS;
+use toruxeng::MOST_VERSIONS;
+use toruxeng::Machine;
+use toruxeng::ROW_WORDS;
+use toruxeng::SLOT_WORDS;
+use toruxeng::VERSION_WORDS;
+use toruxeng::abort;
+use toruxeng::begin;
+use toruxeng::capture;
+use toruxeng::collect;
+use toruxeng::end;
+use toruxeng::erase;
+use toruxeng::install;
+use toruxeng::prepare;
+use toruxeng::publish;
+use toruxeng::put;
+use toruxeng::rows;
+use toruxeng::validate;
 ghost use Prim.Native.Nat.{_≤_};
 
 // Words of the lent tables: an entry more than the largest sizes name, so that a size beyond is wrong by itself; and the room for rows.
@@ -65,27 +65,27 @@ const NO_STEP: u64 = 99;
 
 // Install to abort; another name is no step.
 fn finishing_step(
-    rows_table: &mut [u64; ROWS_LENT],
+    rows: &mut [u64; ROWS_LENT],
     versions: &mut [u64; VERSIONS_LENT],
     buckets: &mut [u64; BUCKETS_LENT],
     lists: &mut [u64; LISTS_LENT],
     m: Machine,
     name: u64,
     a: u64,
-) -> Turned {
+) -> Called {
     if name == INSTALL {
-        return install(rows_table, versions, buckets, lists, m, a);
+        return install(rows, versions, buckets, lists, m, a);
     }
     if name == END {
-        return end(rows_table, versions, buckets, lists, m, a);
+        return end(rows, versions, buckets, lists, m, a);
     }
     if name == PUBLISH {
-        return publish(rows_table, versions, buckets, lists, m, a);
+        return publish(rows, versions, buckets, lists, m, a);
     }
     if name == ABORT {
-        return abort(rows_table, versions, buckets, lists, m, a);
+        return abort(rows, versions, buckets, lists, m, a);
     }
-    Turned {
+    Called {
         answer: Answer::Refused(NO_STEP),
         machine: m,
     }
@@ -93,7 +93,7 @@ fn finishing_step(
 
 // Put to prepare, and then the others.
 fn writing_step(
-    rows_table: &mut [u64; ROWS_LENT],
+    rows: &mut [u64; ROWS_LENT],
     versions: &mut [u64; VERSIONS_LENT],
     buckets: &mut [u64; BUCKETS_LENT],
     lists: &mut [u64; LISTS_LENT],
@@ -103,20 +103,20 @@ fn writing_step(
     b: u64,
     c: u64,
     d: u64,
-) -> Turned {
+) -> Called {
     if name == PUT {
-        return put(rows_table, versions, buckets, lists, m, a, b, c, d);
+        return put(rows, versions, buckets, lists, m, a, b, c, d);
     }
     if name == ERASE {
-        return erase(rows_table, versions, buckets, lists, m, a, b);
+        return erase(rows, versions, buckets, lists, m, a, b);
     }
     if name == VALIDATE {
-        return validate(rows_table, versions, buckets, lists, m, a);
+        return validate(rows, versions, buckets, lists, m, a);
     }
     if name == PREPARE {
-        return prepare(rows_table, versions, buckets, lists, m, a);
+        return prepare(rows, versions, buckets, lists, m, a);
     }
-    finishing_step(rows_table, versions, buckets, lists, m, name, a)
+    finishing_step(rows, versions, buckets, lists, m, name, a)
 }
 
 // How much of the list is lent: the room that rows names, or all of it.
@@ -130,7 +130,7 @@ fn room_of(room: u64, most: usize) -> usize
 }
 
 fn read_rows(
-    rows_table: &mut [u64; ROWS_LENT],
+    rows: &mut [u64; ROWS_LENT],
     versions: &mut [u64; VERSIONS_LENT],
     buckets: &mut [u64; BUCKETS_LENT],
     lists: &mut [u64; LISTS_LENT],
@@ -138,10 +138,10 @@ fn read_rows(
     m: Machine,
     number: u64,
     room: u64,
-) -> Turned {
+) -> Called {
     let lent = room_of(room, found.len());
     rows(
-        rows_table,
+        rows,
         versions,
         buckets,
         lists,
@@ -163,7 +163,7 @@ pub fn lent(most: usize, back: u64) -> usize
 
 // Begin, in tables of which some words may be held back.
 fn begun(
-    rows_table: &mut [u64],
+    rows: &mut [u64],
     versions: &mut [u64],
     buckets: &mut [u64],
     lists: &mut [u64],
@@ -172,13 +172,13 @@ fn begun(
     versions_back: u64,
     buckets_back: u64,
     lists_back: u64,
-) -> Turned {
-    let rows_lent = lent(rows_table.len(), rows_back);
+) -> Called {
+    let rows_lent = lent(rows.len(), rows_back);
     let versions_lent = lent(versions.len(), versions_back);
     let buckets_lent = lent(buckets.len(), buckets_back);
     let lists_lent = lent(lists.len(), lists_back);
     begin(
-        &mut rows_table[..rows_lent],
+        &mut rows[..rows_lent],
         &mut versions[..versions_lent],
         &mut buckets[..buckets_lent],
         &mut lists[..lists_lent],
@@ -188,7 +188,7 @@ fn begun(
 
 // Begin to rows, and then the others.
 pub fn any_step(
-    rows_table: &mut [u64; ROWS_LENT],
+    rows: &mut [u64; ROWS_LENT],
     versions: &mut [u64; VERSIONS_LENT],
     buckets: &mut [u64; BUCKETS_LENT],
     lists: &mut [u64; LISTS_LENT],
@@ -199,18 +199,18 @@ pub fn any_step(
     b: u64,
     c: u64,
     d: u64,
-) -> Turned {
+) -> Called {
     if name == BEGIN {
-        return begun(rows_table, versions, buckets, lists, m, a, b, c, d);
+        return begun(rows, versions, buckets, lists, m, a, b, c, d);
     }
     if name == CAPTURE {
-        return capture(rows_table, versions, buckets, lists, m, a, b);
+        return capture(rows, versions, buckets, lists, m, a, b);
     }
     if name == COLLECT {
-        return collect(rows_table, versions, buckets, lists, m, a);
+        return collect(rows, versions, buckets, lists, m, a);
     }
     if name == ROWS {
-        return read_rows(rows_table, versions, buckets, lists, found, m, a, b);
+        return read_rows(rows, versions, buckets, lists, found, m, a, b);
     }
-    writing_step(rows_table, versions, buckets, lists, m, name, a, b, c, d)
+    writing_step(rows, versions, buckets, lists, m, name, a, b, c, d)
 }

@@ -1,24 +1,23 @@
 // One step: the transaction at its place, the lent tables, and what the step needs to know of the other places.
-use txn_begin::Begun;
-use txn_begin::begin;
+use base_protocol::Answer;
+use base_protocol::NO_SUCH;
+use base_protocol::Step;
 use finish_install::Installed;
 use finish_install::install;
 use finish_install::one_more;
+use finish_publish::abort;
+use finish_publish::end;
+use finish_publish::publish;
+use txn::Answered;
+use txn::Transaction;
+use txn_begin::Begun;
+use txn_begin::begin;
 use txn_places::Others;
 use txn_places::Sizes;
 use txn_places::live_count;
 use txn_places::misses;
 use write_prepare::prepare;
 use write_prepare::validate;
-use base_protocol::Answer;
-use base_protocol::NO_SUCH;
-use base_protocol::Step;
-use finish_publish::abort;
-use finish_publish::end;
-use finish_publish::publish;
-use read::rows;
-use txn::Answered;
-use txn::Transaction;
 ghost use mathlib.Core.Path.{_≡_};
 ghost use Rattle.step.specs.Steps.{withClock, withBegun, withInstalled, clockAfter, publishStep, stepOf};
 
@@ -87,7 +86,7 @@ fn published_clock(answer: Answer, clock: u64) -> u64
 
 // Publish moves the clock.
 fn step_publish(
-    rows_table: &mut [u64],
+    rows: &mut [u64],
     versions: &[u64],
     buckets: &mut [u64],
     lists: &[u64],
@@ -96,9 +95,9 @@ fn step_publish(
     clock: u64,
     used: u64,
 ) -> Stepped
-    ensures { λ r. ⌜ record { stepped = r; rows = now («rows_table» .exit); buckets = now (buckets .exit) } ≡ publishStep (now (versions .entry)) (now (lists .entry)) «bucket_count» t clock used (now («rows_table» .entry)) (now (buckets .entry)) ⌝ }
+    ensures { λ r. ⌜ record { stepped = r; rows = now (rows .exit); buckets = now (buckets .exit) } ≡ publishStep (now (versions .entry)) (now (lists .entry)) «bucket_count» t clock used (now (rows .entry)) (now (buckets .entry)) ⌝ }
 {
-    let a = publish(rows_table, versions, buckets, lists, bucket_count, clock, t);
+    let a = publish(rows, versions, buckets, lists, bucket_count, clock, t);
     let answer = a.answer;
     let after = published_clock(answer, clock);
     with_clock(a, after, used)
@@ -106,7 +105,7 @@ fn step_publish(
 
 // A step of the transaction at its place; the record that comes in has the number that the step names, or the step is refused.
 pub fn step(
-    rows_table: &mut [u64],
+    rows: &mut [u64],
     versions: &mut [u64],
     buckets: &mut [u64],
     lists: &mut [u64],
@@ -118,8 +117,8 @@ pub fn step(
     used: u64,
     s: Step,
 ) -> Stepped
-    ensures { λ r. ⌜ record { stepped = r; rows = now («rows_table» .exit); versions = now (versions .exit); buckets = now (buckets .exit); lists = now (lists .exit); found = now (found .exit) }
-        ≡ stepOf sizes others t clock used s (record { rows = now («rows_table» .entry); versions = now (versions .entry); buckets = now (buckets .entry); lists = now (lists .entry); found = now (found .entry) }) ⌝ }
+    ensures { λ r. ⌜ record { stepped = r; rows = now (rows .exit); versions = now (versions .exit); buckets = now (buckets .exit); lists = now (lists .exit); found = now (found .exit) }
+        ≡ stepOf sizes others t clock used s (record { rows = now (rows .entry); versions = now (versions .entry); buckets = now (buckets .entry); lists = now (lists .entry); found = now (found .entry) }) ⌝ }
 {
     let numbers = others.numbers;
     let active = others.active;
@@ -140,21 +139,12 @@ pub fn step(
             used,
         ),
         Step::Collect { number: _ } => with_clock(
-            t.collect(rows_table, buckets, lists, sizes.rows),
+            t.collect(rows, buckets, lists, sizes.rows),
             clock,
             used,
         ),
         Step::Rows { number: _, room } => with_clock(
-            rows(
-                rows_table,
-                versions,
-                lists,
-                found,
-                sizes.rows,
-                used,
-                room,
-                t,
-            ),
+            read::rows(rows, versions, lists, found, sizes.rows, used, room, t),
             clock,
             used,
         ),
@@ -167,7 +157,7 @@ pub fn step(
         Step::Erase { number: _, row } => with_clock(t.erase(lists, sizes.rows, row), clock, used),
         Step::Prepare { number: _ } => with_clock(
             prepare(
-                rows_table,
+                rows,
                 versions,
                 buckets,
                 lists,
@@ -181,12 +171,12 @@ pub fn step(
             used,
         ),
         Step::Install { number: _ } => with_installed(
-            install(rows_table, versions, lists, used, t),
+            install(rows, versions, lists, used, t),
             clock,
         ),
         Step::End { number: _ } => with_clock(end(t), clock, used),
         Step::Publish { number: _ } => step_publish(
-            rows_table,
+            rows,
             versions,
             buckets,
             lists,
@@ -201,7 +191,7 @@ pub fn step(
             used,
         ),
         Step::Abort { number: _ } => with_clock(
-            abort(rows_table, versions, buckets, lists, sizes.buckets, t),
+            abort(rows, versions, buckets, lists, sizes.buckets, t),
             clock,
             used,
         ),

@@ -27,21 +27,21 @@ pub fn release_every(buckets: &mut [u64], count: u64, number: u64)
 }
 
 // One row is freed where its claim is the number.
-fn unclaim(rows_table: &mut [u64], row: u64, number: u64)
-    ensures { λ _. ⌜ now («rows_table» .exit) ≡ freedRow (now («rows_table» .entry)) row number ⌝ }
+fn unclaim(rows: &mut [u64], row: u64, number: u64)
+    ensures { λ _. ⌜ now (rows .exit) ≡ freedRow (now (rows .entry)) row number ⌝ }
 {
-    if claim_at(rows_table, row as usize) == number {
-        set_claim(rows_table, row as usize, 0);
+    if claim_at(rows, row as usize) == number {
+        set_claim(rows, row as usize, 0);
     }
 }
 
 // Every row below the count whose claim is the number becomes free.
-pub fn unclaim_every(rows_table: &mut [u64], count: u64, number: u64)
-    ensures { λ _. ⌜ now («rows_table» .exit) ≡ unclaimEvery (now («rows_table» .entry)) count number ⌝ }
+pub fn unclaim_every(rows: &mut [u64], count: u64, number: u64)
+    ensures { λ _. ⌜ now (rows .exit) ≡ unclaimEvery (now (rows .entry)) count number ⌝ }
 {
     let mut row: u64 = 0;
     while row < count {
-        unclaim(rows_table, row, number);
+        unclaim(rows, row, number);
         row += 1;
     }
 }

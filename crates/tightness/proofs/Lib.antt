@@ -24,7 +24,7 @@ pub mod Rows
 pub mod Steps
 pub mod Opening
 pub mod Shape
-pub mod Turns
+pub mod Calls
 pub mod PublicSteps
 pub mod Log
 pub mod Lines

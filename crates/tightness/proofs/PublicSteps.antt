@@ -1,24 +1,23 @@
--- Wrong bodies of the public steps (crates `reading`, `writing`, `finishing`): each contract is `turnOf` of one step, so that a wrong body takes another step.
+-- Wrong bodies of the public steps (crate `toruxeng`): each contract is `callOf` of one step, so that a wrong body takes another step.
 -- Assumes nothing.
 use Prim.Native.Nat.{ℕ, suc, _+_}
 use mathlib.Core.Path.{_≡_, refl, ap}
 use mathlib.Core.Bool.{true, false, true≢false}
 use lib.Dec.{eqb}
 use lib.ListN.{getD}
-use Rattle.model.specs.Store.{bucketIn, rank}
+use Rattle.model.specs.Store.{bucketIn}
 use Rattle.base_protocol.specs.declared.Step.{Step}
 use Rattle.base_protocol.specs.declared.Step.the-variants as ask
 use Rattle.base_protocol.specs.declared.Answer.the-variants as tell
 use Rattle.table.specs.Lists.{writes, placeOf}
 use Rattle.txn.specs.View.{phaseView}
-use Rattle.txn.specs.Methods.{idleOf}
 use Rattle.txn.specs.declared.Phase.{Phase}
 use Rattle.txn.specs.declared.Phase.the-variants as phase
 use Rattle.txn_places.specs.Places.{wantedOf, isBegin, missesOf}
 use Rattle.step.specs.Steps.{Moved, stays}
 use Rattle.step.specs.Words.{placeFor, movedBy}
 use Rattle.shape.specs.declared.Machine.{Machine}
-use Rattle.call.specs.Turns.{Left, turnedBy, wordsTurned, turnOf}
+use Rattle.call.specs.Calls.{Left, calledBy, wordsCalled, callOf}
 use Rattle.tightness.specs.Wrong.{Excludes}
 use Rattle.tightness.proofs.Apart.{apart, numberIn}
 use Rattle.tightness.proofs.Computes.{computes}
@@ -60,131 +59,69 @@ abort n = ask.Abort n
 
 -- the one step taken for the other, in some store, for some numbers
 abbrev Mistaken : {I : Type 0} → (I → Step) → (I → Step) → Type 0
-Mistaken {I} right wrong = Excludes {A = Lent × Machine × I} (λ (l, m, i). turnOf (over l m) (right i)) (λ (l, m, i). turnOf (over l m) (wrong i))
+Mistaken {I} right wrong = Excludes {A = Lent × Machine × I} (λ (l, m, i). callOf (over l m) (right i)) (λ (l, m, i). callOf (over l m) (wrong i))
 
 -- the step is done: the shape of the small store is right
 abbrev done : Phase → Step → Left
-done ph s = record { answer = turnedBy (store ph) s .stepped .answer; words = wordsTurned (store ph) s }
+done ph s = record { answer = calledBy (store ph) s .stepped .answer; words = wordsCalled (store ph) s }
 
-turn-done : (ph : Phase) → bucketIn (phaseView ph) ≡ 0 → (s : Step) → turnOf (store ph) s ≡ done ph s
-unfolding turnOf
-turn-done ph e s = rw (shape ph e)
+call-done : (ph : Phase) → bucketIn (phaseView ph) ≡ 0 → (s : Step) → callOf (store ph) s ≡ done ph s
+unfolding callOf
+call-done ph e s = rw (shape ph e)
 
 in-phase : {I : Type 0} (right wrong : I → Step) (ph : Phase) → bucketIn (phaseView ph) ≡ 0 → (number : Left → ℕ) (i : I)
     → eqb (number (done ph (right i))) (number (done ph (wrong i))) ≡ false → Mistaken right wrong
 in-phase right wrong ph e number i d =
-    apart (lent, machine ph, i) number (rw (turn-done ph e (right i), turn-done ph e (wrong i)) d)
+    apart (lent, machine ph, i) number (rw (call-done ph e (right i), call-done ph e (wrong i)) d)
 
 abbrev code : Left → ℕ
 code l = numberIn (l .answer)
-
--- the number of the transaction at place 0, and its phase
-abbrev atFirst : Left → ℕ
-atFirst l = getD (l .words .txns) 0 (idleOf 0) .number
-
-abbrev phaseAtFirst : Left → ℕ
-phaseAtFirst l = rank (phaseView (getD (l .words .txns) 0 (idleOf 0) .phase))
 
 -- word i of its first pending write
 abbrev written : ℕ → Left → ℕ
 written i l = getD (l .words .tables .lists) (placeOf writes 0 0 + i) 0
 
--- ---- the step of another function, where the transaction's number is all that is given
-
--- `toruxeng_reading::collect` takes the step of `rows`
-pub collect-is-rows : Mistaken collect rows
-unfolding computes
-collect-is-rows = in-phase collect rows (phase.Holding 0 0) refl code 1 refl
-
--- `toruxeng_reading::rows` takes the step of `prepare`
-pub rows-is-prepare : Mistaken rows prepare
-unfolding computes
-rows-is-prepare = in-phase rows prepare (phase.Collected 0) refl code 1 refl
-
--- `toruxeng_writing::prepare` takes the step of `install`
-pub prepare-is-install : Mistaken prepare install
-unfolding computes
-prepare-is-install = in-phase prepare install phase.Prepared refl code 1 refl
-
--- `toruxeng_finishing::install` takes the step of `end`
-pub install-is-end : Mistaken install end
-unfolding computes
-install-is-end = in-phase install end phase.Prepared refl code 1 refl
-
--- `toruxeng_finishing::end` takes the step of `publish`
-pub end-is-publish : Mistaken end publish
-unfolding computes
-end-is-publish = in-phase end publish phase.Installed refl code 1 refl
-
--- `toruxeng_finishing::publish` takes the step of `validate`
-pub publish-is-validate : Mistaken publish validate
-unfolding computes
-publish-is-validate = in-phase publish validate phase.Ended refl code 1 refl
-
--- `toruxeng_writing::validate` takes the step of `abort`
-pub validate-is-abort : Mistaken validate abort
-unfolding computes
-validate-is-abort = in-phase validate abort phase.Open refl atFirst 1 refl
-
--- `toruxeng_finishing::abort` takes the step of `collect`
-pub abort-is-collect : Mistaken abort collect
-unfolding computes
-abort-is-collect = in-phase abort collect phase.Open refl code 1 refl
-
 -- ---- where a key, a row or a payload is given too
 
-abbrev eraseOf : ℕ × ℕ × ℕ × ℕ → Step
-eraseOf (n, r, k, payload) = ask.Erase n r
+abbrev putSwapped : ℕ × ℕ × ℕ × ℕ → Step
+putSwapped (n, r, k, payload) = ask.Put n r payload k
 
-abbrev putTurned : ℕ × ℕ × ℕ × ℕ → Step
-putTurned (n, r, k, payload) = ask.Put n r payload k
+abbrev captureSwapped : ℕ × ℕ → Step
+captureSwapped (n, k) = ask.Capture k n
 
-abbrev captureTurned : ℕ × ℕ → Step
-captureTurned (n, k) = ask.Capture k n
+abbrev eraseSwapped : ℕ × ℕ → Step
+eraseSwapped (n, r) = ask.Erase r n
 
-abbrev eraseTurned : ℕ × ℕ → Step
-eraseTurned (n, r) = ask.Erase r n
-
--- `toruxeng_reading::capture` takes the step of `erase`
-pub capture-is-erase : Mistaken capture erase
+-- `toruxeng::put`: the payload goes where the key goes, and the key where the payload goes
+pub put-key-for-payload : Mistaken put putSwapped
 unfolding computes
-capture-is-erase = in-phase capture erase phase.Open refl phaseAtFirst (1, 0) refl
+put-key-for-payload = in-phase put putSwapped phase.Open refl (written 2) (1, 0, 1, 2) refl
 
--- `toruxeng_writing::put` takes the step of `erase`
-pub put-is-erase : Mistaken put eraseOf
+-- `toruxeng::capture`: the key goes where the number goes, and the number where the key goes
+pub capture-key-for-number : Mistaken capture captureSwapped
 unfolding computes
-put-is-erase = in-phase put eraseOf phase.Open refl (written 1) (1, 0, 1, 2) refl
+capture-key-for-number = in-phase capture captureSwapped phase.Open refl code (1, 0) refl
 
--- `toruxeng_writing::put`: the payload goes where the key goes, and the key where the payload goes
-pub put-key-for-payload : Mistaken put putTurned
+-- `toruxeng::erase`: the row goes where the number goes, and the number where the row goes
+pub erase-row-for-number : Mistaken erase eraseSwapped
 unfolding computes
-put-key-for-payload = in-phase put putTurned phase.Open refl (written 2) (1, 0, 1, 2) refl
-
--- `toruxeng_reading::capture`: the key goes where the number goes, and the number where the key goes
-pub capture-key-for-number : Mistaken capture captureTurned
-unfolding computes
-capture-key-for-number = in-phase capture captureTurned phase.Open refl code (1, 0) refl
-
--- `toruxeng_writing::erase`: the row goes where the number goes, and the number where the row goes
-pub erase-row-for-number : Mistaken erase eraseTurned
-unfolding computes
-erase-row-for-number = in-phase erase eraseTurned phase.Open refl code (1, 0) refl
+erase-row-for-number = in-phase erase eraseSwapped phase.Open refl code (1, 0) refl
 
 -- ---- begin
 
 -- what its contract asks for
 abbrev begin : Lent × Machine → Left
-begin (l, m) = turnOf (over l m) ask.Begin
+begin (l, m) = callOf (over l m) ask.Begin
 
--- `toruxeng_reading::begin`: the number is told, and nothing is kept
+-- `toruxeng::begin`: the number is told, and nothing is kept
 pub begin-not-kept : Excludes begin (λ (l, m). record { answer = tell.Number (m .clock); words = over l m })
 unfolding computes
-begin-not-kept = apart (lent, machine phase.Open) (λ (l : Left). l .words .clock) (rw (turn-done phase.Open refl ask.Begin))
+begin-not-kept = apart (lent, machine phase.Open) (λ (l : Left). l .words .clock) (rw (call-done phase.Open refl ask.Begin))
 
--- `toruxeng_reading::begin`: always no free place
+-- `toruxeng::begin`: always no free place
 pub begin-full : Excludes begin (λ (l, m). record { answer = tell.Refused 3; words = over l m })
 unfolding computes
-begin-full = apart (lent, machine phase.Open) code (rw (turn-done phase.Open refl ask.Begin))
+begin-full = apart (lent, machine phase.Open) code (rw (call-done phase.Open refl ask.Begin))
 
 -- ---- the step of another number
 
@@ -226,46 +163,46 @@ other-number s b e =
     let told : Moved → ℕ = λ m. numberIn (m .stepped .answer) in
     in-phase s (λ n. s (suc n)) phase.Ended refl code 1 (rw (ap told (strange-step (s 2) (b 2) (e 2))) (own-step (s 1) (b 1) (e 1)))
 
--- `toruxeng_reading::capture`: the next number
+-- `toruxeng::capture`: the next number
 pub capture-other-number : (k : ℕ) → Renumbered (λ n. capture (n, k))
 capture-other-number k = other-number (λ n. capture (n, k)) (λ n. refl) (λ n. refl)
 
--- `toruxeng_reading::collect`: the next number
+-- `toruxeng::collect`: the next number
 pub collect-other-number : Renumbered collect
 collect-other-number = other-number collect (λ n. refl) (λ n. refl)
 
--- `toruxeng_reading::rows`: the next number
+-- `toruxeng::rows`: the next number
 pub rows-other-number : Renumbered rows
 rows-other-number = other-number rows (λ n. refl) (λ n. refl)
 
--- `toruxeng_writing::put`: the next number
+-- `toruxeng::put`: the next number
 pub put-other-number : (r k payload : ℕ) → Renumbered (λ n. put (n, r, k, payload))
 put-other-number r k payload = other-number (λ n. put (n, r, k, payload)) (λ n. refl) (λ n. refl)
 
--- `toruxeng_writing::erase`: the next number
+-- `toruxeng::erase`: the next number
 pub erase-other-number : (r : ℕ) → Renumbered (λ n. erase (n, r))
 erase-other-number r = other-number (λ n. erase (n, r)) (λ n. refl) (λ n. refl)
 
--- `toruxeng_writing::validate`: the next number
+-- `toruxeng::validate`: the next number
 pub validate-other-number : Renumbered validate
 validate-other-number = other-number validate (λ n. refl) (λ n. refl)
 
--- `toruxeng_writing::prepare`: the next number
+-- `toruxeng::prepare`: the next number
 pub prepare-other-number : Renumbered prepare
 prepare-other-number = other-number prepare (λ n. refl) (λ n. refl)
 
--- `toruxeng_finishing::install`: the next number
+-- `toruxeng::install`: the next number
 pub install-other-number : Renumbered install
 install-other-number = other-number install (λ n. refl) (λ n. refl)
 
--- `toruxeng_finishing::end`: the next number
+-- `toruxeng::end`: the next number
 pub end-other-number : Renumbered end
 end-other-number = other-number end (λ n. refl) (λ n. refl)
 
--- `toruxeng_finishing::publish`: the next number
+-- `toruxeng::publish`: the next number
 pub publish-other-number : Renumbered publish
 publish-other-number = other-number publish (λ n. refl) (λ n. refl)
 
--- `toruxeng_finishing::abort`: the next number
+-- `toruxeng::abort`: the next number
 pub abort-other-number : Renumbered abort
 abort-other-number = other-number abort (λ n. refl) (λ n. refl)

@@ -16,7 +16,7 @@ use Rattle.txn_places.specs.declared.Others.{Others}
 use Rattle.step.specs.Words.{view, freePlaces, othersIn}
 use Rattle.shape.specs.Shape.{tablesLent, tablesFit, shapeOf}
 use Rattle.shape.specs.declared.Machine.{Machine}
-use Rattle.call.specs.Turns.{freshOf, closedOf}
+use Rattle.call.specs.Calls.{freshOf, closedOf}
 use Rattle.tightness.specs.Wrong.{Excludes}
 use Rattle.tightness.proofs.Apart.{apart, bit}
 use Rattle.tightness.proofs.Computes.{computes}

@@ -5,7 +5,7 @@ use mathlib.Core.Path.{_≡_, refl}
 use Prim.Native.Nat.{_≤_, _-_}
 use native.Mathlib.Omega.{arith}
 use lib.ListN.{length, length-set}
-use Rattle.call.specs.Turns.{cleared}
+use Rattle.call.specs.Calls.{cleared}
 use Rattle.call.proofs.Laws.{clear-none, clear-next, clear-done}
 use Rattle.call.proofs.clear.Statement.{statement}
 use Rattle.call.proofs.clear.Tie as tie

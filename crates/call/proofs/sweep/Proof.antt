@@ -2,7 +2,7 @@
 -- Assumes nothing.
 use borrow.Author.Tests.{eq-eqb, ne-eqb}
 use borrow.Author.Needs.{needs}
-use Rattle.call.specs.Turns.{sweptFor}
+use Rattle.call.specs.Calls.{sweptFor}
 use Rattle.call.proofs.sweep.Statement.{statement}
 use Rattle.call.proofs.sweep.Tie as tie
 

@@ -9,10 +9,10 @@ use Rattle.run_sequences.proofs.play.Statement.{statement}
 use Rattle.run_sequences.proofs.play.Tie as tie
 
 abbrev Inv-loop : tie.InvT-loop
-Inv-loop name text rows-table₀ versions₀ buckets₀ lists₀ found₀ at₀ m₀ step₀ t19 rows-table versions buckets lists found at m step = Unit
+Inv-loop name text rows₀ versions₀ buckets₀ lists₀ found₀ at₀ m₀ step₀ t19 rows versions buckets lists found at m step = Unit
 
 abbrev μ-loop : tie.MeasureT-loop
-μ-loop name text rows-table₀ versions₀ buckets₀ lists₀ found₀ at₀ m₀ step₀ t19 rows-table versions buckets lists found at m step = length text - at
+μ-loop name text rows₀ versions₀ buckets₀ lists₀ found₀ at₀ m₀ step₀ t19 rows versions buckets lists found at m step = length text - at
 
 step-end-requires : tie.Need-step-end-requires Inv-loop μ-loop
 step-end-requires c κs = tt

@@ -11,11 +11,11 @@ use Rattle.table_sweeps.proofs.unclaim_every.Statement.{statement}
 use Rattle.table_sweeps.proofs.unclaim_every.Tie as tie
 
 abbrev Inv-loop : tie.InvT-loop
-Inv-loop rows-table₀ count number row₀ rows-table row =
-    (row ≤ count) × (length rows-table ≡ length rows-table₀) × (rows-table ≡ unclaimEvery rows-table₀ row number)
+Inv-loop rows₀ count number row₀ rows row =
+    (row ≤ count) × (length rows ≡ length rows₀) × (rows ≡ unclaimEvery rows₀ row number)
 
 abbrev μ-loop : tie.MeasureT-loop
-μ-loop rows-table₀ count number row₀ rows-table row = count - row
+μ-loop rows₀ count number row₀ rows row = count - row
 
 loop-holds : tie.Need-loop-holds Inv-loop μ-loop
 loop-holds c = (search needs, refl, unclaim-none _ _)
