@@ -10,7 +10,7 @@ use lib.Seq.{take-at}
 use Rattle.base_limits.specs.Limits.{mostRows, mostVersions, mostBuckets}
 use Rattle.model.specs.Verdict as judged
 use Rattle.model.specs.Verdict.{verdictNumber}
-use Rattle.model.specs.Refusals.{validate}
+use Rattle.model.specs.Refusals.{WrongShape, refusalNumber, validate}
 use Rattle.model.specs.Machine as machine
 use Rattle.model.specs.Machine.{answerNumber, answerValues, lentAfter, step, canOpen}
 use Rattle.model.specs.Given.{number, Outside, given}
@@ -157,7 +157,8 @@ judges w t v y = by (tablesFit w) refl
         let m = validate-answers (view w) t v in
         ((λ e. (f, m .0 (told-judged (step (view w) (validate t) .answer) v (sym k ∙ e)))), (λ s. k ∙ ap told (m .1 (s .1))))
     by false f =
-        let k : called w (validating t) .answer ≡ tell.Refused 16 = ap (λ x. x .answer) (any-call w (validating t) y .wrong (any-call w (validating t) y .shape ∙ rw f)) in
+        let k : called w (validating t) .answer
+            ≡ tell.Refused (refusalNumber WrongShape) = ap (λ x. x .answer) (any-call w (validating t) y .wrong (any-call w (validating t) y .shape ∙ rw f)) in
         ((λ e. let q : _≡_ {A = ℕ} 0 1 = cc in absurd (omega arith)), (λ s. absurd (true≢false (sym (s .0) ∙ f))))
 
 -- ---- open

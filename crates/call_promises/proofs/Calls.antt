@@ -12,7 +12,7 @@ use Rattle.base_limits.specs.Limits.{mostLive, mostActive, mostIndexReads, most
 use Rattle.base_lists.proofs.ListLaws.{and-l, and-r, every-each}
 use Rattle.model.specs.Store.{Store}
 use Rattle.model.specs.Shape.{rightShape}
-use Rattle.model.specs.Refusals.{Step as Asked, WrongShape}
+use Rattle.model.specs.Refusals.{Step as Asked, WrongShape, refusalNumber}
 use Rattle.model.specs.Machine as machine
 use Rattle.model.specs.Machine.{gives, step, stepIn, run}
 use Rattle.model.proofs.Good.{Good, good-run, right-shape}
@@ -172,7 +172,7 @@ module _ (w : Words) (c : Call) where
   abbrev cut : Step
   cut = roomWithin (length (c .lent)) (c .asks)
 
-  called-wrong : shapeOf w ≡ false → called w c ≡ record { answer = tell.Refused 16; words = lent }
+  called-wrong : shapeOf w ≡ false → called w c ≡ record { answer = tell.Refused (refusalNumber WrongShape); words = lent }
   unfolding callOf
   called-wrong e = rw (lent-shape w (c .lent), e)
 

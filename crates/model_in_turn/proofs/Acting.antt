@@ -59,8 +59,8 @@ pub record Acts (s : Store) (y : Local) (t : Store) (a : Step) (read : List (ℕ
 module _ (s : Store) (q : Quiet s) (x : Local) (t : Store) (a : Alone s x t) where
   -- one place goes on
   pub alone-set : (t′ : Store) (w : Txn) (y : Local) → Good t′ → t′ .sizes ≡ t .sizes → t′ .clock ≡ t .clock → t′ .chains ≡ t .chains → t′ .index ≡ t .index → t′ .txns ≡ update (t .txns) 0 w
-      → w .number ≡ t .txns 0 .number → w .snapshot ≡ t .txns 0 .snapshot → w .marked ≡ t .txns 0 .marked → w .phase ≡ y .phase → rank
-      (y .phase) < phaseInstalled
+      → w .number ≡ t .txns 0 .number → w .snapshot ≡ t .txns 0 .snapshot → w .marked ≡ t .txns 0 .marked → w .phase ≡ y .phase
+      → rank (y .phase) < phaseInstalled
       → bucketsOf (w .reads) ≡ y .buckets → ((r : IndexRead) → Among r (w .reads) → r .stamp ≡ s .index .stamp (r .bucket)) → w .writes ≡ y .writes → map (λ (r : ReadRecord). r .row) (w .records) ≡ y .records → Alone s y t′
   alone-set t′ w y g zs ck cs ix ts nu sn ma ph early bu st wr re =
       let here : t′ .txns 0 ≡ w = ap (λ f. f 0) ts ∙ update-same (t .txns) 0 w in

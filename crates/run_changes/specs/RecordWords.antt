@@ -4,7 +4,7 @@ use mathlib.Core.Bool.{Bool, true, false, cond, not}
 use mathlib.Core.List.{List, [], _∷_}
 use lib.Dec.{eqb}
 use lib.ListN.{getD}
-use Rattle.model.specs.Store.{rank, bucketIn, keyIn}
+use Rattle.model.specs.Store.{phaseHolding, phaseCollected, phasePrepared, phaseInstalled, phaseEnded, rank, bucketIn, keyIn}
 use Rattle.txn.specs.View.{phaseView}
 use Rattle.txn.specs.declared.Phase.{Phase}
 use Rattle.txn.specs.declared.Phase.the-variants as phase
@@ -44,11 +44,11 @@ recordWords t =
 -- the phase of a number, with what it carries; Open for any other number
 abbrev pub phaseOf : ℕ → ℕ → ℕ → Phase
 phaseOf n bucket key =
-    cond (eqb n 2) (phase.Holding bucket key)
-    (cond (eqb n 3) (phase.Collected key)
-    (cond (eqb n 4) phase.Prepared
-    (cond (eqb n 5) phase.Installed
-    (cond (eqb n 6) phase.Ended phase.Open))))
+    cond (eqb n phaseHolding) (phase.Holding bucket key)
+    (cond (eqb n phaseCollected) (phase.Collected key)
+    (cond (eqb n phasePrepared) phase.Prepared
+    (cond (eqb n phaseInstalled) phase.Installed
+    (cond (eqb n phaseEnded) phase.Ended phase.Open))))
 
 -- a slot and a count have 32 bits
 abbrev pub low : ℕ → ℕ

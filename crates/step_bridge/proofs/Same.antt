@@ -13,7 +13,7 @@ use Rattle.base_limits.specs.Limits.{mostLive}
 use Rattle.model.specs.Store as model
 use Rattle.model.specs.Refusals.{Step as Asked, Refusal, NoSuch, WrongPhase, refusalNumber, placeOf, refusal, found}
 use Rattle.model.specs.Machine as machine
-use Rattle.model.specs.Machine.{gives, lentAfter, carried, afterRefusal, stepIn}
+use Rattle.model.specs.Machine.{rule, actor, gives, lentAfter, carried, afterRefusal, stepIn}
 use Rattle.model.specs.Given.{Names}
 use Rattle.model.proofs.Ruled.{phase-of, own-tests, ruled}
 use Rattle.model.proofs.Move.{place-number}
@@ -107,8 +107,9 @@ module _ (w : Words) (z : Sized w) (s : Step) (b : isBegin s ≡ false) where
 
   -- a step that names a transaction, and what is done to all that it leaves unless nothing was changed: the same where nobody has the number, and so the same where it is the same for the one who has it
   pub by-place-as : (done : Moved → Moved) → ((p : ℕ) (a : Answer) → placeFor (w .txns) s ≡ p → p < mostLive → done (unmoved w p a) ≡ unmoved w p a)
-      → Names (asked s) → (standing w (wantedOf s) < mostLive → wantedOf s ≢ 0 → txnAt w (standing w (wantedOf s)) .number ≡ wantedOf s → placeFor
-      (w .txns) s ≡ standing w (wantedOf s)
+      → Names (asked s)
+      → (standing w (wantedOf s) < mostLive → wantedOf s ≢ 0 → txnAt w (standing w (wantedOf s)) .number ≡ wantedOf s
+      → placeFor (w .txns) s ≡ standing w (wantedOf s)
       → SameAt w (standing w (wantedOf s))
       (done (doneBy (w .sizes) (othersIn (w .txns)) (txnAt w (standing w (wantedOf s))) (w .clock) (w .used) s (w .tables)))
       (carried (view w) (asked s) (refusal (later-tests (view w) (asked s)))))
@@ -127,15 +128,15 @@ module _ (w : Words) (z : Sized w) (s : Step) (b : isBegin s ≡ false) where
           let k : mostLive ≤ standing w (wantedOf s) = omega (arith, l) in
           same-from w s 0 _ _ (nowhere w z s k)
           (ap done (moved-none 0 (nowhere w z s k) (omega arith)
-          (rw (ne-eqb (wantedOf s) 0 n, ne-eqb (txnAt w 0 .number) (wantedOf s) (not-there w z (wantedOf s) k 0 (omega arith))))) ∙ kept 0
-          (tell.Refused (refusalNumber NoSuch)) (nowhere w z s k) (omega arith))
+          (rw (ne-eqb (wantedOf s) 0 n, ne-eqb (txnAt w 0 .number) (wantedOf s) (not-there w z (wantedOf s) k 0 (omega arith)))))
+          ∙ kept 0 (tell.Refused (refusalNumber NoSuch)) (nowhere w z s k) (omega arith))
           (none-model (view w) (asked s) names (rw (ne-eqb (wantedOf s) 0 n, le-ltb (standing w (wantedOf s)) mostLive k)))
           (refused-same w z 0 NoSuch)
       go (yes n) d =
           let l = place-in w z s in
           same-from w s (placeFor (w .txns) s) _ _ refl
-          (ap done (moved-none (placeFor (w .txns) s) refl l (rw (eq-eqb (wantedOf s) 0 n))) ∙ kept (placeFor (w .txns) s)
-          (tell.Refused (refusalNumber NoSuch)) refl l)
+          (ap done (moved-none (placeFor (w .txns) s) refl l (rw (eq-eqb (wantedOf s) 0 n)))
+          ∙ kept (placeFor (w .txns) s) (tell.Refused (refusalNumber NoSuch)) refl l)
           (none-model (view w) (asked s) names (rw (eq-eqb (wantedOf s) 0 n)))
           (refused-same w z (placeFor (w .txns) s) NoSuch)
 

@@ -114,8 +114,8 @@ end-same w z n = by-place w z (ask.End n) refl tt
 module _ (w : Words) (z : Sized w) (n : ℕ) (x : Write) (l : standing w n < mostLive) (a : Asked) where
   written-place : accepted (view w) a ≡ gives (does.written (view w) (standing w n) (writeView x)) machine.Done
       → SameAt w (standing w n) (inLists (writeOf (w .sizes .rows) (txnAt w (standing w n)) x (w .tables .lists)) (w .clock) (w .used) (w .tables))
-      (carried (view w) a (refusal ((not (eqb (model.rank (txnOf (view w) n .phase)) phaseOpen), WrongPhase) ∷ writeChecks (view w) (txnOf (view w) n)
-      (x .row))))
+      (carried (view w) a
+      (refusal ((not (eqb (model.rank (txnOf (view w) n .phase)) phaseOpen), WrongPhase) ∷ writeChecks (view w) (txnOf (view w) n) (x .row))))
   unfolding writeOf refusal
   written-place e =
       let t = txnAt w (standing w n) in
