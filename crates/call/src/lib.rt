@@ -1,10 +1,10 @@
 // Open, and any step of a machine: the shape first, 16 where it is wrong; then the step of the transaction that it names.
 use shape_open::can_open;
 use shape_open::free_places;
-use txn_places::Sizes;
 use txn_places::place_of;
 use txn_places::wanted;
 use base_protocol::Answer;
+use base_protocol::Sizes;
 use base_protocol::Step;
 use base_protocol::WRONG_SHAPE;
 use base_protocol::WRONG_SIZE;

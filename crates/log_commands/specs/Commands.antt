@@ -3,7 +3,7 @@ use Prim.Native.Nat.{ℕ}
 use mathlib.Core.Bool.{Bool, true, false}
 use Rattle.base_protocol.specs.declared.Step.{Step}
 use Rattle.base_protocol.specs.declared.Step.the-variants as ask
-use Rattle.txn_places.specs.declared.Sizes.{Sizes}
+use Rattle.base_protocol.specs.declared.Sizes.{Sizes}
 use Rattle.log.specs.declared.Command.{Command}
 use Rattle.log.specs.declared.Command.the-variants as command
 

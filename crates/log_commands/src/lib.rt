@@ -1,6 +1,6 @@
 // What a record of the log asks for: a store, a step, or neither.
 use log::Command;
-use txn_places::Sizes;
+use base_protocol::Sizes;
 use base_protocol::Step;
 ghost use mathlib.Core.Path.{_≡_};
 ghost use Rattle.log_commands.specs.Commands.{isOpen, isAsk, sizesOf, clockOf, stepOf};

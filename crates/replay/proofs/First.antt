@@ -11,8 +11,8 @@ use lib.Seq.{take-append-seam, drop-append-add, drop-drop}
 use Rattle.model.specs.Store.{fresh}
 use Rattle.model.specs.Machine.{canOpen}
 use Rattle.model.specs.Replay.{Replayed, malformed, opens, replay}
-use Rattle.txn_places.specs.declared.Sizes.{Sizes}
-use Rattle.step.specs.Words.{sizesView}
+use Rattle.base_protocol.specs.declared.Sizes.{Sizes}
+use Rattle.base_protocol.specs.View.{sizesView}
 use Rattle.log.specs.declared.Command.{Command}
 use Rattle.log.specs.declared.Command.the-variants.{Open, Ask, Malformed}
 use Rattle.log.specs.declared.Decoded.{Decoded}

@@ -13,10 +13,11 @@ use Rattle.base_limits.specs.Limits.{mostRows, mostVersions, mostBuckets, lastN
 use Rattle.base_lists.proofs.ListLaws.{and-l, and-r}
 use Rattle.model.specs.Shape.{within, goodSizes}
 use Rattle.model.specs.Machine.{canOpen}
+use Rattle.base_protocol.specs.declared.Sizes.{Sizes}
+use Rattle.base_protocol.specs.View.{sizesView}
 use Rattle.table.specs.Fields.{rowWords, versionWords, bucketWords}
 use Rattle.txn.specs.declared.Transaction.{Transaction}
-use Rattle.txn_places.specs.declared.Sizes.{Sizes}
-use Rattle.step.specs.Words.{Words, sizesView, freePlaces}
+use Rattle.step.specs.Words.{Words, freePlaces}
 use Rattle.step_bridge.proofs.Opening.{Opened, opened-view, opened-stands}
 use Rattle.replay.specs.Replay.{Zeroed, openedFrom}
 use Rattle.replay.proofs.Lining.{roomIn}

@@ -13,12 +13,12 @@ use log::read_at;
 use shape_open::can_open;
 use shape_open::free_places;
 use txn_places::Others;
-use txn_places::Sizes;
 use txn_places::active_number;
 use txn_places::place_of;
 use txn_places::prepared_count;
 use txn_places::wanted;
 use base_protocol::NO_ROOM;
+use base_protocol::Sizes;
 use report::answer_line;
 use report::open_line;
 use step::step;
@@ -35,7 +35,7 @@ ghost use mathlib.Core.Bool.{true};
 ghost use lib.ListN.{length};
 ghost use Rattle.model.specs.Machine.{canOpen};
 ghost use Rattle.model.specs.Replay.{replay, packed, reported, mostRoom};
-ghost use Rattle.step.specs.Words.{sizesView};
+ghost use Rattle.base_protocol.specs.View.{sizesView};
 ghost use Rattle.replay.specs.Replay.{Leaves, Zeroed, openedFrom};
 
 // The status stands above this, the bytes written below it.

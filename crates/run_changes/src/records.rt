@@ -1,7 +1,7 @@
 // A record and the machine's own numbers as words, in the order of their names, and back.
 use table_chain::Snapshot;
 use base_limits::MOST_LIVE;
-use txn_places::Sizes;
+use base_protocol::Sizes;
 use txn::Phase;
 use txn::Transaction;
 use txn::bucket_in;

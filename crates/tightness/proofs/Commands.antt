@@ -4,7 +4,7 @@ use mathlib.Core.Path.{refl}
 use mathlib.Core.Bool.{not}
 use Rattle.base_protocol.specs.declared.Step.{Step}
 use Rattle.base_protocol.specs.declared.Step.the-variants as ask
-use Rattle.txn_places.specs.declared.Sizes.{Sizes}
+use Rattle.base_protocol.specs.declared.Sizes.{Sizes}
 use Rattle.txn_places.specs.Places.{wantedOf, isBegin}
 use Rattle.log.specs.declared.Command.{Command}
 use Rattle.log.specs.declared.Command.the-variants as command
