@@ -1,5 +1,12 @@
 // What a store is asked for, and what it answers.
 
+// The sizes that a store is opened with.
+pub struct Sizes {
+    pub rows: u64,
+    pub versions: u64,
+    pub buckets: u64,
+}
+
 // The steps of document 01; `number` is the transaction's.
 pub enum Step {
     Begin,

@@ -12,11 +12,11 @@ use borrow.Author.Tests.{leb-true}
 use Rattle.base_limits.specs.Limits.{mostLive}
 use Rattle.base_lists.proofs.ListLaws.{and-l, and-r}
 use Rattle.base_protocol.specs.declared.Step.{Step}
+use Rattle.base_protocol.specs.declared.Sizes.{Sizes}
 use Rattle.table.specs.Fields.{rowWords, versionWords, bucketWords}
 use Rattle.table.specs.Lists.{slotWords}
 use Rattle.txn.specs.Methods.{idleOf}
 use Rattle.txn.specs.declared.Transaction.{Transaction}
-use Rattle.txn_places.specs.declared.Sizes.{Sizes}
 use Rattle.txn_places.specs.declared.Others.{Others}
 use Rattle.txn_places.specs.Places.{wantedOf, placeIn}
 use Rattle.step.specs.Steps.{Moved, stepOf}

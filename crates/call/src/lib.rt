@@ -1,5 +1,6 @@
 // Open, and any step of a machine: the shape first, 16 where it is wrong; then the step of the transaction that it names.
 use base_protocol::Answer;
+use base_protocol::Sizes;
 use base_protocol::Step;
 use base_protocol::WRONG_SHAPE;
 use base_protocol::WRONG_SIZE;
@@ -16,7 +17,6 @@ use table::ROW_WORDS;
 use table::VERSION_WORDS;
 use table_sweeps::release_every;
 use table_sweeps::unclaim_every;
-use txn_places::Sizes;
 use txn_places::place_of;
 use txn_places::wanted;
 ghost use mathlib.Core.Path.{_≡_};

@@ -20,10 +20,10 @@ use Rattle.base_protocol.specs.declared.Verdict.{Verdict}
 use Rattle.base_protocol.specs.declared.Verdict.the-variants as verdict
 use Rattle.base_protocol.specs.declared.Answer.{Answer}
 use Rattle.base_protocol.specs.declared.Answer.the-variants as tell
-use Rattle.base_protocol.specs.View.{verdictTold, told}
+use Rattle.base_protocol.specs.View.{verdictTold, told, sizesView}
 use Rattle.report_answers.specs.Answers as answers
 use Rattle.report_answers.specs.Answers.{numberOf, valuesOf}
-use Rattle.step.specs.Words.{Words, sizesView, view}
+use Rattle.step.specs.Words.{Words, view}
 use Rattle.shape.specs.Shape.{tablesLent, tablesFit}
 use Rattle.call.specs.Calls.{Left, refusedOpen, openOf}
 use Rattle.call_promises.specs.Calls.{Call, asking, lending, called, Typed, AnyCall}

@@ -22,7 +22,7 @@ use Rattle.base_protocol.specs.declared.Step.{Step}
 use Rattle.base_protocol.specs.declared.Step.the-variants as ask
 use Rattle.base_protocol.specs.declared.Answer.{Answer}
 use Rattle.base_protocol.specs.declared.Answer.the-variants as tell
-use Rattle.base_protocol.specs.View.{asked, told}
+use Rattle.base_protocol.specs.View.{asked, told, sizesView}
 use Rattle.table.specs.Words.{field}
 use Rattle.txn.specs.View.{phaseView, rowsPart, versionsPart, bucketsPart, chainsView, indexView, heldView}
 use Rattle.txn.specs.Methods.{idleOf, refusedOf}
@@ -33,7 +33,7 @@ use Rattle.finish_install.specs.Install.{oneMore}
 use Rattle.finish_publish.specs.Publish.{publishOf, abortOf}
 use Rattle.table_sweeps.specs.Sweeps.{releaseEvery, unclaimEvery}
 use Rattle.step.specs.Steps.{Moved, publishStep, publishedFrom, inPublished, inAborted}
-use Rattle.step.specs.Words.{Words, sizesView, view, txnAt, placeFor, Sized}
+use Rattle.step.specs.Words.{Words, view, txnAt, placeFor, Sized}
 use Rattle.step_bridge.proofs.Places.{default-any, standing, live-at}
 use Rattle.step_bridge.proofs.Placed.{unmoved}
 use Rattle.step_bridge.proofs.Same.{two-held, SameAt, SameAs, Same, refused-same, by-place-as}

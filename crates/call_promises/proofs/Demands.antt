@@ -13,8 +13,9 @@ use Rattle.model.specs.Holding.{Writes, ErasesNothing}
 use Rattle.model.specs.Demands.{HeadKept, CostsNothing, MarkedOpen, LeastXmins, StandingRead}
 use Rattle.base_protocol.specs.declared.Answer.the-variants as tell
 use Rattle.base_protocol.specs.declared.Verdict.the-variants as verdict
+use Rattle.base_protocol.specs.View.{sizesView}
 use Rattle.report_answers.specs.Answers.{numberOf}
-use Rattle.step.specs.Words.{Words, sizesView, view}
+use Rattle.step.specs.Words.{Words, view}
 use Rattle.call_promises.specs.Calls.{Call, called, Typed, AnyCall}
 use Rattle.call_promises.specs.Demands.{ExactCall, Opening, openNumber, ExactOpen, after, storeAfter, Follows, reading, validating, preparing, MarkedCalls, JudgedCall, ReadCall}
 use Rattle.call_promises.specs.InTurn.{CallsInTurn}

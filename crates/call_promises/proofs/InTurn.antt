@@ -16,9 +16,9 @@ use Rattle.model.specs.Machine.{lentAfter, actor, step, run}
 use Rattle.model_in_turn.specs.Done.{returned, Entry, whose, entryOf, entries}
 use Rattle.model_in_turn.specs.InTurn.{oneByOne, stepsIn, turnOf}
 use Rattle.model_in_turn.proofs.Promises.{one-after-another}
-use Rattle.base_protocol.specs.View.{told}
+use Rattle.base_protocol.specs.View.{told, sizesView}
 use Rattle.report_answers.specs.Answers.{numberOf}
-use Rattle.step.specs.Words.{Words, sizesView, view}
+use Rattle.step.specs.Words.{Words, view}
 use Rattle.step_bridge.proofs.Running.{Stands}
 use Rattle.call_promises.specs.Calls.{Call, asking, called, stepsOf}
 use Rattle.call_promises.specs.Demands.{Opening, opened, openNumber, after}

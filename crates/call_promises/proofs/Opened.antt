@@ -10,9 +10,10 @@ use Rattle.base_limits.specs.Limits.{lastNumber}
 use Rattle.model.specs.Store.{fresh}
 use Rattle.model.specs.Machine.{canOpen}
 use Rattle.base_protocol.specs.declared.Answer.the-variants as tell
+use Rattle.base_protocol.specs.declared.Sizes.{Sizes}
+use Rattle.base_protocol.specs.View.{sizesView}
 use Rattle.table.specs.Fields.{rowWords, versionWords, bucketWords}
-use Rattle.txn_places.specs.declared.Sizes.{Sizes}
-use Rattle.step.specs.Words.{Words, sizesView, view}
+use Rattle.step.specs.Words.{Words, view}
 use Rattle.step_bridge.proofs.Running.{Stands}
 use Rattle.step_bridge.proofs.Opening.{Opened, opened-view, opened-stands}
 use Rattle.shape.specs.Shape.{tablesLent, wordsOf}

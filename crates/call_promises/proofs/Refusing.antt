@@ -19,6 +19,8 @@ use Rattle.base_protocol.specs.declared.Step.{Step}
 use Rattle.base_protocol.specs.declared.Step.the-variants as ask
 use Rattle.base_protocol.specs.declared.Answer.{Answer}
 use Rattle.base_protocol.specs.declared.Answer.the-variants as tell
+use Rattle.base_protocol.specs.declared.Sizes.{Sizes}
+use Rattle.base_protocol.specs.View.{sizesView}
 use Rattle.table.specs.Fields.{stampOf, holderOf}
 use Rattle.table.specs.declared.lists.Write.{Write}
 use Rattle.table.specs.declared.lists.ReadRecord.{ReadRecord}
@@ -40,10 +42,9 @@ use Rattle.read_match.specs.Matching.{look}
 use Rattle.read_record.specs.Recording.{knownPointers}
 use Rattle.read.specs.Rows.{matchedRows, newRecords, roomFor, answerOf, readingOf, rowsOf}
 use Rattle.txn_places.specs.Places.{missesOf, liveIn}
-use Rattle.txn_places.specs.declared.Sizes.{Sizes}
 use Rattle.txn_places.specs.declared.Others.{Others}
 use Rattle.step.specs.Steps.{Tables, Moved, publishStep, stays, inBuckets, inLists, inFound, doneBy, stepOf}
-use Rattle.step.specs.Words.{Words, sizesView, othersIn, placeFor, movedBy, wordsAfter}
+use Rattle.step.specs.Words.{Words, othersIn, placeFor, movedBy, wordsAfter}
 use Rattle.step_bridge.proofs.Placed.{after}
 use Rattle.shape.specs.Shape.{tablesLent, shapeOf, wordsOf}
 use Rattle.call.specs.Calls.{asker, hasEnded, sweptFor, calledBy, wordsCalled, callOf, closedOf, openOf}

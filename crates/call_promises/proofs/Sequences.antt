@@ -17,9 +17,9 @@ use Rattle.model.proofs.Move.{run-append}
 use Rattle.model.proofs.Promises.{finished-read, validated-read, kept-heads, nothing-costs, kept-marked, marked-stops, kept-xmin}
 use Rattle.base_protocol.specs.declared.Answer.the-variants as tell
 use Rattle.base_protocol.specs.declared.Verdict.the-variants as verdict
-use Rattle.base_protocol.specs.View.{told}
+use Rattle.base_protocol.specs.View.{told, sizesView}
 use Rattle.report_answers.specs.Answers.{numberOf}
-use Rattle.step.specs.Words.{sizesView, view}
+use Rattle.step.specs.Words.{view}
 use Rattle.step_bridge.proofs.Running.{Stands}
 use Rattle.call_promises.specs.Calls.{Call, asking, called, stepsOf}
 use Rattle.call_promises.specs.Demands.{Opening, openNumber, after, storeAfter, Follows, reading, validating, preparing, MarkedCalls, ReadCall}

@@ -19,10 +19,10 @@ use Rattle.model.specs.Demands.{MarkedGives, FinishedRead}
 use Rattle.base_protocol.specs.declared.Step.the-variants as ask
 use Rattle.base_protocol.specs.declared.Answer.the-variants as tell
 use Rattle.base_protocol.specs.declared.Verdict.the-variants as verdict
-use Rattle.base_protocol.specs.View.{verdictTold}
+use Rattle.base_protocol.specs.declared.Sizes.{Sizes}
+use Rattle.base_protocol.specs.View.{verdictTold, sizesView}
 use Rattle.report_answers.specs.Answers.{numberOf, valuesOf}
-use Rattle.txn_places.specs.declared.Sizes.{Sizes}
-use Rattle.step.specs.Words.{Words, sizesView, view}
+use Rattle.step.specs.Words.{Words, view}
 use Rattle.shape.specs.Shape.{tablesLent, tablesFit, wordsOf}
 use Rattle.call.specs.Calls.{closedOf, openOf}
 use Rattle.call_promises.specs.Calls.{Call, asking, lending, called, calls, stepsOf, Typed}

@@ -11,42 +11,45 @@ use lib.ListN.{length, take, drop, length-drop}
 use lib.Seq.{drop-drop}
 use Rattle.model.specs.Log.{number, widths, fits, fields, whole, commandOf, readRecord}
 use Rattle.log.specs.declared.Command.the-variants.{Open, Ask}
-use Rattle.log.specs.Records.{lengthOf, fieldIn, askedOf, commandIn, malformedAt, decodedOf}
+use Rattle.log.specs.Records.{lengthOf, fieldIn, commandIn, malformedAt, decodedOf}
 use Rattle.log.proofs.Known.{fits-length}
 use Rattle.base_protocol.specs.declared.Step.the-variants as ask
 
 -- the fields of the records that have more than one, each from its place
 module _ (log : List ℕ) (at : ℕ) where
   pub opened : commandIn 1 (drop at log)
-      ≡ Open (number (take 4 (drop at log))) (number (take 4 (drop (at + 4) log))) (number (take 4 (drop (at + 8) log))) (number (take 8 (drop (at + 12) log)))
+      ≡ Open
+      (record {
+        rows = number (take 4 (drop at log));
+        versions = number (take 4 (drop (at + 4) log));
+        buckets = number (take 4 (drop (at + 8) log));
+      })
+      (number (take 8 (drop (at + 12) log)))
   unfolding commandIn fieldIn widths fields commandOf
   opened =
       let l = drop at log in
       rw (← drop-drop 4 at log, ← drop-drop 8 at log, ← drop-drop 12 at log, ← drop-drop 4 8 l, ← drop-drop 4 4 l)
 
-  pub captured : askedOf 3 (drop at log) ≡ ask.Capture (number (take 8 (drop at log))) (number (take 8 (drop (at + 8) log)))
-  unfolding askedOf fieldIn widths fields commandOf
+  pub captured : commandIn 3 (drop at log) ≡ Ask (ask.Capture (number (take 8 (drop at log))) (number (take 8 (drop (at + 8) log))))
+  unfolding commandIn fieldIn widths fields commandOf
   captured = rw (← drop-drop 8 at log)
 
-  pub roomed : askedOf 5 (drop at log) ≡ ask.Rows (number (take 8 (drop at log))) (number (take 4 (drop (at + 8) log)))
-  unfolding askedOf fieldIn widths fields commandOf
+  pub roomed : commandIn 5 (drop at log) ≡ Ask (ask.Rows (number (take 8 (drop at log))) (number (take 4 (drop (at + 8) log))))
+  unfolding commandIn fieldIn widths fields commandOf
   roomed = rw (← drop-drop 8 at log)
 
-  pub putted : askedOf 6 (drop at log)
-      ≡ ask.Put (number (take 8 (drop at log))) (number (take 4 (drop (at + 8) log))) (number (take 8 (drop (at + 12) log))) (number (take 8 (drop (at + 20) log)))
-  unfolding askedOf fieldIn widths fields commandOf
+  pub putted : commandIn 6 (drop at log)
+      ≡ Ask
+      (ask.Put (number (take 8 (drop at log))) (number (take 4 (drop (at + 8) log))) (number (take 8 (drop (at + 12) log)))
+      (number (take 8 (drop (at + 20) log))))
+  unfolding commandIn fieldIn widths fields commandOf
   putted =
       let l = drop at log in
       rw (← drop-drop 8 at log, ← drop-drop 12 at log, ← drop-drop 20 at log, ← drop-drop 8 12 l, ← drop-drop 4 8 l)
 
-  pub erased : askedOf 7 (drop at log) ≡ ask.Erase (number (take 8 (drop at log))) (number (take 4 (drop (at + 8) log)))
-  unfolding askedOf fieldIn widths fields commandOf
+  pub erased : commandIn 7 (drop at log) ≡ Ask (ask.Erase (number (take 8 (drop at log))) (number (take 4 (drop (at + 8) log))))
+  unfolding commandIn fieldIn widths fields commandOf
   erased = rw (← drop-drop 8 at log)
-
--- every other kind asks for a step
-pub asks : (kind : ℕ) (l : List ℕ) → (kind ≡ 1 → ⊥) → commandIn kind l ≡ Ask (askedOf kind l)
-unfolding commandIn askedOf commandOf
-asks kind l ne = rw (ne-eqb kind 1 ne)
 
 module _ (log : List ℕ) (at : ℕ) where
   not-whole : whole (drop at log) ≡ false → decodedOf log at ≡ malformedAt at

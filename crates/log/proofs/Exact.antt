@@ -239,7 +239,8 @@ module _ (l : List ℕ) (bs : Bytes l) (w : whole l ≡ true) where
       )
 
   read-by : (o : Option (List ℕ)) → widths (kindIn l) ≡ o → fits o (lengthIn l) ≡ true
-      → (bytesOf (commandOf (kindIn l) (fieldIn (kindIn l) (drop 4 l))) ≡ take (2 + lengthIn l) l) × Fit (fieldsIn (commandOf (kindIn l) (fieldIn (kindIn l) (drop 4 l))))
+      → (bytesOf (commandOf (kindIn l) (fieldIn (kindIn l) (drop 4 l))) ≡ take (2 + lengthIn l) l)
+      × Fit (fieldsIn (commandOf (kindIn l) (fieldIn (kindIn l) (drop 4 l))))
   unfolding bytesOf Taken
   read-by none e fit = let z : _≡_ {A = ℕ} 0 1 = cc in absurd (omega arith)
   read-by (some ws) e fit =
@@ -251,7 +252,8 @@ module _ (l : List ℕ) (bs : Bytes l) (w : whole l ≡ true) where
       let fs : fieldsIn (commandOf (kindIn l) (fieldIn (kindIn l) (drop 4 l))) ≡ fieldsAt ws (drop 4 l) = rw e at (taken .1) in
       (rw (taken .0, fs) (front-bytes ws n), rw fs (at-fits ws (drop 4 l) (drop-bytes 4 l bs) long))
 
-exact-by : (l : List ℕ) (b : Bool) → whole l ≡ b → Bytes l → (c : Command) (rest : List ℕ) → readRecord l ≡ some (c, rest) → (l ≡ bytesOf c ++ rest) × Fit (fieldsIn c)
+exact-by : (l : List ℕ) (b : Bool) → whole l ≡ b → Bytes l → (c : Command) (rest : List ℕ) → readRecord l ≡ some (c, rest)
+    → (l ≡ bytesOf c ++ rest) × Fit (fieldsIn c)
 exact-by l true w bs c rest e =
     let r = read-whole l w in
     let b = read-by l bs w (widths (kindIn l)) refl (whole-facts l w .2) in

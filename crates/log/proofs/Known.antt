@@ -25,10 +25,15 @@ module _ (P : ℕ → Type 0) where
   one-of zero k j ps h i = absurd (omega arith)
   one-of (suc n) k j ps h i = this-or k j (eqb k j) refl (ps .0) (λ ne. one-of n (suc k) j (ps .1) (omega arith) (omega arith))
 
--- a number from k on that is none of the n from k on lies behind them
-pub behind : (n k j : ℕ) → Each (λ i. j ≡ i → ⊥) k n → k ≤ j → k + n ≤ j
-behind zero k j ps h = omega arith
-behind (suc n) k j ps h = let more = behind n (suc k) j (ps .1) (let ne = ps .0 in omega arith) in omega arith
+-- what the last arm of a `match` knows of j: it is none of the n numbers from k on
+abbrev NoneOf : ℕ → ℕ → ℕ → Type 0
+NoneOf j k zero = Unit {0}
+NoneOf j k (suc n) = NoneOf j k n × (j ≡ k + n → ⊥)
+
+-- from k on, it then lies behind them
+pub behind : (n k j : ℕ) → NoneOf j k n → k ≤ j → k + n ≤ j
+behind zero k j un h = omega arith
+behind (suc n) k j un h = let more = behind n k j (un .0) h in let ne = un .1 in omega (arith, more, ne)
 
 pub length-above : (kind : ℕ) → 13 < kind → lengthOf kind ≡ 65536
 unfolding lengthOf widths

@@ -1,22 +1,28 @@
 -- What a caller knows of a record that was read: the model's command, and that its place moves on within the log.
 -- Assumes nothing.
 use borrow.Author.Tests.{leb-true}
+use types.Run.{OneOf}
+use denote.Enum.Declared.{tagOf}
 use Prim.Native.Nat.{ℕ, _+_, _-_, _≤_, _<_}
 use mathlib.Core.Path.{_≡_, refl, sym, ap, _∙_}
 use mathlib.Core.Bool.{Bool, true, false, _&&_}
 use mathlib.Core.Option.{none, some}
-use mathlib.Core.List.{List}
+use mathlib.Core.List.{List, [], _∷_}
+use mathlib.Core.Logic.{⊎-elim}
 use native.Mathlib.Omega.{arith}
 use lib.Dec.{leb}
 use lib.ListN.{length, drop, length-drop}
 use lib.Seq.{drop-drop}
 use Rattle.base_lists.proofs.ListLaws.{and-l, and-r}
 use Rattle.model.specs.Log.{Command, Opening, Asking, widths, fits, commandOf, lengthIn, kindIn, whole, readRecord}
+use Rattle.base_protocol.specs.declared.Sizes.{Sizes}
 use Rattle.base_protocol.specs.declared.Step.{Step}
-use Rattle.base_protocol.specs.View.{asked}
+use Rattle.base_protocol.specs.View.{asked, sizesView}
 use Rattle.log.specs.declared.Decoded.{Decoded}
+use Rattle.log.specs.declared.Command as code
 use Rattle.log.specs.declared.Command.the-variants.{Open, Ask, Malformed}
-use Rattle.log.specs.Records.{stepTold, commandTold, malformedAt, decodedOf, fieldIn}
+use Rattle.log.specs.Records.{sizesTold, stepTold, commandTold, malformedAt, decodedOf, fieldIn}
+use Rattle.log.proofs.Command.{the-type}
 use Rattle.model.specs.Refusals as model
 
 -- a step that is told is the one that is asked for
@@ -38,19 +44,26 @@ never-malformed : (c : Command) → commandTold c ≡ Malformed → ⊥
 never-malformed (Opening z clock) e = let z : _≡_ {A = ℕ} 0 1 = cc in absurd (omega arith)
 never-malformed (Asking a) e = let z : _≡_ {A = ℕ} 0 1 = cc in absurd (omega arith)
 
-told-open : (c : Command) (rows versions buckets clock : ℕ) → commandTold c ≡ Open rows versions buckets clock
-    → c ≡ Opening (record { rows = rows; versions = versions; buckets = buckets }) clock
-told-open (Opening z clock) r v b k e =
-    let er : z .rows ≡ r = cc in
-    let ev : z .versions ≡ v = cc in
-    let eb : z .buckets ≡ b = cc in
-    let ek : clock ≡ k = cc in
-    rw (← er, ← ev, ← eb, ← ek)
-told-open (Asking a) r v b k e = let z : _≡_ {A = ℕ} 0 1 = cc in absurd (omega arith)
+told-open : (c : Command) (z : Sizes) (clock : ℕ) → commandTold c ≡ Open z clock → c ≡ Opening (sizesView z) clock
+told-open (Opening y k) z clock e = let ez : sizesTold y ≡ z = cc in let ek : k ≡ clock = cc in rw (← ez, ek)
+told-open (Asking a) z clock e = let n : _≡_ {A = ℕ} 0 1 = cc in absurd (omega arith)
 
 told-ask : (c : Command) (s : Step) → commandTold c ≡ Ask s → c ≡ Asking (asked s)
 told-ask (Opening z clock) s e = let z : _≡_ {A = ℕ} 0 1 = cc in absurd (omega arith)
 told-ask (Asking a) s e = let es : stepTold a ≡ s = cc in rw (← es, asked-told a)
+
+-- what is known of a command behind the `else` of a `let` that wants a step, or an open: which variants are left
+abbrev pub NoStep : code.Command → Type 0
+NoStep c = OneOf (0 ∷ 2 ∷ []) (tagOf the-type c)
+
+abbrev pub NoOpen : code.Command → Type 0
+NoOpen c = OneOf (1 ∷ 2 ∷ []) (tagOf the-type c)
+
+pub not-step : (s : Step) → NoStep (Ask s) → ⊥
+not-step s h = ⊎-elim (λ e. absurd (omega arith)) (λ e. absurd (omega arith)) h
+
+pub not-open : (z : Sizes) (clock : ℕ) → NoOpen (Open z clock) → ⊥
+not-open z clock h = ⊎-elim (λ e. absurd (omega arith)) (λ e. absurd (omega arith)) h
 
 -- the tests of a whole record
 pub whole-facts : (l : List ℕ) → whole l ≡ true → (4 ≤ length l) × (2 + lengthIn l ≤ length l) × (fits (widths (kindIn l)) (lengthIn l) ≡ true)
@@ -74,7 +87,8 @@ read-none l e = rw e
 -- the two outcomes at a place: malformed, or a command and the next place, where the rest begins
 pub data Reads (log : List ℕ) (at : ℕ) (d : Decoded) : Type 0 where
   is-malformed : readRecord (drop at log) ≡ none → d ≡ malformedAt at → Reads log at d
-  is-read : (c : Command) → readRecord (drop at log) ≡ some (c, drop (d .next) log) → d .command ≡ commandTold c → at < d .next → d .next ≤ length log → Reads log at d
+  is-read : (c : Command) → readRecord (drop at log) ≡ some (c, drop (d .next) log) → d .command ≡ commandTold c → at < d .next → d .next ≤ length log
+      → Reads log at d
 
 reads-by : (log : List ℕ) (at : ℕ) (b : Bool) → whole (drop at log) ≡ b → Reads log at (decodedOf log at)
 unfolding decodedOf
@@ -96,10 +110,10 @@ module _ {log : List ℕ} {at : ℕ} {d : Decoded} where
   read-malformed (is-malformed unread ed) e = unread
   read-malformed (is-read c r ec on in-log) e = absurd (never-malformed c (sym ec ∙ e))
 
-  pub read-open : Reads log at d → (rows versions buckets clock : ℕ) → d .command ≡ Open rows versions buckets clock
-      → readRecord (drop at log) ≡ some (Opening (record { rows = rows; versions = versions; buckets = buckets }) clock, drop (d .next) log)
-  read-open (is-malformed unread ed) r v b k e = let z : _≡_ {A = ℕ} 0 1 = cc in absurd (omega arith)
-  read-open (is-read c r ec on in-log) rs v b k e = rw (← told-open c rs v b k (sym ec ∙ e)) r
+  pub read-open : Reads log at d → (z : Sizes) (clock : ℕ) → d .command ≡ Open z clock
+      → readRecord (drop at log) ≡ some (Opening (sizesView z) clock, drop (d .next) log)
+  read-open (is-malformed unread ed) z clock e = let n : _≡_ {A = ℕ} 0 1 = cc in absurd (omega arith)
+  read-open (is-read c r ec on in-log) z clock e = rw (← told-open c z clock (sym ec ∙ e)) r
 
   pub read-ask : Reads log at d → (s : Step) → d .command ≡ Ask s → readRecord (drop at log) ≡ some (Asking (asked s), drop (d .next) log)
   read-ask (is-malformed unread ed) s e = let z : _≡_ {A = ℕ} 0 1 = cc in absurd (omega arith)

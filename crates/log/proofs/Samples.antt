@@ -1,4 +1,5 @@
--- Records spelled out byte by byte, little-endian, and what each is read as: every kind with fields of different bytes, and every way to be malformed. Assumes nothing.
+-- Records spelled out byte by byte, little-endian, and what each is read as: every kind with fields of different bytes, and every way to be malformed.
+-- Assumes nothing.
 use mathlib.Core.Path.{_≡_, refl}
 use mathlib.Core.Option.{Option, none, some}
 use mathlib.Core.List.{List, [], _∷_}
@@ -19,7 +20,9 @@ abbrev Read : Type 0
 Read = Option (Command × List ℕ)
 
 -- kind 1, with two bytes of the next record behind it
-pub reads-open : _≡_ {A = Read} (readRecord (22 ∷ 0 ∷ 1 ∷ 0 ∷ 1 ∷ 2 ∷ 3 ∷ 4 ∷ 5 ∷ 6 ∷ 7 ∷ 8 ∷ 9 ∷ 10 ∷ 11 ∷ 12 ∷ 13 ∷ 14 ∷ 15 ∷ 16 ∷ 17 ∷ 18 ∷ 19 ∷ 20 ∷ 99 ∷ 98 ∷ [])) (some (Opening (record { rows = 67305985; versions = 134678021; buckets = 202050057 }) 1446519769809227277, 99 ∷ 98 ∷ []))
+pub reads-open : _≡_ {A = Read}
+    (readRecord (22 ∷ 0 ∷ 1 ∷ 0 ∷ 1 ∷ 2 ∷ 3 ∷ 4 ∷ 5 ∷ 6 ∷ 7 ∷ 8 ∷ 9 ∷ 10 ∷ 11 ∷ 12 ∷ 13 ∷ 14 ∷ 15 ∷ 16 ∷ 17 ∷ 18 ∷ 19 ∷ 20 ∷ 99 ∷ 98 ∷ []))
+    (some (Opening (record { rows = 67305985; versions = 134678021; buckets = 202050057 }) 1446519769809227277, 99 ∷ 98 ∷ []))
 unfolding computes
 reads-open = refl
 
@@ -29,57 +32,70 @@ unfolding computes
 reads-begin = refl
 
 -- kind 3, with two bytes of the next record behind it
-pub reads-capture : _≡_ {A = Read} (readRecord (18 ∷ 0 ∷ 3 ∷ 0 ∷ 1 ∷ 2 ∷ 3 ∷ 4 ∷ 5 ∷ 6 ∷ 7 ∷ 8 ∷ 9 ∷ 10 ∷ 11 ∷ 12 ∷ 13 ∷ 14 ∷ 15 ∷ 16 ∷ 99 ∷ 98 ∷ [])) (some (Asking (capture 578437695752307201 1157159078456920585), 99 ∷ 98 ∷ []))
+pub reads-capture : _≡_ {A = Read} (readRecord (18 ∷ 0 ∷ 3 ∷ 0 ∷ 1 ∷ 2 ∷ 3 ∷ 4 ∷ 5 ∷ 6 ∷ 7 ∷ 8 ∷ 9 ∷ 10 ∷ 11 ∷ 12 ∷ 13 ∷ 14 ∷ 15 ∷ 16 ∷ 99 ∷ 98 ∷ []))
+    (some (Asking (capture 578437695752307201 1157159078456920585), 99 ∷ 98 ∷ []))
 unfolding computes
 reads-capture = refl
 
 -- kind 4, with two bytes of the next record behind it
-pub reads-collect : _≡_ {A = Read} (readRecord (10 ∷ 0 ∷ 4 ∷ 0 ∷ 1 ∷ 2 ∷ 3 ∷ 4 ∷ 5 ∷ 6 ∷ 7 ∷ 8 ∷ 99 ∷ 98 ∷ [])) (some (Asking (collect 578437695752307201), 99 ∷ 98 ∷ []))
+pub reads-collect : _≡_ {A = Read} (readRecord (10 ∷ 0 ∷ 4 ∷ 0 ∷ 1 ∷ 2 ∷ 3 ∷ 4 ∷ 5 ∷ 6 ∷ 7 ∷ 8 ∷ 99 ∷ 98 ∷ []))
+    (some (Asking (collect 578437695752307201), 99 ∷ 98 ∷ []))
 unfolding computes
 reads-collect = refl
 
 -- kind 5, with two bytes of the next record behind it
-pub reads-rows : _≡_ {A = Read} (readRecord (14 ∷ 0 ∷ 5 ∷ 0 ∷ 1 ∷ 2 ∷ 3 ∷ 4 ∷ 5 ∷ 6 ∷ 7 ∷ 8 ∷ 9 ∷ 10 ∷ 11 ∷ 12 ∷ 99 ∷ 98 ∷ [])) (some (Asking (rows 578437695752307201 202050057), 99 ∷ 98 ∷ []))
+pub reads-rows : _≡_ {A = Read} (readRecord (14 ∷ 0 ∷ 5 ∷ 0 ∷ 1 ∷ 2 ∷ 3 ∷ 4 ∷ 5 ∷ 6 ∷ 7 ∷ 8 ∷ 9 ∷ 10 ∷ 11 ∷ 12 ∷ 99 ∷ 98 ∷ []))
+    (some (Asking (rows 578437695752307201 202050057), 99 ∷ 98 ∷ []))
 unfolding computes
 reads-rows = refl
 
 -- kind 6, with two bytes of the next record behind it
-pub reads-put : _≡_ {A = Read} (readRecord (30 ∷ 0 ∷ 6 ∷ 0 ∷ 1 ∷ 2 ∷ 3 ∷ 4 ∷ 5 ∷ 6 ∷ 7 ∷ 8 ∷ 9 ∷ 10 ∷ 11 ∷ 12 ∷ 13 ∷ 14 ∷ 15 ∷ 16 ∷ 17 ∷ 18 ∷ 19 ∷ 20 ∷ 21 ∷ 22 ∷ 23 ∷ 24 ∷ 25 ∷ 26 ∷ 27 ∷ 28 ∷ 99 ∷ 98 ∷ [])) (some (Asking (put 578437695752307201 202050057 1446519769809227277 2025241152513840661), 99 ∷ 98 ∷ []))
+pub reads-put : _≡_ {A = Read}
+    (readRecord (30 ∷ 0 ∷ 6 ∷ 0
+    ∷ 1 ∷ 2 ∷ 3 ∷ 4 ∷ 5 ∷ 6 ∷ 7 ∷ 8 ∷ 9 ∷ 10 ∷ 11 ∷ 12 ∷ 13 ∷ 14 ∷ 15 ∷ 16 ∷ 17 ∷ 18 ∷ 19 ∷ 20 ∷ 21 ∷ 22 ∷ 23 ∷ 24 ∷ 25 ∷ 26 ∷ 27 ∷ 28 ∷ 99 ∷ 98 ∷ []))
+    (some (Asking (put 578437695752307201 202050057 1446519769809227277 2025241152513840661), 99 ∷ 98 ∷ []))
 unfolding computes
 reads-put = refl
 
 -- kind 7, with two bytes of the next record behind it
-pub reads-erase : _≡_ {A = Read} (readRecord (14 ∷ 0 ∷ 7 ∷ 0 ∷ 1 ∷ 2 ∷ 3 ∷ 4 ∷ 5 ∷ 6 ∷ 7 ∷ 8 ∷ 9 ∷ 10 ∷ 11 ∷ 12 ∷ 99 ∷ 98 ∷ [])) (some (Asking (erase 578437695752307201 202050057), 99 ∷ 98 ∷ []))
+pub reads-erase : _≡_ {A = Read} (readRecord (14 ∷ 0 ∷ 7 ∷ 0 ∷ 1 ∷ 2 ∷ 3 ∷ 4 ∷ 5 ∷ 6 ∷ 7 ∷ 8 ∷ 9 ∷ 10 ∷ 11 ∷ 12 ∷ 99 ∷ 98 ∷ []))
+    (some (Asking (erase 578437695752307201 202050057), 99 ∷ 98 ∷ []))
 unfolding computes
 reads-erase = refl
 
 -- kind 8, with two bytes of the next record behind it
-pub reads-prepare : _≡_ {A = Read} (readRecord (10 ∷ 0 ∷ 8 ∷ 0 ∷ 1 ∷ 2 ∷ 3 ∷ 4 ∷ 5 ∷ 6 ∷ 7 ∷ 8 ∷ 99 ∷ 98 ∷ [])) (some (Asking (prepare 578437695752307201), 99 ∷ 98 ∷ []))
+pub reads-prepare : _≡_ {A = Read} (readRecord (10 ∷ 0 ∷ 8 ∷ 0 ∷ 1 ∷ 2 ∷ 3 ∷ 4 ∷ 5 ∷ 6 ∷ 7 ∷ 8 ∷ 99 ∷ 98 ∷ []))
+    (some (Asking (prepare 578437695752307201), 99 ∷ 98 ∷ []))
 unfolding computes
 reads-prepare = refl
 
 -- kind 9, with two bytes of the next record behind it
-pub reads-install : _≡_ {A = Read} (readRecord (10 ∷ 0 ∷ 9 ∷ 0 ∷ 1 ∷ 2 ∷ 3 ∷ 4 ∷ 5 ∷ 6 ∷ 7 ∷ 8 ∷ 99 ∷ 98 ∷ [])) (some (Asking (install 578437695752307201), 99 ∷ 98 ∷ []))
+pub reads-install : _≡_ {A = Read} (readRecord (10 ∷ 0 ∷ 9 ∷ 0 ∷ 1 ∷ 2 ∷ 3 ∷ 4 ∷ 5 ∷ 6 ∷ 7 ∷ 8 ∷ 99 ∷ 98 ∷ []))
+    (some (Asking (install 578437695752307201), 99 ∷ 98 ∷ []))
 unfolding computes
 reads-install = refl
 
 -- kind 10, with two bytes of the next record behind it
-pub reads-end : _≡_ {A = Read} (readRecord (10 ∷ 0 ∷ 10 ∷ 0 ∷ 1 ∷ 2 ∷ 3 ∷ 4 ∷ 5 ∷ 6 ∷ 7 ∷ 8 ∷ 99 ∷ 98 ∷ [])) (some (Asking (end 578437695752307201), 99 ∷ 98 ∷ []))
+pub reads-end : _≡_ {A = Read} (readRecord (10 ∷ 0 ∷ 10 ∷ 0 ∷ 1 ∷ 2 ∷ 3 ∷ 4 ∷ 5 ∷ 6 ∷ 7 ∷ 8 ∷ 99 ∷ 98 ∷ []))
+    (some (Asking (end 578437695752307201), 99 ∷ 98 ∷ []))
 unfolding computes
 reads-end = refl
 
 -- kind 11, with two bytes of the next record behind it
-pub reads-publish : _≡_ {A = Read} (readRecord (10 ∷ 0 ∷ 11 ∷ 0 ∷ 1 ∷ 2 ∷ 3 ∷ 4 ∷ 5 ∷ 6 ∷ 7 ∷ 8 ∷ 99 ∷ 98 ∷ [])) (some (Asking (publish 578437695752307201), 99 ∷ 98 ∷ []))
+pub reads-publish : _≡_ {A = Read} (readRecord (10 ∷ 0 ∷ 11 ∷ 0 ∷ 1 ∷ 2 ∷ 3 ∷ 4 ∷ 5 ∷ 6 ∷ 7 ∷ 8 ∷ 99 ∷ 98 ∷ []))
+    (some (Asking (publish 578437695752307201), 99 ∷ 98 ∷ []))
 unfolding computes
 reads-publish = refl
 
 -- kind 12, with two bytes of the next record behind it
-pub reads-validate : _≡_ {A = Read} (readRecord (10 ∷ 0 ∷ 12 ∷ 0 ∷ 1 ∷ 2 ∷ 3 ∷ 4 ∷ 5 ∷ 6 ∷ 7 ∷ 8 ∷ 99 ∷ 98 ∷ [])) (some (Asking (validate 578437695752307201), 99 ∷ 98 ∷ []))
+pub reads-validate : _≡_ {A = Read} (readRecord (10 ∷ 0 ∷ 12 ∷ 0 ∷ 1 ∷ 2 ∷ 3 ∷ 4 ∷ 5 ∷ 6 ∷ 7 ∷ 8 ∷ 99 ∷ 98 ∷ []))
+    (some (Asking (validate 578437695752307201), 99 ∷ 98 ∷ []))
 unfolding computes
 reads-validate = refl
 
 -- kind 13, with two bytes of the next record behind it
-pub reads-abort : _≡_ {A = Read} (readRecord (10 ∷ 0 ∷ 13 ∷ 0 ∷ 1 ∷ 2 ∷ 3 ∷ 4 ∷ 5 ∷ 6 ∷ 7 ∷ 8 ∷ 99 ∷ 98 ∷ [])) (some (Asking (abort 578437695752307201), 99 ∷ 98 ∷ []))
+pub reads-abort : _≡_ {A = Read} (readRecord (10 ∷ 0 ∷ 13 ∷ 0 ∷ 1 ∷ 2 ∷ 3 ∷ 4 ∷ 5 ∷ 6 ∷ 7 ∷ 8 ∷ 99 ∷ 98 ∷ []))
+    (some (Asking (abort 578437695752307201), 99 ∷ 98 ∷ []))
 unfolding computes
 reads-abort = refl
 
@@ -129,7 +145,8 @@ unfolding computes
 reads-no-cut-length = refl
 
 -- a record behind another one, read at its place: the next one begins behind it
-pub reads-at-its-place : decodedOf (2 ∷ 0 ∷ 2 ∷ 0 ∷ 10 ∷ 0 ∷ 4 ∷ 0 ∷ 8 ∷ 7 ∷ 6 ∷ 5 ∷ 4 ∷ 3 ∷ 2 ∷ 1 ∷ 2 ∷ 0 ∷ []) 4 ≡ record { command = Ask (Collect 72623859790382856); next = 16 }
+pub reads-at-its-place : decodedOf (2 ∷ 0 ∷ 2 ∷ 0 ∷ 10 ∷ 0 ∷ 4 ∷ 0 ∷ 8 ∷ 7 ∷ 6 ∷ 5 ∷ 4 ∷ 3 ∷ 2 ∷ 1 ∷ 2 ∷ 0 ∷ []) 4
+    ≡ record { command = Ask (Collect 72623859790382856); next = 16 }
 unfolding computes
 reads-at-its-place = refl
 

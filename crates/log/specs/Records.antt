@@ -4,15 +4,21 @@ use mathlib.Core.Option.{Option, none, some}
 use mathlib.Core.List.{List}
 use lib.ListN.{drop, getD}
 use denote.Ref.{RefT}
+use Rattle.base_protocol.specs.declared.Sizes.{Sizes}
 use Rattle.base_protocol.specs.declared.Step.{Step}
 use Rattle.log.specs.declared.Command.{Command}
 use Rattle.log.specs.declared.Command.the-variants.{Open, Ask, Malformed}
 use Rattle.log.specs.declared.Decoded.{Decoded}
 use Rattle.log.specs.declared.Reader.{Reader}
 use Rattle.log.specs.declared.Taken.{Taken}
+use Rattle.model.specs.Store as store
 use Rattle.model.specs.Refusals as model
 use Rattle.model.specs.Log as bytes
 use Rattle.base_protocol.specs.declared.Step.the-variants as ask
+
+-- how sizes are told
+abbrev pub sizesTold : store.Sizes → Sizes
+sizesTold z = record { rows = z .rows; versions = z .versions; buckets = z .buckets }
 
 -- how a step is told
 abbrev pub stepTold : model.Step → Step
@@ -31,7 +37,7 @@ stepTold (model.abort t) = ask.Abort t
 
 -- how a command is told
 abbrev pub commandTold : bytes.Command → Command
-commandTold (bytes.Opening z clock) = Open (z .rows) (z .versions) (z .buckets) clock
+commandTold (bytes.Opening z clock) = Open (sizesTold z) clock
 commandTold (bytes.Asking a) = Ask (stepTold a)
 
 -- a malformed record leaves the place where it was
@@ -71,12 +77,3 @@ fieldIn kind l i = getD (bytes.fieldsOf (bytes.widths kind) l) i 0
 -- the command of a kind, from the bytes of its fields
 unfoldable pub commandIn : ℕ → List ℕ → Command
 commandIn kind l = commandTold (bytes.commandOf kind (fieldIn kind l))
-
--- the step of a command that asks for one
-abbrev pub stepOf : bytes.Command → Step
-stepOf (bytes.Opening z clock) = ask.Begin
-stepOf (bytes.Asking a) = stepTold a
-
--- the step of a kind, from the bytes of its fields
-unfoldable pub askedOf : ℕ → List ℕ → Step
-askedOf kind l = stepOf (bytes.commandOf kind (fieldIn kind l))

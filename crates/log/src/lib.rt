@@ -1,19 +1,16 @@
 // The log: records from bytes, little-endian, each read at a place of the caller's bytes.
+use base_protocol::Sizes;
 use base_protocol::Step;
 ghost use mathlib.Core.Path.{_≡_};
 ghost use Prim.Native.Nat.{_+_, _≤_, _<_};
 ghost use lib.ListN.{length, take, drop};
 ghost use Rattle.model.specs.Log.{number};
-ghost use Rattle.log.specs.Records.{lengthOf, askedOf, commandIn, malformedAt, decodedOf, readerAt, takenBy};
+ghost use Rattle.log.specs.declared.Command.the-variants.{Ask};
+ghost use Rattle.log.specs.Records.{lengthOf, commandIn, malformedAt, decodedOf, readerAt, takenBy};
 
 // What a record asks for: a store of these sizes with this clock, or a step of the store; or it cannot be read.
 pub enum Command {
-    Open {
-        rows: u64,
-        versions: u64,
-        buckets: u64,
-        clock: u64,
-    },
+    Open { sizes: Sizes, clock: u64 },
     Ask(Step),
     Malformed,
 }
@@ -76,7 +73,7 @@ fn length_of(kind: u64) -> u64
 // The step of a kind that names a transaction; its fields stand from `at` on.
 fn step_at(log: &[u8], kind: u64, at: usize) -> Step
     requires { ⌜ (3 ≤ kind) × (kind ≤ 13) × (at + lengthOf kind ≤ length (now log) + 2) ⌝ }
-    ensures { λ r. ⌜ r ≡ askedOf kind (drop at (now (log .entry))) ⌝ }
+    ensures { λ r. ⌜ Ask r ≡ commandIn kind (drop at (now (log .entry))) ⌝ }
 {
     let number = u64_at(log, at);
     match kind {
@@ -115,9 +112,11 @@ fn command_at(log: &[u8], kind: u64, at: usize) -> Command
 {
     match kind {
         1 => Command::Open {
-            rows: u32_at(log, at),
-            versions: u32_at(log, at + 4),
-            buckets: u32_at(log, at + 8),
+            sizes: Sizes {
+                rows: u32_at(log, at),
+                versions: u32_at(log, at + 4),
+                buckets: u32_at(log, at + 8),
+            },
             clock: u64_at(log, at + 12),
         },
         2 => Command::Ask(Step::Begin),
@@ -197,7 +196,7 @@ impl<'a> Reader<'a> {
 }
 
 // The record that a reader takes at a place of the log, and where it stands then.
-pub fn read_at(log: &[u8], at: usize) -> Decoded
+pub fn decode_at(log: &[u8], at: usize) -> Decoded
     ensures { λ d. ⌜ d ≡ decodedOf (now (log .entry)) at ⌝ }
 {
     let taken = Reader::new(log, at).next();

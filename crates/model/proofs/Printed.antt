@@ -3,7 +3,7 @@ use mathlib.Core.Path.{_≡_, refl}
 use mathlib.Core.List.{List, [], _∷_, _++_}
 use Prim.Native.Nat.{ℕ}
 use Rattle.model.specs.Log.{number, widths, total, fields, commandOf, whole, readRecord}
-use Rattle.model.specs.Report.{digitsStep, digitsFor, decimal, spaced, line}
+use Rattle.model.specs.Report.{bytes, digitsStep, digitsFor, decimal, spaced, line}
 use Rattle.model.specs.Replay.{writeThen, turn, replayFor, replayFrom, replay}
 use Rattle.model.proofs.Computes.{computes}
 
@@ -31,29 +31,29 @@ log =
     ++ (10 ∷ 0 ∷ 12 ∷ 0 ∷ 3 ∷ 0 ∷ 0 ∷ 0 ∷ 0 ∷ 0 ∷ 0 ∷ 0 ∷ [])
     ++ (10 ∷ 0 ∷ 8 ∷ 0 ∷ 3 ∷ 0 ∷ 0 ∷ 0 ∷ 0 ∷ 0 ∷ 0 ∷ 0 ∷ [])
 
--- open 0; begin 0 1; put 0; prepare 0; install 0; end 0; publish 0 2; begin 0 3; capture 0 2; collect 0 1; rows 0 1 2; begin 0 4; put 0; prepare 0; validate 7; install 0; end 0; publish 0 5; validate 0 1 2 2 5; prepare 14
+-- the report that the document prints
 abbrev report : List ℕ
 report =
-    (111 ∷ 112 ∷ 101 ∷ 110 ∷ 32 ∷ 48 ∷ 10 ∷ [])
-    ++ (98 ∷ 101 ∷ 103 ∷ 105 ∷ 110 ∷ 32 ∷ 48 ∷ 32 ∷ 49 ∷ 10 ∷ [])
-    ++ (112 ∷ 117 ∷ 116 ∷ 32 ∷ 48 ∷ 10 ∷ [])
-    ++ (112 ∷ 114 ∷ 101 ∷ 112 ∷ 97 ∷ 114 ∷ 101 ∷ 32 ∷ 48 ∷ 10 ∷ [])
-    ++ (105 ∷ 110 ∷ 115 ∷ 116 ∷ 97 ∷ 108 ∷ 108 ∷ 32 ∷ 48 ∷ 10 ∷ [])
-    ++ (101 ∷ 110 ∷ 100 ∷ 32 ∷ 48 ∷ 10 ∷ [])
-    ++ (112 ∷ 117 ∷ 98 ∷ 108 ∷ 105 ∷ 115 ∷ 104 ∷ 32 ∷ 48 ∷ 32 ∷ 50 ∷ 10 ∷ [])
-    ++ (98 ∷ 101 ∷ 103 ∷ 105 ∷ 110 ∷ 32 ∷ 48 ∷ 32 ∷ 51 ∷ 10 ∷ [])
-    ++ (99 ∷ 97 ∷ 112 ∷ 116 ∷ 117 ∷ 114 ∷ 101 ∷ 32 ∷ 48 ∷ 32 ∷ 50 ∷ 10 ∷ [])
-    ++ (99 ∷ 111 ∷ 108 ∷ 108 ∷ 101 ∷ 99 ∷ 116 ∷ 32 ∷ 48 ∷ 32 ∷ 49 ∷ 10 ∷ [])
-    ++ (114 ∷ 111 ∷ 119 ∷ 115 ∷ 32 ∷ 48 ∷ 32 ∷ 49 ∷ 32 ∷ 50 ∷ 10 ∷ [])
-    ++ (98 ∷ 101 ∷ 103 ∷ 105 ∷ 110 ∷ 32 ∷ 48 ∷ 32 ∷ 52 ∷ 10 ∷ [])
-    ++ (112 ∷ 117 ∷ 116 ∷ 32 ∷ 48 ∷ 10 ∷ [])
-    ++ (112 ∷ 114 ∷ 101 ∷ 112 ∷ 97 ∷ 114 ∷ 101 ∷ 32 ∷ 48 ∷ 10 ∷ [])
-    ++ (118 ∷ 97 ∷ 108 ∷ 105 ∷ 100 ∷ 97 ∷ 116 ∷ 101 ∷ 32 ∷ 55 ∷ 10 ∷ [])
-    ++ (105 ∷ 110 ∷ 115 ∷ 116 ∷ 97 ∷ 108 ∷ 108 ∷ 32 ∷ 48 ∷ 10 ∷ [])
-    ++ (101 ∷ 110 ∷ 100 ∷ 32 ∷ 48 ∷ 10 ∷ [])
-    ++ (112 ∷ 117 ∷ 98 ∷ 108 ∷ 105 ∷ 115 ∷ 104 ∷ 32 ∷ 48 ∷ 32 ∷ 53 ∷ 10 ∷ [])
-    ++ (118 ∷ 97 ∷ 108 ∷ 105 ∷ 100 ∷ 97 ∷ 116 ∷ 101 ∷ 32 ∷ 48 ∷ 32 ∷ 49 ∷ 32 ∷ 50 ∷ 32 ∷ 50 ∷ 32 ∷ 53 ∷ 10 ∷ [])
-    ++ (112 ∷ 114 ∷ 101 ∷ 112 ∷ 97 ∷ 114 ∷ 101 ∷ 32 ∷ 49 ∷ 52 ∷ 10 ∷ [])
+    bytes "open 0\n"
+    ++ bytes "begin 0 1\n"
+    ++ bytes "put 0\n"
+    ++ bytes "prepare 0\n"
+    ++ bytes "install 0\n"
+    ++ bytes "end 0\n"
+    ++ bytes "publish 0 2\n"
+    ++ bytes "begin 0 3\n"
+    ++ bytes "capture 0 2\n"
+    ++ bytes "collect 0 1\n"
+    ++ bytes "rows 0 1 2\n"
+    ++ bytes "begin 0 4\n"
+    ++ bytes "put 0\n"
+    ++ bytes "prepare 0\n"
+    ++ bytes "validate 7\n"
+    ++ bytes "install 0\n"
+    ++ bytes "end 0\n"
+    ++ bytes "publish 0 5\n"
+    ++ bytes "validate 0 1 2 2 5\n"
+    ++ bytes "prepare 14\n"
 
 pub printed : replay log 1000 ≡ record { status = 0; text = report }
 unfolding computes number widths total fields commandOf whole readRecord digitsStep digitsFor decimal spaced line writeThen turn replayFor replayFrom replay

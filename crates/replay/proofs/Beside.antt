@@ -24,7 +24,8 @@ abbrev pub othersOf : List ℕ → List ℕ → List ℕ → Others
 othersOf numbers active prepared = record { numbers = numbers; active = active; prepared = prepared }
 
 -- a record stored back, and what is kept of it
-pub others-after : (numbers active prepared : List ℕ) (ts : List Transaction) (k : ℕ) (t : Transaction) (a p : ℕ) → othersOf numbers active prepared ≡ othersIn ts
+pub others-after : (numbers active prepared : List ℕ) (ts : List Transaction) (k : ℕ) (t : Transaction) (a p : ℕ)
+    → othersOf numbers active prepared ≡ othersIn ts
     → a ≡ activeNumber (t .number) (t .phase) → p ≡ preparedCount (t .number) (t .phase) (t .«writes_n»)
     → othersOf (set numbers k (t .number)) (set active k a) (set prepared k p) ≡ othersIn (set ts k t)
 others-after numbers active prepared ts k t a p e ea ep =
@@ -40,7 +41,8 @@ others-after numbers active prepared ts k t a p e ea ep =
     )
 
 -- the place and the step that the code takes are those of the words
-module _ (w : Words) (s : Step) {o : Others} (e : o ≡ othersIn (w .txns)) (eight : length (w .txns) ≡ 8) {n k : ℕ} (en : n ≡ wantedOf s) (below : k < 8) (ek : k ≡ placeIn (o .numbers) n) where
+module _ (w : Words) (s : Step) {o : Others} (e : o ≡ othersIn (w .txns)) (eight : length (w .txns) ≡ 8) {n k : ℕ} (en : n ≡ wantedOf s) (below : k < 8)
+    (ek : k ≡ placeIn (o .numbers) n) where
   pub place-of : k ≡ placeFor (w .txns) s
   unfolding placeFor
   place-of = ek ∙ rw (e, en)

@@ -11,29 +11,22 @@ use lib.Seq.{take-append-seam, drop-append-add, drop-drop}
 use Rattle.model.specs.Store.{fresh}
 use Rattle.model.specs.Machine.{canOpen}
 use Rattle.model.specs.Replay.{Replayed, malformed, opens, replay}
-use Rattle.txn_places.specs.declared.Sizes.{Sizes}
-use Rattle.step.specs.Words.{sizesView}
+use Rattle.base_protocol.specs.declared.Sizes.{Sizes}
+use Rattle.base_protocol.specs.View.{sizesView}
 use Rattle.log.specs.declared.Command.{Command}
 use Rattle.log.specs.declared.Command.the-variants.{Open, Ask, Malformed}
 use Rattle.log.specs.declared.Decoded.{Decoded}
 use Rattle.log.specs.Records.{decodedOf}
-use Rattle.log.proofs.Reading.{Reads, reads, read-malformed, read-open, read-ask}
+use Rattle.log.proofs.Reading.{NoOpen, not-open, Reads, reads, read-malformed, read-open, read-ask}
 use Rattle.report_lines.specs.declared.Wrote.the-variants.{Next, Full}
 use Rattle.report_lines.specs.Lines.{Written, writtenAt}
 use Rattle.report_lines.proofs.Reported.{shown, shown-long}
 use Rattle.report.specs.Lines.{badLine, openLine}
-use Rattle.replay_stop.specs.declared.Stopped.{Stopped}
-use Rattle.log_commands.specs.Commands.{isOpen, sizesOf, clockOf}
-use Rattle.replay_stop.specs.Stops.{Left, malformedAt, unopenedAt}
+use Rattle.replay.specs.declared.stop.Stopped.{Stopped}
+use Rattle.replay.specs.Stops.{Left, malformedAt, unopenedAt}
 use Rattle.replay.specs.Replay.{leftBy, Leaves, openedFrom}
 use Rattle.replay.proofs.Turning.{onward, replay-ends, replay-reads, replay-grows, goes-on, goes-full}
 use Rattle.replay.proofs.Lining.{roomIn, On, line-on, line-off, last-line}
-
--- a record that is an open
-open-of : (c : Command) (z : Sizes) (clock : ℕ) → isOpen c ≡ true → z ≡ sizesOf c → clock ≡ clockOf c → c ≡ Open (z .rows) (z .versions) (z .buckets) clock
-open-of (Open rows versions buckets k) z clock b ez ek = rw (ez, ek)
-open-of (Ask s) z clock b ez ek = let n : _≡_ {A = ℕ} 0 1 = cc in absurd (omega arith)
-open-of Malformed z clock b ez ek = let n : _≡_ {A = ℕ} 0 1 = cc in absurd (omega arith)
 
 -- behind a text the report is as it was found
 drop-shown : (text old : List ℕ) (n : ℕ) → length text ≤ n → drop n (shown text old) ≡ drop n old
@@ -51,21 +44,22 @@ module _ (log report : List ℕ) where
     there = subst (λ (x : Decoded). Reads log 0 x) (sym ed) (reads log 0)
 
     -- malformed, or a step
-    bad-by : (c : Command) → d .command ≡ c → isOpen c ≡ false → replay log (length report) ≡ malformed (roomIn report) []
+    bad-by : (c : Command) → d .command ≡ c → NoOpen c → replay log (length report) ≡ malformed (roomIn report) []
     unfolding replay
-    bad-by (Open rows versions buckets clock) e b = let n : _≡_ {A = ℕ} 0 1 = cc in absurd (omega arith)
-    bad-by (Ask s) e b = replay-reads (roomIn report) log 0 none [] _ h (read-ask there s e)
-    bad-by Malformed e b = replay-reads (roomIn report) log 0 none [] _ h (read-malformed there e)
+    bad-by (Open z clock) e other = absurd (not-open z clock other)
+    bad-by (Ask s) e other = replay-reads (roomIn report) log 0 none [] _ h (read-ask there s e)
+    bad-by Malformed e other = replay-reads (roomIn report) log 0 none [] _ h (read-malformed there e)
 
-    pub left-malformed : isOpen (d .command) ≡ false → (l : Left) → l ≡ malformedAt report 0 → Leaves (l .stopped) (l .report) (replay log (length report)) report
-    left-malformed b l e = rw (bad-by (d .command) refl b) (last-line report [] badLine (omega arith) 15 (omega arith) l e)
+    pub left-malformed : NoOpen (d .command) → (l : Left) → l ≡ malformedAt report 0 → Leaves (l .stopped) (l .report) (replay log (length report)) report
+    left-malformed other l e = rw (bad-by (d .command) refl other) (last-line report [] badLine (omega arith) 15 (omega arith) l e)
 
-    module _ (b : isOpen (d .command) ≡ true) {z : Sizes} (ez : z ≡ sizesOf (d .command)) {clock : ℕ} (ek : clock ≡ clockOf (d .command)) where
+    module _ {z : Sizes} {clock : ℕ} (is : d .command ≡ Open z clock) where
       opening : replay log (length report) ≡ opens (roomIn report) [] (sizesView z) clock (onward (roomIn report) (drop (d .next) log))
       unfolding replay
-      opening = replay-reads (roomIn report) log 0 none [] _ h (read-open there (z .rows) (z .versions) (z .buckets) clock (open-of (d .command) z clock b ez ek))
+      opening = replay-reads (roomIn report) log 0 none [] _ h (read-open there z clock is)
 
-      pub left-unopened : canOpen (sizesView z) clock ≡ false → (l : Left) → l ≡ unopenedAt report → Leaves (l .stopped) (l .report) (replay log (length report)) report
+      pub left-unopened : canOpen (sizesView z) clock ≡ false → (l : Left) → l ≡ unopenedAt report
+          → Leaves (l .stopped) (l .report) (replay log (length report)) report
       left-unopened q l e = rw (opening, q) (last-line report [] (openLine 1) (omega arith) 1 (omega arith) l e)
 
       module _ (q : canOpen (sizesView z) clock ≡ true) {line : Written} (el : line ≡ writtenAt report 0 (openLine 0)) where
@@ -103,8 +97,10 @@ module _ (log report : List ℕ) where
           -- bytes behind the text are those behind the open's line
           same-rest : leftBy (replay log (length report)) (line .report) ≡ leftBy (replay log (length report)) report
           same-rest =
-              let n : length (openLine 0) ≤ length (replay log (length report) .text) = rw replayed (replay-grows (roomIn report) (drop (d .next) log) (some (fresh (sizesView z) clock)) (openLine 0)) in
+              let n : length (openLine 0) ≤ length (replay log (length report) .text) =
+              rw replayed (replay-grows (roomIn report) (drop (d .next) log) (some (fresh (sizesView z) clock)) (openLine 0)) in
               rw (on .report, drop-shown (openLine 0) report (length (replay log (length report) .text)) n)
 
-          pub left-on : (r : Stopped) (after : List ℕ) → Leaves r after (openedFrom log (line .report) z clock (d .next) end) (line .report) → Leaves r after (replay log (length report)) report
+          pub left-on : (r : Stopped) (after : List ℕ) → Leaves r after (openedFrom log (line .report) z clock (d .next) end) (line .report)
+              → Leaves r after (replay log (length report)) report
           left-on r after l = (l .0 ∙ ap (λ (m : Replayed). leftBy m (line .report)) from-open ∙ same-rest, l .1, l .2)

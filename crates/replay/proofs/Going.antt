@@ -26,14 +26,13 @@ use Rattle.log.specs.declared.Command.{Command}
 use Rattle.log.specs.declared.Command.the-variants.{Open, Ask, Malformed}
 use Rattle.log.specs.declared.Decoded.{Decoded}
 use Rattle.log.specs.Records.{decodedOf}
-use Rattle.log.proofs.Reading.{Reads, reads, read-malformed, read-open, read-ask, read-on}
+use Rattle.log.proofs.Reading.{NoStep, not-step, Reads, reads, read-malformed, read-open, read-ask, read-on}
 use Rattle.report_lines.specs.declared.Wrote.the-variants.{Next, Full}
 use Rattle.report_lines.specs.Lines.{Written, writtenAt}
 use Rattle.report_lines.proofs.Reported.{shown}
 use Rattle.report.specs.Lines.{badLine, lineFor}
 use Rattle.report.proofs.Answers.{line-told}
-use Rattle.log_commands.specs.Commands.{isAsk, stepOf}
-use Rattle.replay_stop.specs.Stops.{Left, malformedAt}
+use Rattle.replay.specs.Stops.{Left, malformedAt}
 use Rattle.replay.specs.Replay.{Leaves}
 use Rattle.replay.proofs.Turning.{onward, replay-ends, replay-reads, goes-on, goes-full}
 use Rattle.replay.proofs.Lining.{roomIn, line-on, line-off, last-line}
@@ -47,12 +46,6 @@ pub record Going (log old : List ℕ) (m : Replayed) (at wrote : ℕ) (report : 
   pub fits : length text ≤ roomIn old
   pub rest : m ≡ replayFrom (roomIn old) (drop at log) (some (view w)) text
 
--- a record that asks for a step
-ask-of : (c : Command) (s : Step) → isAsk c ≡ true → s ≡ stepOf c → c ≡ Ask s
-ask-of (Open rows versions buckets clock) s b e = let z : _≡_ {A = ℕ} 0 1 = cc in absurd (omega arith)
-ask-of (Ask a) s b e = ap (λ (x : Step). Ask x) (sym e)
-ask-of Malformed s b e = let z : _≡_ {A = ℕ} 0 1 = cc in absurd (omega arith)
-
 module _ {log old : List ℕ} {m : Replayed} {at wrote : ℕ} {report : List ℕ} {w : Words} (g : Going log old m at wrote report w) where
   -- the log is at its end
   pub ends : length log ≤ at → Leaves (record { status = 0; wrote = wrote }) report m old
@@ -63,20 +56,17 @@ module _ {log old : List ℕ} {m : Replayed} {at wrote : ℕ} {report : List ℕ
     there = subst (λ (x : Decoded). Reads log at x) (sym ed) (reads log at)
 
     -- a malformed record, or a second open
-    bad-by : (c : Command) → d .command ≡ c → isAsk c ≡ false → m ≡ malformed (roomIn old) (g .text)
-    bad-by (Open rows versions buckets clock) e b = g .rest ∙ replay-reads (roomIn old) log at (some (view w)) (g .text) _ h (read-open there rows versions buckets clock e)
-    bad-by (Ask s) e b = let z : _≡_ {A = ℕ} 0 1 = cc in absurd (omega arith)
-    bad-by Malformed e b = g .rest ∙ replay-reads (roomIn old) log at (some (view w)) (g .text) _ h (read-malformed there e)
+    bad-by : (c : Command) → d .command ≡ c → NoStep c → m ≡ malformed (roomIn old) (g .text)
+    bad-by (Open z clock) e other = g .rest ∙ replay-reads (roomIn old) log at (some (view w)) (g .text) _ h (read-open there z clock e)
+    bad-by (Ask s) e other = absurd (not-step s other)
+    bad-by Malformed e other = g .rest ∙ replay-reads (roomIn old) log at (some (view w)) (g .text) _ h (read-malformed there e)
 
-    pub stops-malformed : isAsk (d .command) ≡ false → (l : Left) → l ≡ malformedAt report wrote → Leaves (l .stopped) (l .report) m old
-    stops-malformed b l e =
+    pub stops-malformed : NoStep (d .command) → (l : Left) → l ≡ malformedAt report wrote → Leaves (l .stopped) (l .report) m old
+    stops-malformed other l e =
         let e′ : l ≡ malformedAt (shown (g .text) old) (length (g .text)) = rw (← g .laid, ← g .long) e in
-        rw (bad-by (d .command) refl b) (last-line old (g .text) badLine (g .fits) 15 (omega arith) l e′)
+        rw (bad-by (d .command) refl other) (last-line old (g .text) badLine (g .fits) 15 (omega arith) l e′)
 
-    module _ (b : isAsk (d .command) ≡ true) {s : Step} (es : s ≡ stepOf (d .command)) where
-      asks : d .command ≡ Ask s
-      asks = ask-of (d .command) s b es
-
+    module _ {s : Step} (asks : d .command ≡ Ask s) where
       -- the next record is further on
       pub further : at < d .next
       further = read-on there (λ e. let z : _≡_ {A = Command} (Ask s) Malformed = sym asks ∙ e in let n : _≡_ {A = ℕ} 0 1 = cc in absurd (omega arith)) .0
@@ -102,8 +92,10 @@ module _ {log old : List ℕ} {m : Replayed} {at wrote : ℕ} {report : List ℕ
         turned =
             g .rest
             ∙ replay-reads (roomIn old) log at (some (view w)) (g .text) _ h (read-ask there s asks)
-            ∙ ap (λ (l : List ℕ). writeThen (roomIn old) (g .text) l (onward (roomIn old) (drop (d .next) log) (step (view w) (asked s) .store))) (sym line-same)
-            ∙ ap (λ (v : Store). writeThen (roomIn old) (g .text) lineIs (onward (roomIn old) (drop (d .next) log) v)) (sym (step-view w s (g .stands .good) same))
+            ∙ ap (λ (l : List ℕ). writeThen (roomIn old) (g .text) l (onward (roomIn old) (drop (d .next) log) (step (view w) (asked s) .store)))
+            (sym line-same)
+            ∙ ap (λ (v : Store). writeThen (roomIn old) (g .text) lineIs (onward (roomIn old) (drop (d .next) log) v))
+            (sym (step-view w s (g .stands .good) same))
 
         module _ {mv : Moved} (em : mv ≡ movedBy w s) {line : Written} (el : line ≡ writtenAt report wrote (lineFor s (mv .stepped .answer) (mv .found))) where
           lined : line ≡ writtenAt (shown (g .text) old) (length (g .text)) lineIs
@@ -116,10 +108,10 @@ module _ {log old : List ℕ} {m : Replayed} {at wrote : ℕ} {report : List ℕ
               rw (turned, goes-full (roomIn old) (g .text) lineIs goes-to (f .full), f .report, g .long) (refl, omega arith, omega (arith, g .fits))
 
           -- on, with the words that the step leaves
-          pub goes : (end : ℕ) → line .wrote ≡ Next end → Going log old m (d .next) end (line .report) (after w (placeFor (w .txns) s) mv)
-          goes end q =
+          pub goes : {k : ℕ} → k ≡ placeFor (w .txns) s → (end : ℕ) → line .wrote ≡ Next end → Going log old m (d .next) end (line .report) (after w k mv)
+          goes ek end q =
               let f = line-on old (g .text) lineIs (g .fits) line lined end q in
-              rw em (record {
+              rw (ek, em) (record {
                 stands = step-stands w s (g .stands .good) same;
                 text = g .text ++ lineIs;
                 long = f .end;

@@ -12,7 +12,7 @@ use Rattle.model.specs.Replay.{stops, writeThen, mostRoom}
 use Rattle.report_lines.specs.declared.Wrote.the-variants.{Next, Full}
 use Rattle.report_lines.specs.Lines.{Written, writtenAt}
 use Rattle.report_lines.proofs.Reported.{shown, written-on, written-stop}
-use Rattle.replay_stop.specs.Stops.{Left, stopWith}
+use Rattle.replay.specs.Stops.{Left, stopWith}
 use Rattle.replay.specs.Replay.{Leaves}
 use Rattle.replay.proofs.Turning.{goes-on, goes-full}
 
@@ -64,14 +64,18 @@ module _ (old text next : List ℕ) (long : length text ≤ roomIn old) where
 
 -- a last line: what the code leaves of it is what the model's replay leaves
 module _ (old text next : List ℕ) (long : length text ≤ roomIn old) (status : ℕ) (small : status ≤ 15) where
-  last-by : (b : Bool) → leb (length text + length next) (roomIn old) ≡ b → (l : Left) → l ≡ stopWith (writtenAt (shown text old) (length text) next) status (length text)
+  last-by : (b : Bool) → leb (length text + length next) (roomIn old) ≡ b → (l : Left)
+      → l ≡ stopWith (writtenAt (shown text old) (length text) next) status (length text)
       → Leaves (l .stopped) (l .report) (writeThen (roomIn old) text next (stops status)) old
   last-by true t l e =
       let f = leb-true (length text + length next) (roomIn old) t in
-      rw (e, written-on old text next (in-report old text next long) f, goes-on (roomIn old) text next (stops status) f) (refl, small, rw (length-append text next) (omega (arith, f)))
+      rw (e, written-on old text next (in-report old text next long) f, goes-on (roomIn old) text next (stops status) f)
+      (refl, small, rw (length-append text next) (omega (arith, f)))
   last-by false t l e =
       let f = leb-false (length text + length next) (roomIn old) t in
-      rw (e, written-stop old text next (in-report old text next long) f, goes-full (roomIn old) text next (stops status) f) (refl, omega arith, omega (arith, long))
+      rw (e, written-stop old text next (in-report old text next long) f, goes-full (roomIn old) text next (stops status) f)
+      (refl, omega arith, omega (arith, long))
 
-  pub last-line : (l : Left) → l ≡ stopWith (writtenAt (shown text old) (length text) next) status (length text) → Leaves (l .stopped) (l .report) (writeThen (roomIn old) text next (stops status)) old
+  pub last-line : (l : Left) → l ≡ stopWith (writtenAt (shown text old) (length text) next) status (length text)
+      → Leaves (l .stopped) (l .report) (writeThen (roomIn old) text next (stops status)) old
   last-line l e = last-by (leb (length text + length next) (roomIn old)) refl l e

@@ -1,16 +1,18 @@
--- Whole logs spelled out byte by byte, and what their replay is: each status, each way to stop, a line that just fits and one that does not, and the greatest room. Assumes nothing.
+-- Whole logs spelled out byte by byte, and what their replay is: each status, each way to stop, a line that just fits and one that does not, the greatest room.
+-- Assumes nothing.
 use Prim.Native.Nat.{ℕ, _≤_, min}
 use mathlib.Core.Path.{_≡_, refl}
 use mathlib.Core.List.{List, [], _∷_, _++_}
 use native.Mathlib.Omega.{arith}
 use Rattle.model.specs.Log.{number, widths, total, fields, commandOf, whole, readRecord}
-use Rattle.model.specs.Report.{digitsStep, digitsFor, decimal, spaced, line}
+use Rattle.model.specs.Report.{bytes, digitsStep, digitsFor, decimal, spaced, line}
 use Rattle.model.specs.Replay.{Replayed, writeThen, turn, replayFor, replayFrom, replay, packed, reported}
 use Rattle.model.proofs.Computes as model
 
 -- opens every definition that a replay goes through, so that a log of numerals computes
 unfoldable computes : Unit {0}
-unfolding model.computes number widths total fields commandOf whole readRecord digitsStep digitsFor decimal spaced line writeThen turn replayFor replayFrom replay
+unfolding model.computes number widths total fields commandOf whole readRecord digitsStep digitsFor decimal spaced line writeThen turn replayFor replayFrom
+    replay
 computes = tt
 
 -- open 4 8 4 1, and opens with a size or a clock out of range
@@ -39,62 +41,62 @@ unfolding computes
 stops-empty room = refl
 
 -- 0 at the end of a log: `open 0`, `begin 0 1`
-pub stops-at-end : replay (opens ++ begins) 100 ≡ record { status = 0; text = 111 ∷ 112 ∷ 101 ∷ 110 ∷ 32 ∷ 48 ∷ 10 ∷ 98 ∷ 101 ∷ 103 ∷ 105 ∷ 110 ∷ 32 ∷ 48 ∷ 32 ∷ 49 ∷ 10 ∷ [] }
+pub stops-at-end : replay (opens ++ begins) 100 ≡ record { status = 0; text = bytes "open 0\nbegin 0 1\n" }
 unfolding computes
 stops-at-end = refl
 
 -- 1 for a refused open, and what is behind it is not read: `open 1`
-pub stops-no-rows : replay (opensNoRows ++ begins) 100 ≡ record { status = 1; text = 111 ∷ 112 ∷ 101 ∷ 110 ∷ 32 ∷ 49 ∷ 10 ∷ [] }
+pub stops-no-rows : replay (opensNoRows ++ begins) 100 ≡ record { status = 1; text = bytes "open 1\n" }
 unfolding computes
 stops-no-rows = refl
 
 -- rows above 256
-pub stops-many-rows : replay (opensManyRows ++ begins) 100 ≡ record { status = 1; text = 111 ∷ 112 ∷ 101 ∷ 110 ∷ 32 ∷ 49 ∷ 10 ∷ [] }
+pub stops-many-rows : replay (opensManyRows ++ begins) 100 ≡ record { status = 1; text = bytes "open 1\n" }
 unfolding computes
 stops-many-rows = refl
 
 -- clock 0
-pub stops-no-clock : replay (opensNoClock ++ begins) 100 ≡ record { status = 1; text = 111 ∷ 112 ∷ 101 ∷ 110 ∷ 32 ∷ 49 ∷ 10 ∷ [] }
+pub stops-no-clock : replay (opensNoClock ++ begins) 100 ≡ record { status = 1; text = bytes "open 1\n" }
 unfolding computes
 stops-no-clock = refl
 
 -- 15 for a malformed record; earlier lines stand: `open 0`, `bad 15`
-pub stops-malformed : replay (opens ++ unknown ++ begins) 100 ≡ record { status = 15; text = 111 ∷ 112 ∷ 101 ∷ 110 ∷ 32 ∷ 48 ∷ 10 ∷ 98 ∷ 97 ∷ 100 ∷ 32 ∷ 49 ∷ 53 ∷ 10 ∷ [] }
+pub stops-malformed : replay (opens ++ unknown ++ begins) 100 ≡ record { status = 15; text = bytes "open 0\nbad 15\n" }
 unfolding computes
 stops-malformed = refl
 
 -- a second open
-pub stops-second-open : replay (opens ++ opens) 100 ≡ record { status = 15; text = 111 ∷ 112 ∷ 101 ∷ 110 ∷ 32 ∷ 48 ∷ 10 ∷ 98 ∷ 97 ∷ 100 ∷ 32 ∷ 49 ∷ 53 ∷ 10 ∷ [] }
+pub stops-second-open : replay (opens ++ opens) 100 ≡ record { status = 15; text = bytes "open 0\nbad 15\n" }
 unfolding computes
 stops-second-open = refl
 
 -- a second open whose sizes are out of range is a second open all the same
-pub stops-second-refused : replay (opens ++ opensNoRows) 100 ≡ record { status = 15; text = 111 ∷ 112 ∷ 101 ∷ 110 ∷ 32 ∷ 48 ∷ 10 ∷ 98 ∷ 97 ∷ 100 ∷ 32 ∷ 49 ∷ 53 ∷ 10 ∷ [] }
+pub stops-second-refused : replay (opens ++ opensNoRows) 100 ≡ record { status = 15; text = bytes "open 0\nbad 15\n" }
 unfolding computes
 stops-second-refused = refl
 
 -- a first record that is no open: `bad 15`
-pub stops-unopened : replay (begins ++ opens) 100 ≡ record { status = 15; text = 98 ∷ 97 ∷ 100 ∷ 32 ∷ 49 ∷ 53 ∷ 10 ∷ [] }
+pub stops-unopened : replay (begins ++ opens) 100 ≡ record { status = 15; text = bytes "bad 15\n" }
 unfolding computes
 stops-unopened = refl
 
 -- a first record that is malformed
-pub stops-no-record : replay (unknown ++ opens) 100 ≡ record { status = 15; text = 98 ∷ 97 ∷ 100 ∷ 32 ∷ 49 ∷ 53 ∷ 10 ∷ [] }
+pub stops-no-record : replay (unknown ++ opens) 100 ≡ record { status = 15; text = bytes "bad 15\n" }
 unfolding computes
 stops-no-record = refl
 
 -- an open that is cut
-pub stops-cut : replay (22 ∷ 0 ∷ 1 ∷ []) 100 ≡ record { status = 15; text = 98 ∷ 97 ∷ 100 ∷ 32 ∷ 49 ∷ 53 ∷ 10 ∷ [] }
+pub stops-cut : replay (22 ∷ 0 ∷ 1 ∷ []) 100 ≡ record { status = 15; text = bytes "bad 15\n" }
 unfolding computes
 stops-cut = refl
 
 -- a last line that just fits
-pub fits-just : replay (opens ++ begins) 17 ≡ record { status = 0; text = 111 ∷ 112 ∷ 101 ∷ 110 ∷ 32 ∷ 48 ∷ 10 ∷ 98 ∷ 101 ∷ 103 ∷ 105 ∷ 110 ∷ 32 ∷ 48 ∷ 32 ∷ 49 ∷ 10 ∷ [] }
+pub fits-just : replay (opens ++ begins) 17 ≡ record { status = 0; text = bytes "open 0\nbegin 0 1\n" }
 unfolding computes
 fits-just = refl
 
 -- 10 for a line that does not fit by a byte: it is not begun
-pub fits-not : replay (opens ++ begins) 16 ≡ record { status = 10; text = 111 ∷ 112 ∷ 101 ∷ 110 ∷ 32 ∷ 48 ∷ 10 ∷ [] }
+pub fits-not : replay (opens ++ begins) 16 ≡ record { status = 10; text = bytes "open 0\n" }
 unfolding computes
 fits-not = refl
 
@@ -109,7 +111,7 @@ unfolding computes
 fits-no-refused = refl
 
 -- `bad 15` that just fits
-pub fits-bad : replay (unknown) 7 ≡ record { status = 15; text = 98 ∷ 97 ∷ 100 ∷ 32 ∷ 49 ∷ 53 ∷ 10 ∷ [] }
+pub fits-bad : replay (unknown) 7 ≡ record { status = 15; text = bytes "bad 15\n" }
 unfolding computes
 fits-bad = refl
 
@@ -119,7 +121,7 @@ unfolding computes
 fits-no-bad = refl
 
 -- `bad 15` that does not fit behind a line
-pub fits-no-bad-later : replay (opens ++ unknown) 13 ≡ record { status = 10; text = 111 ∷ 112 ∷ 101 ∷ 110 ∷ 32 ∷ 48 ∷ 10 ∷ [] }
+pub fits-no-bad-later : replay (opens ++ unknown) 13 ≡ record { status = 10; text = bytes "open 0\n" }
 unfolding computes
 fits-no-bad-later = refl
 
@@ -133,7 +135,8 @@ unfolding computes
 tells-full = refl
 
 -- bytes behind the last line keep their contents
-pub leaves-the-rest : reported (replay unknown 12) (201 ∷ 202 ∷ 203 ∷ 204 ∷ 205 ∷ 206 ∷ 207 ∷ 208 ∷ 209 ∷ 210 ∷ 211 ∷ 212 ∷ []) ≡ 98 ∷ 97 ∷ 100 ∷ 32 ∷ 49 ∷ 53 ∷ 10 ∷ 208 ∷ 209 ∷ 210 ∷ 211 ∷ 212 ∷ []
+pub leaves-the-rest : reported (replay unknown 12)
+    (201 ∷ 202 ∷ 203 ∷ 204 ∷ 205 ∷ 206 ∷ 207 ∷ 208 ∷ 209 ∷ 210 ∷ 211 ∷ 212 ∷ []) ≡ 98 ∷ 97 ∷ 100 ∷ 32 ∷ 49 ∷ 53 ∷ 10 ∷ 208 ∷ 209 ∷ 210 ∷ 211 ∷ 212 ∷ []
 unfolding computes
 leaves-the-rest = refl
 

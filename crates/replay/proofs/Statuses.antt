@@ -19,20 +19,25 @@ Status r = (r .status ≡ 0) ⊎ (r .status ≡ 1) ⊎ (r .status ≡ 10) ⊎ (r
 
 write-status : (room : ℕ) (text next : List ℕ) (go : List ℕ → Replayed) → ((more : List ℕ) → Status (go more)) → Status (writeThen room text next go)
 unfolding writeThen
-write-status room text next go h = cond-elim Status (leb (length text + length next) room) (go (text ++ next)) (stops 10 text) (λ e. h (text ++ next)) (λ e. inr (inr (inl refl)))
+write-status room text next go h =
+    cond-elim Status (leb (length text + length next) room) (go (text ++ next)) (stops 10 text) (λ e. h (text ++ next)) (λ e. inr (inr (inl refl)))
 
 malformed-status : (room : ℕ) (text line : List ℕ) → Status (writeThen room text line (stops 15))
 malformed-status room text line = write-status room text line (stops 15) (λ more. inr (inr (inr refl)))
 
-reads-status : (room : ℕ) (text : List ℕ) (so : Option Store) (c : Option (Command × List ℕ)) (on : List ℕ → Store → List ℕ → Replayed) → ((more : List ℕ) (s : Store) (written : List ℕ) → Status (on more s written)) → Status (reads room text so c on)
+reads-status : (room : ℕ) (text : List ℕ) (so : Option Store) (c : Option (Command × List ℕ)) (on : List ℕ → Store → List ℕ → Replayed)
+    → ((more : List ℕ) (s : Store) (written : List ℕ) → Status (on more s written)) → Status (reads room text so c on)
 reads-status room text so none on h = malformed-status room text _
 reads-status room text none (some (Opening z clock, more)) on h =
-    cond-elim Status (canOpen z clock) _ _ (λ e. write-status room text _ (on more (fresh z clock)) (h more (fresh z clock))) (λ e. write-status room text _ (stops 1) (λ written. inr (inl refl)))
+    cond-elim Status (canOpen z clock) _ _ (λ e. write-status room text _ (on more (fresh z clock)) (h more (fresh z clock)))
+    (λ e. write-status room text _ (stops 1) (λ written. inr (inl refl)))
 reads-status room text none (some (Asking a, more)) on h = malformed-status room text _
 reads-status room text (some s) (some (Opening z clock, more)) on h = malformed-status room text _
-reads-status room text (some s) (some (Asking a, more)) on h = write-status room text (answerLine a (step s a .answer)) (on more (step s a .store)) (h more (step s a .store))
+reads-status room text (some s) (some (Asking a, more)) on h =
+    write-status room text (answerLine a (step s a .answer)) (on more (step s a .store)) (h more (step s a .store))
 
-turn-status : (room : ℕ) (on : List ℕ → Store → List ℕ → Replayed) (log : List ℕ) (so : Option Store) (text : List ℕ) → ((more : List ℕ) (s : Store) (written : List ℕ) → Status (on more s written)) → Status (turn room on log so text)
+turn-status : (room : ℕ) (on : List ℕ → Store → List ℕ → Replayed) (log : List ℕ) (so : Option Store) (text : List ℕ)
+    → ((more : List ℕ) (s : Store) (written : List ℕ) → Status (on more s written)) → Status (turn room on log so text)
 unfolding turn
 turn-status room on [] so text h = inl refl
 turn-status room on (b ∷ bs) so text h = reads-status room text so (readRecord (b ∷ bs)) on h
@@ -40,7 +45,8 @@ turn-status room on (b ∷ bs) so text h = reads-status room text so (readRecord
 for-status : (room k : ℕ) (log : List ℕ) (so : Option Store) (text : List ℕ) → Status (replayFor room k log so text)
 unfolding replayFor
 for-status room zero log so text = turn-status room (λ more s written. stops 0 written) log so text (λ more s written. inl refl)
-for-status room (suc k) log so text = turn-status room (λ more s written. replayFor room k more (some s) written) log so text (λ more s written. for-status room k more (some s) written)
+for-status room (suc k) log so text =
+    turn-status room (λ more s written. replayFor room k more (some s) written) log so text (λ more s written. for-status room k more (some s) written)
 
 pub replay-status : (log : List ℕ) (room : ℕ) → Status (replay log room)
 unfolding replay replayFrom

@@ -23,7 +23,8 @@ less-by l true e c r =
     let f = whole-facts l e in
     let q : c .1 ≡ drop (2 + lengthIn l) l = cc (r, read-whole l e) in
     rw (q, length-drop (2 + lengthIn l) l) (omega (arith, f .0))
-less-by l false e c r = let z : _≡_ {A = Option (Command × List ℕ)} none (some c) = sym (read-none l e) ∙ r in let n : _≡_ {A = ℕ} 0 1 = cc in absurd (omega arith)
+less-by l false e c r = let z : _≡_ {A = Option (Command × List ℕ)} none (some c) = sym (read-none l e) ∙ r in let n : _≡_ {A = ℕ} 0 1 = cc in
+    absurd (omega arith)
 
 read-less : (l : List ℕ) (c : Command × List ℕ) → readRecord l ≡ some c → length (c .1) < length l
 read-less l c r = less-by l (whole l) refl c r
@@ -34,7 +35,8 @@ module _ (room : ℕ) (text : List ℕ) where
   unfolding writeThen
   write-agrees next f g e = rw (e (text ++ next))
 
-  obeys-agrees : (so : Option Store) (c : Command) (f g : Store → List ℕ → Replayed) → ((s : Store) (w : List ℕ) → f s w ≡ g s w) → obeys room text so c f ≡ obeys room text so c g
+  obeys-agrees : (so : Option Store) (c : Command) (f g : Store → List ℕ → Replayed) → ((s : Store) (w : List ℕ) → f s w ≡ g s w)
+      → obeys room text so c f ≡ obeys room text so c g
   obeys-agrees none (Opening z clock) f g e =
       ap (λ (x : Replayed). cond (canOpen z clock) x (writeThen room text (line openWord (refusalNumber WrongSize ∷ [])) (stops 1)))
       (write-agrees (line openWord (0 ∷ [])) (f (fresh z clock)) (g (fresh z clock)) (e (fresh z clock)))
@@ -43,7 +45,8 @@ module _ (room : ℕ) (text : List ℕ) where
   obeys-agrees (some s) (Asking a) f g e = write-agrees (answerLine a (step s a .answer)) (f (step s a .store)) (g (step s a .store)) (e (step s a .store))
 
   reads-agrees : (so : Option Store) (r : Option (Command × List ℕ)) (n : ℕ) → ((c : Command × List ℕ) → r ≡ some c → length (c .1) < n)
-      → (f g : List ℕ → Store → List ℕ → Replayed) → ((more : List ℕ) (s : Store) (w : List ℕ) → length more < n → f more s w ≡ g more s w) → reads room text so r f ≡ reads room text so r g
+      → (f g : List ℕ → Store → List ℕ → Replayed) → ((more : List ℕ) (s : Store) (w : List ℕ) → length more < n → f more s w ≡ g more s w)
+      → reads room text so r f ≡ reads room text so r g
   reads-agrees so none n h f g e = refl
   reads-agrees so (some c) n h f g e = obeys-agrees so (c .0) (f (c .1)) (g (c .1)) (λ s w. e (c .1) s w (h c refl))
 
@@ -54,13 +57,17 @@ module _ (room : ℕ) (text : List ℕ) where
   turn-agrees f g (b ∷ bs) so e = reads-agrees so (readRecord (b ∷ bs)) (length (b ∷ bs)) (read-less (b ∷ bs)) f g e
 
 module _ (room : ℕ) where
-  enough : (k j : ℕ) (log : List ℕ) (so : Option Store) (text : List ℕ) → length log ≤ k → length log ≤ j → replayFor room k log so text ≡ replayFor room j log so text
+  enough : (k j : ℕ) (log : List ℕ) (so : Option Store) (text : List ℕ) → length log ≤ k → length log ≤ j
+      → replayFor room k log so text ≡ replayFor room j log so text
   unfolding replayFor
   enough zero zero log so text h i = refl
-  enough zero (suc j) log so text h i = turn-agrees room text (λ more s w. stops 0 w) (λ more s w. replayFor room j more (some s) w) log so (λ more s w l. absurd (omega arith))
-  enough (suc k) zero log so text h i = turn-agrees room text (λ more s w. replayFor room k more (some s) w) (λ more s w. stops 0 w) log so (λ more s w l. absurd (omega arith))
+  enough zero (suc j) log so text h i =
+      turn-agrees room text (λ more s w. stops 0 w) (λ more s w. replayFor room j more (some s) w) log so (λ more s w l. absurd (omega arith))
+  enough (suc k) zero log so text h i =
+      turn-agrees room text (λ more s w. replayFor room k more (some s) w) (λ more s w. stops 0 w) log so (λ more s w l. absurd (omega arith))
   enough (suc k) (suc j) log so text h i =
-      turn-agrees room text (λ more s w. replayFor room k more (some s) w) (λ more s w. replayFor room j more (some s) w) log so (λ more s w l. enough k j more (some s) w (omega arith) (omega arith))
+      turn-agrees room text (λ more s w. replayFor room k more (some s) w) (λ more s w. replayFor room j more (some s) w) log so
+      (λ more s w l. enough k j more (some s) w (omega arith) (omega arith))
 
   -- what is done on the rest of the log
   abbrev pub onward : List ℕ → Store → List ℕ → Replayed
@@ -69,7 +76,9 @@ module _ (room : ℕ) where
   turn-by : (k : ℕ) (log : List ℕ) (so : Option Store) (text : List ℕ) → length log ≡ k → replayFor room k log so text ≡ turn room onward log so text
   unfolding replayFor replayFrom
   turn-by zero log so text h = turn-agrees room text (λ more s w. stops 0 w) onward log so (λ more s w l. absurd (omega arith))
-  turn-by (suc k) log so text h = turn-agrees room text (λ more s w. replayFor room k more (some s) w) onward log so (λ more s w l. enough k (length more) more (some s) w (omega arith) (omega arith))
+  turn-by (suc k) log so text h =
+      turn-agrees room text (λ more s w. replayFor room k more (some s) w) onward log so
+      (λ more s w l. enough k (length more) more (some s) w (omega arith) (omega arith))
 
   pub replay-turn : (log : List ℕ) (so : Option Store) (text : List ℕ) → replayFrom room log so text ≡ turn room onward log so text
   unfolding replayFrom
@@ -85,7 +94,8 @@ module _ (room : ℕ) where
   turn-reads [] so text h = absurd (omega arith)
   turn-reads (b ∷ bs) so text h = refl
 
-  pub replay-reads : (log : List ℕ) (at : ℕ) (so : Option Store) (text : List ℕ) (r : Option (Command × List ℕ)) → at < length log → readRecord (drop at log) ≡ r
+  pub replay-reads : (log : List ℕ) (at : ℕ) (so : Option Store) (text : List ℕ) (r : Option (Command × List ℕ)) → at < length log
+      → readRecord (drop at log) ≡ r
       → replayFrom room (drop at log) so text ≡ reads room text so r onward
   replay-reads log at so text r h e =
       let n : 0 < length (drop at log) = rw (length-drop at log) (omega arith) in
@@ -103,7 +113,8 @@ module _ (room : ℕ) (text next : List ℕ) (go : List ℕ → Replayed) where
 
 -- a text that stands is never taken back
 module _ (room : ℕ) (text : List ℕ) where
-  write-grows : (next : List ℕ) (go : List ℕ → Replayed) → ((w : List ℕ) → length w ≤ length (go w .text)) → length text ≤ length (writeThen room text next go .text)
+  write-grows : (next : List ℕ) (go : List ℕ → Replayed) → ((w : List ℕ) → length w ≤ length (go w .text))
+      → length text ≤ length (writeThen room text next go .text)
   unfolding writeThen
   write-grows next go h = by (leb (length text + length next) room)
     where
@@ -111,22 +122,27 @@ module _ (room : ℕ) (text : List ℕ) where
       by true = let l = h (text ++ next) in let e = length-append text next in omega (arith, l, e)
       by false = omega arith
 
-  obeys-grows : (so : Option Store) (c : Command) (on : Store → List ℕ → Replayed) → ((s : Store) (w : List ℕ) → length w ≤ length (on s w .text)) → length text ≤ length (obeys room text so c on .text)
+  obeys-grows : (so : Option Store) (c : Command) (on : Store → List ℕ → Replayed) → ((s : Store) (w : List ℕ) → length w ≤ length (on s w .text))
+      → length text ≤ length (obeys room text so c on .text)
   obeys-grows none (Opening z clock) on h = by (canOpen z clock)
     where
-      by : (b : Bool) → length text ≤ length (cond b (writeThen room text (line openWord (0 ∷ [])) (on (fresh z clock))) (writeThen room text (line openWord (refusalNumber WrongSize ∷ [])) (stops 1)) .text)
+      by : (b : Bool) → length text ≤ length
+          (cond b (writeThen room text (line openWord (0 ∷ [])) (on (fresh z clock)))
+          (writeThen room text (line openWord (refusalNumber WrongSize ∷ [])) (stops 1)) .text)
       by true = write-grows (line openWord (0 ∷ [])) (on (fresh z clock)) (h (fresh z clock))
       by false = write-grows (line openWord (refusalNumber WrongSize ∷ [])) (stops 1) (λ w. omega arith)
   obeys-grows none (Asking a) on h = write-grows (line badWord (refusalNumber Malformed ∷ [])) (stops 15) (λ w. omega arith)
   obeys-grows (some s) (Opening z clock) on h = write-grows (line badWord (refusalNumber Malformed ∷ [])) (stops 15) (λ w. omega arith)
   obeys-grows (some s) (Asking a) on h = write-grows (answerLine a (step s a .answer)) (on (step s a .store)) (h (step s a .store))
 
-  reads-grows : (so : Option Store) (r : Option (Command × List ℕ)) (on : List ℕ → Store → List ℕ → Replayed) → ((more : List ℕ) (s : Store) (w : List ℕ) → length w ≤ length (on more s w .text))
+  reads-grows : (so : Option Store) (r : Option (Command × List ℕ)) (on : List ℕ → Store → List ℕ → Replayed)
+      → ((more : List ℕ) (s : Store) (w : List ℕ) → length w ≤ length (on more s w .text))
       → length text ≤ length (reads room text so r on .text)
   reads-grows so none on h = write-grows (line badWord (refusalNumber Malformed ∷ [])) (stops 15) (λ w. omega arith)
   reads-grows so (some c) on h = obeys-grows so (c .0) (on (c .1)) (h (c .1))
 
-  turn-grows : (on : List ℕ → Store → List ℕ → Replayed) → ((more : List ℕ) (s : Store) (w : List ℕ) → length w ≤ length (on more s w .text)) → (log : List ℕ) (so : Option Store)
+  turn-grows : (on : List ℕ → Store → List ℕ → Replayed) → ((more : List ℕ) (s : Store) (w : List ℕ) → length w ≤ length (on more s w .text))
+      → (log : List ℕ) (so : Option Store)
       → length text ≤ length (turn room on log so text .text)
   unfolding turn
   turn-grows on h [] so = omega arith

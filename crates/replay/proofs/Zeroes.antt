@@ -13,10 +13,11 @@ use Rattle.base_limits.specs.Limits.{mostRows, mostVersions, mostBuckets, lastN
 use Rattle.base_lists.proofs.ListLaws.{and-l, and-r}
 use Rattle.model.specs.Shape.{within, goodSizes}
 use Rattle.model.specs.Machine.{canOpen}
+use Rattle.base_protocol.specs.declared.Sizes.{Sizes}
+use Rattle.base_protocol.specs.View.{sizesView}
 use Rattle.table.specs.Fields.{rowWords, versionWords, bucketWords}
 use Rattle.txn.specs.declared.Transaction.{Transaction}
-use Rattle.txn_places.specs.declared.Sizes.{Sizes}
-use Rattle.step.specs.Words.{Words, sizesView, freePlaces}
+use Rattle.step.specs.Words.{Words, freePlaces}
 use Rattle.step_bridge.proofs.Opening.{Opened, opened-view, opened-stands}
 use Rattle.replay.specs.Replay.{Zeroed, openedFrom}
 use Rattle.replay.proofs.Lining.{roomIn}
@@ -50,12 +51,17 @@ in-limits z clock e =
     let good = and-l (within (z .rows) mostRows && within (z .versions) mostVersions && within (z .buckets) mostBuckets) (leb 1 clock) e in
     let two = and-l (within (z .rows) mostRows && within (z .versions) mostVersions) (within (z .buckets) mostBuckets) good in
     record {
-      rows = leb-true (z .rows) mostRows (and-r (leb 1 (z .rows)) (leb (z .rows) mostRows) (and-l (within (z .rows) mostRows) (within (z .versions) mostVersions) two));
-      versions = leb-true (z .versions) mostVersions (and-r (leb 1 (z .versions)) (leb (z .versions) mostVersions) (and-r (within (z .rows) mostRows) (within (z .versions) mostVersions) two));
-      buckets = leb-true (z .buckets) mostBuckets (and-r (leb 1 (z .buckets)) (leb (z .buckets) mostBuckets) (and-r (within (z .rows) mostRows && within (z .versions) mostVersions) (within (z .buckets) mostBuckets) good));
+      rows = leb-true (z .rows) mostRows
+          (and-r (leb 1 (z .rows)) (leb (z .rows) mostRows) (and-l (within (z .rows) mostRows) (within (z .versions) mostVersions) two));
+      versions = leb-true (z .versions) mostVersions
+          (and-r (leb 1 (z .versions)) (leb (z .versions) mostVersions) (and-r (within (z .rows) mostRows) (within (z .versions) mostVersions) two));
+      buckets = leb-true (z .buckets) mostBuckets
+          (and-r (leb 1 (z .buckets)) (leb (z .buckets) mostBuckets)
+          (and-r (within (z .rows) mostRows && within (z .versions) mostVersions) (within (z .buckets) mostBuckets) good));
     }
 
-opened : (rows versions buckets lists found : List ℕ) (z : Sizes) (clock : ℕ) → Zeroed rows versions buckets lists found → canOpen (sizesView z) clock ≡ true → clock ≤ lastNumber
+opened : (rows versions buckets lists found : List ℕ) (z : Sizes) (clock : ℕ) → Zeroed rows versions buckets lists found → canOpen (sizesView z) clock ≡ true
+    → clock ≤ lastNumber
     → Opened (wordsOf rows versions buckets lists found freePlaces z clock 0)
 opened rows versions buckets lists found z clock h e l =
     let n = in-limits z clock e in
@@ -78,8 +84,10 @@ pub found-room : (found : List ℕ) {found₀ : List ℕ} → found₀ ≡ repli
 found-room found e l = rw (l, e, length-replicate) (omega arith)
 
 -- where the loop begins: behind the open, with its line in the report
-pub starts : (log report rows versions buckets lists found : List ℕ) (z : Sizes) (clock start wrote : ℕ) → Zeroed rows versions buckets lists found → canOpen (sizesView z) clock ≡ true
-    → clock ≤ lastNumber → wrote ≤ roomIn report → Going log report (openedFrom log report z clock start wrote) start wrote report (wordsOf rows versions buckets lists found freePlaces z clock 0)
+pub starts : (log report rows versions buckets lists found : List ℕ) (z : Sizes) (clock start wrote : ℕ) → Zeroed rows versions buckets lists found
+    → canOpen (sizesView z) clock ≡ true
+    → clock ≤ lastNumber → wrote ≤ roomIn report
+    → Going log report (openedFrom log report z clock start wrote) start wrote report (wordsOf rows versions buckets lists found freePlaces z clock 0)
 starts log report rows versions buckets lists found z clock start wrote h e l fits =
     let w = wordsOf rows versions buckets lists found freePlaces z clock 0 in
     let o = opened rows versions buckets lists found z clock h e l in

@@ -7,12 +7,12 @@ use lib.ListN.{length, take, drop, replicate}
 use Rattle.base_limits.specs.Limits.{mostRows, mostVersions, mostBuckets}
 use Rattle.model.specs.Store.{fresh}
 use Rattle.model.specs.Replay.{Replayed, reported, replayFrom, mostRoom}
+use Rattle.base_protocol.specs.declared.Sizes.{Sizes}
+use Rattle.base_protocol.specs.View.{sizesView}
 use Rattle.table.specs.Fields.{rowWords, versionWords, bucketWords}
 use Rattle.table.specs.Lists.{listsWords}
-use Rattle.txn_places.specs.declared.Sizes.{Sizes}
-use Rattle.step.specs.Words.{sizesView}
-use Rattle.replay_stop.specs.declared.Stopped.{Stopped}
-use Rattle.replay_stop.specs.Stops.{Left}
+use Rattle.replay.specs.declared.stop.Stopped.{Stopped}
+use Rattle.replay.specs.Stops.{Left}
 
 -- what the model's replay leaves of a lent report
 abbrev pub leftBy : Replayed → List ℕ → Left

@@ -1,42 +1,40 @@
 // A log replayed into a report: the one function that a host calls.
-use log_commands::clock_of;
-use log_commands::is_ask;
-use log_commands::is_open;
-use log_commands::sizes_of;
-use log_commands::step_of;
 use base_limits::MOST_BUCKETS;
 use base_limits::MOST_LIVE;
 use base_limits::MOST_ROWS;
 use base_limits::MOST_VERSIONS;
-use report_lines::Wrote;
-use log::read_at;
-use shape_open::can_open;
-use shape_open::free_places;
-use txn_places::Others;
-use txn_places::Sizes;
-use txn_places::active_number;
-use txn_places::place_of;
-use txn_places::prepared_count;
-use txn_places::wanted;
 use base_protocol::NO_ROOM;
+use base_protocol::Sizes;
+use log::Command;
+use log::decode_at;
 use report::answer_line;
 use report::open_line;
+use report_lines::Wrote;
+use shape_open::can_open;
+use shape_open::free_places;
 use step::step;
-use replay_stop::Stopped;
-use replay_stop::stop_malformed;
-use replay_stop::stop_unopened;
+use stop::Stopped;
+use stop::stop_malformed;
+use stop::stop_unopened;
 use table::BUCKET_WORDS;
 use table::ROW_WORDS;
 use table::VERSION_WORDS;
 use table::lists::SLOT_WORDS;
+use txn_places::Others;
+use txn_places::active_number;
+use txn_places::place_of;
+use txn_places::prepared_count;
+use txn_places::wanted;
 ghost use mathlib.Core.Path.{_≡_};
 ghost use Prim.Native.Nat.{_≤_, min};
 ghost use mathlib.Core.Bool.{true};
 ghost use lib.ListN.{length};
 ghost use Rattle.model.specs.Machine.{canOpen};
 ghost use Rattle.model.specs.Replay.{replay, packed, reported, mostRoom};
-ghost use Rattle.step.specs.Words.{sizesView};
+ghost use Rattle.base_protocol.specs.View.{sizesView};
 ghost use Rattle.replay.specs.Replay.{Leaves, Zeroed, openedFrom};
+
+mod stop; // stop.rt: how a replay stops
 
 // The status stands above this, the bytes written below it.
 const HALF: u64 = 4294967296;
@@ -55,8 +53,12 @@ fn replay_steps(
     start: usize,
     opened: usize,
 ) -> Stopped
-    requires { ⌜ Zeroed (now rows) (now versions) (now buckets) (now lists) (now found) × (canOpen (sizesView sizes) «first_clock» ≡ true) × (opened ≤ min (length (now report)) mostRoom) ⌝ }
-    ensures { λ r. ⌜ Leaves r (now (report .exit)) (openedFrom (now (log .entry)) (now (report .entry)) sizes «first_clock» start opened) (now (report .entry)) ⌝ }
+    requires { ⌜ Zeroed (now rows) (now versions) (now buckets) (now lists) (now found)
+        × (canOpen (sizesView sizes) «first_clock» ≡ true)
+        × (opened ≤ min (length (now report)) mostRoom) ⌝ }
+    ensures { λ r. ⌜ Leaves r (now (report .exit))
+        (openedFrom (now (log .entry)) (now (report .entry)) sizes «first_clock» start opened)
+        (now (report .entry)) ⌝ }
 {
     let mut txns = free_places();
     let mut numbers = [0u64; MOST_LIVE];
@@ -67,13 +69,12 @@ fn replay_steps(
     let mut wrote = opened;
     let mut at = start;
     while at < log.len() {
-        let d = read_at(log, at);
+        let d = decode_at(log, at);
         let command = d.command;
         let next = d.next;
-        if !is_ask(command) {
+        let Command::Ask(s) = command else {
             return stop_malformed(report, wrote);
-        }
-        let s = step_of(command);
+        };
         let others = Others {
             numbers: numbers,
             active: active,
@@ -139,14 +140,12 @@ fn replay_open(
             wrote: 0,
         };
     }
-    let d = read_at(log, 0);
+    let d = decode_at(log, 0);
     let command = d.command;
     let next = d.next;
-    if !is_open(command) {
+    let Command::Open { sizes, clock } = command else {
         return stop_malformed(report, 0);
-    }
-    let sizes = sizes_of(command);
-    let clock = clock_of(command);
+    };
     if !can_open(sizes, clock) {
         return stop_unopened(report);
     }
@@ -175,7 +174,8 @@ fn replay_open(
 // Replays a log into a report, over tables of the greatest size: status × 4,294,967,296 + bytes written.
 #[no_mangle]
 pub extern "C" fn toruxeng_replay(log: &[u8], report: &mut [u8]) -> u64
-    ensures { λ r. ⌜ (r ≡ packed (replay (now (log .entry)) (length (now (report .entry))))) × (now (report .exit) ≡ reported (replay (now (log .entry)) (length (now (report .entry)))) (now (report .entry))) ⌝ }
+    ensures { λ r. ⌜ (r ≡ packed (replay (now (log .entry)) (length (now (report .entry)))))
+        × (now (report .exit) ≡ reported (replay (now (log .entry)) (length (now (report .entry)))) (now (report .entry))) ⌝ }
 {
     let mut rows = [0u64; ROW_WORDS * MOST_ROWS];
     let mut versions = [0u64; VERSION_WORDS * (MOST_VERSIONS + 1)];

@@ -1,11 +1,11 @@
 // The report: the line of an open, of a malformed log, and of every step's answer.
+use base_protocol::Answer;
+use base_protocol::MALFORMED;
+use base_protocol::Step;
 use report_answers::numbers_of;
 use report_lines::Wrote;
 use report_lines::least;
 use report_lines::write_line;
-use base_protocol::Answer;
-use base_protocol::MALFORMED;
-use base_protocol::Step;
 ghost use mathlib.Core.Path.{_≡_};
 ghost use Prim.Native.Nat.{_≤_};
 ghost use lib.ListN.{take};

@@ -33,5 +33,6 @@ module _ (old text next : List ℕ) (h : length text ≤ length old) where
   written-on fits =
       sym (written-next (shown text old) (length text) next (rw shown-long fits)) ∙ rw (shown-laid, ← length-append text next)
 
-  pub written-stop : min (length old) mostRoom < length text + length next → writtenAt (shown text old) (length text) next ≡ record { wrote = Full; report = shown text old }
+  pub written-stop : min (length old) mostRoom < length text + length next
+      → writtenAt (shown text old) (length text) next ≡ record { wrote = Full; report = shown text old }
   written-stop full = sym (written-full (shown text old) (length text) next (rw shown-long full))

@@ -43,8 +43,11 @@ spaced-laid old l new list at p r i h fits el ep en er =
     let room = spaced-room list i h in
     let next = next-long list i h in
     let long : length (s ++ (32 ∷ [])) ≡ length s + 1 = simp length-append in
-    let space = then-store old at s l p el ep 32 (omega arith) in
-    (omega arith, rw (spaced-next list i h) (then-text old at (s ++ (32 ∷ [])) (set l p 32) (p + 1) space (omega arith) (decimal (getD list i 0)) new (omega arith) en))
+    let space = then-store old at s l p el ep 32 (omega arith) in (
+      omega arith,
+      rw (spaced-next list i h)
+          (then-text old at (s ++ (32 ∷ [])) (set l p 32) (p + 1) space (omega arith) (decimal (getD list i 0)) new (omega arith) en),
+    )
 
 -- each number has a space and a digit
 pub spaced-least : (l : List ℕ) → 2 * length l ≤ length (spaced l)

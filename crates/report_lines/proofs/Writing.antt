@@ -38,7 +38,8 @@ module _ (old : List ℕ) (at : ℕ) (text : List ℕ) where
   unfolding writtenAt
   written-full h = rw (lt-leb (at + length text) (min (length old) mostRoom) h)
 
-  pub written-next : at + length text ≤ min (length old) mostRoom → record { wrote = Next (at + length text); report = laid old at text } ≡ writtenAt old at text
+  pub written-next : at + length text ≤ min (length old) mostRoom
+      → record { wrote = Next (at + length text); report = laid old at text } ≡ writtenAt old at text
   unfolding writtenAt
   written-next h = rw (le-leb (at + length text) (min (length old) mostRoom) h)
 
@@ -51,4 +52,5 @@ rest-laid old at text new h e =
     let short : length (drop at old) ≤ length old - at = omega arith in
     let none : drop (length old - at) (drop at old) ≡ [] = drop-of-length-le (drop at old) short in
     let z : 0 + length text ≡ length text = omega arith in
-    rw (e, take-all (length old - at) (drop at old) (omega arith), none, z, drop-drop (length text) at old, append-nil (text ++ drop (at + length text) old)) (simp append-assoc)
+    rw (e, take-all (length old - at) (drop at old) (omega arith), none, z, drop-drop (length text) at old, append-nil (text ++ drop (at + length text) old))
+    (simp append-assoc)

@@ -102,7 +102,8 @@ pub fn least(a: usize, b: usize) -> usize
 
 // Writes a word, then numbers and rows, from `at` on, or nothing where the line does not fit.
 pub fn write_line(report: &mut [u8], at: usize, word: &[u8], numbers: &[u64], rows: &[u64]) -> Wrote
-    ensures { λ r. ⌜ record { wrote = r; report = now (report .exit) } ≡ writtenAt (now (report .entry)) at (line (now (word .entry)) (now (numbers .entry) ++ now (rows .entry))) ⌝ }
+    ensures { λ r. ⌜ record { wrote = r; report = now (report .exit) }
+        ≡ writtenAt (now (report .entry)) at (line (now (word .entry)) (now (numbers .entry) ++ now (rows .entry))) ⌝ }
 {
     if word.len() > MOST_ROOM {
         return Wrote::Full;

@@ -1,5 +1,6 @@
 // A record and the machine's own numbers as words, in the order of their names, and back.
 use base_limits::MOST_LIVE;
+use base_protocol::Sizes;
 use shape::Machine;
 use table_chain::Snapshot;
 use txn::Phase;
@@ -7,7 +8,6 @@ use txn::Transaction;
 use txn::bucket_in;
 use txn::key_in;
 use txn::phase_rank;
-use txn_places::Sizes;
 ghost use mathlib.Core.Path.{_≡_};
 ghost use Rattle.run_changes.specs.RecordWords.{markWord, recordWords, phaseOf, low, recordOf, ownWords, ownOf};
 

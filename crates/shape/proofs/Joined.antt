@@ -22,6 +22,8 @@ use Rattle.model.specs.Steps.{pendingRows, oldKey, getsVersion, versionRows}
 use Rattle.model.specs.Refusals.{liveCount, reservedBy, reserved}
 use Rattle.model.specs.Shape.{within, goodSizes, goodChains, goodCounts, goodRanges, goodHeads, goodTxn, distinctNumbers, rightShape}
 use Rattle.model.proofs.Ranges.{good-sized}
+use Rattle.base_protocol.specs.declared.Sizes.{Sizes}
+use Rattle.base_protocol.specs.View.{sizesView}
 use Rattle.table.specs.Fields as fields
 use Rattle.table.specs.Fields.{headOf, nextOf}
 use Rattle.table.specs.Lists.{Kind, reads, writes, records, startOf, readOf, writeOf, recordOf, candidateOf, candidates, entryAt, listAt}
@@ -36,9 +38,8 @@ use Rattle.txn.specs.declared.Transaction.{Transaction}
 use Rattle.txn_needs.specs.Keys.{keyOf, versionKey, oldKeyOf, headedBy}
 use Rattle.txn_needs.specs.Needs.{rowsWritten}
 use Rattle.write_prepare.specs.Prepare.{versionsIn, reservedIn}
-use Rattle.txn_places.specs.declared.Sizes.{Sizes}
 use Rattle.txn_places.specs.Places.{preparedCount, liveIn}
-use Rattle.step.specs.Words.{Words, sizesView, txnAt, view, othersIn}
+use Rattle.step.specs.Words.{Words, txnAt, view, othersIn}
 use Rattle.step_bridge.proofs.Places.{number-at}
 use Rattle.step_bridge.proofs.Listing.{all-each, every-at}
 use Rattle.step_bridge.proofs.Starting.{nonzero, pick-nonzero, live-nonzero}

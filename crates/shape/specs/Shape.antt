@@ -7,11 +7,11 @@ use lib.ListN.{length, getD}
 use Rattle.base_limits.specs.Limits.{mostLive, mostActive}
 use Rattle.base_lists.specs.Lists.{every}
 use Rattle.model.specs.Shape.{rightShape}
+use Rattle.base_protocol.specs.declared.Sizes.{Sizes}
 use Rattle.table.specs.Fields.{rowWords, versionWords, bucketWords}
 use Rattle.table.specs.Lists.{listsWords}
 use Rattle.txn.specs.Methods.{idleOf}
 use Rattle.txn.specs.declared.Transaction.{Transaction}
-use Rattle.txn_places.specs.declared.Sizes.{Sizes}
 use Rattle.shape_txn.specs.Fits.{countsFit}
 use Rattle.step.specs.Words.{Words, view}
 use Rattle.shape.specs.declared.Machine.{Machine}

@@ -6,9 +6,9 @@ use lib.Dec.{eqb}
 use lib.ListN.{getD}
 use Rattle.base_limits.specs.Limits.{mostLive}
 use Rattle.base_lists.specs.Lists.{every}
+use Rattle.base_protocol.specs.declared.Sizes.{Sizes}
 use Rattle.txn.specs.Methods.{idleOf}
 use Rattle.txn.specs.declared.Transaction.{Transaction}
-use Rattle.txn_places.specs.declared.Sizes.{Sizes}
 use Rattle.shape_txn.specs.Fits.{placeFits}
 
 -- each record has its shape, or its place is free

@@ -4,8 +4,8 @@ use mathlib.Core.Bool.{Bool, _&&_}
 use mathlib.Core.List.{List}
 use lib.Dec.{ltb, leb}
 use Rattle.base_lists.specs.Lists.{every}
+use Rattle.base_protocol.specs.declared.Sizes.{Sizes}
 use Rattle.table.specs.Fields.{headOf, nextOf}
-use Rattle.txn_places.specs.declared.Sizes.{Sizes}
 
 -- heads at most the last used pointer; each next below its own pointer
 abbrev pub headsIn : List ℕ → ℕ → ℕ → Bool

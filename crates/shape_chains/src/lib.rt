@@ -1,5 +1,5 @@
 // Pointers in range: heads at most the last used pointer, each next below its own.
-use txn_places::Sizes;
+use base_protocol::Sizes;
 use table::head_at;
 use table::next_at;
 ghost use mathlib.Core.Path.{_≡_};

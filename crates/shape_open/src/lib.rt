@@ -3,14 +3,15 @@ use base_limits::MOST_BUCKETS;
 use base_limits::MOST_LIVE;
 use base_limits::MOST_ROWS;
 use base_limits::MOST_VERSIONS;
+use base_protocol::Sizes;
 use shape_chains::within;
-use txn_places::Sizes;
 use txn::Transaction;
 use txn::idle;
 ghost use mathlib.Core.Path.{_≡_};
 ghost use Rattle.model.specs.Shape as model;
 ghost use Rattle.model.specs.Machine.{canOpen};
-ghost use Rattle.step.specs.Words.{sizesView, freePlaces};
+ghost use Rattle.base_protocol.specs.View.{sizesView};
+ghost use Rattle.step.specs.Words.{freePlaces};
 
 // Whether sizes are within limits.
 pub fn good_sizes(sizes: Sizes) -> bool

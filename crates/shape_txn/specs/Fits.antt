@@ -8,11 +8,11 @@ use Rattle.base_limits.specs.Limits.{mostIndexReads, mostWrites, mostRecords, m
 use Rattle.base_lists.specs.Lists.{every, least}
 use Rattle.model.specs.Store.{rank, phaseInstalled, bucketIn}
 use Rattle.model.specs.Shape.{within}
+use Rattle.base_protocol.specs.declared.Sizes.{Sizes}
 use Rattle.txn_needs.specs.Keys.{getsVersionOf, headedBy}
 use Rattle.table.specs.Lists.{readAt, writeAt, recordAt, candidateAt}
 use Rattle.txn.specs.View.{phaseView}
 use Rattle.txn.specs.declared.Transaction.{Transaction}
-use Rattle.txn_places.specs.declared.Sizes.{Sizes}
 
 -- counts within limits
 abbrev pub countsFit : Transaction → Bool

@@ -7,6 +7,7 @@ use Rattle.base_protocol.specs.declared.Step.{Step}
 use Rattle.base_protocol.specs.declared.Step.the-variants as ask
 use Rattle.base_protocol.specs.declared.Answer.{Answer}
 use Rattle.base_protocol.specs.declared.Answer.the-variants as tell
+use Rattle.base_protocol.specs.declared.Sizes.{Sizes}
 use Rattle.txn.specs.Methods as methods
 use Rattle.txn.specs.declared.Transaction.{Transaction}
 use Rattle.txn.specs.declared.Answered.{Answered}
@@ -18,7 +19,6 @@ use Rattle.finish_publish.specs.Publish as publish
 use Rattle.write_prepare.specs.Prepare as prepare
 use Rattle.read.specs.Rows as reads
 use Rattle.txn_places.specs.Places.{missesOf, liveIn}
-use Rattle.txn_places.specs.declared.Sizes.{Sizes}
 use Rattle.txn_places.specs.declared.Others.{Others}
 use Rattle.step.specs.declared.Stepped.{Stepped}
 

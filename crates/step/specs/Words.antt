@@ -6,12 +6,13 @@ use lib.ListN.{length, getD, set}
 use Rattle.base_limits.specs.Limits.{mostLive, mostActive, mostIndexReads, mostWrites, mostRecords, mostRows}
 use Rattle.model.specs.Store as model
 use Rattle.base_protocol.specs.declared.Step.{Step}
+use Rattle.base_protocol.specs.declared.Sizes.{Sizes}
+use Rattle.base_protocol.specs.View.{sizesView}
 use Rattle.table.specs.Fields.{rowWords, versionWords, bucketWords}
 use Rattle.table.specs.Lists.{listsWords}
 use Rattle.txn.specs.View.{rowsPart, versionsPart, bucketsPart, chainsView, indexView, heldView, txnView}
 use Rattle.txn.specs.Methods.{idleOf}
 use Rattle.txn.specs.declared.Transaction.{Transaction}
-use Rattle.txn_places.specs.declared.Sizes.{Sizes}
 use Rattle.txn_places.specs.declared.Others.{Others}
 use Rattle.txn_places.specs.Places.{wantedOf, placeIn, activeNumber, preparedCount}
 use Rattle.step.specs.Steps.{Tables, Moved, stepOf}
@@ -23,9 +24,6 @@ pub record Words : Type 0 where
   pub sizes : Sizes
   pub clock : ℕ
   pub used : ℕ
-
-abbrev pub sizesView : Sizes → model.Sizes
-sizesView z = record { rows = z .rows; versions = z .versions; buckets = z .buckets }
 
 -- eight free places
 abbrev pub freePlaces : List Transaction

@@ -13,11 +13,11 @@ use txn::Transaction;
 use txn_begin::Begun;
 use txn_begin::begin;
 use txn_places::Others;
-use txn_places::Sizes;
 use txn_places::live_count;
 use txn_places::misses;
 use write_prepare::prepare;
 use write_prepare::validate;
+use base_protocol::Sizes;
 ghost use mathlib.Core.Path.{_≡_};
 ghost use Rattle.step.specs.Steps.{withClock, withBegun, withInstalled, clockAfter, publishStep, stepOf};
 

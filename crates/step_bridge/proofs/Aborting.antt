@@ -29,7 +29,7 @@ use Rattle.model.proofs.Written.{posted-old}
 use Rattle.base_protocol.specs.declared.Step.the-variants as ask
 use Rattle.base_protocol.specs.declared.Answer.{Answer}
 use Rattle.base_protocol.specs.declared.Answer.the-variants as tell
-use Rattle.base_protocol.specs.View.{asked, told}
+use Rattle.base_protocol.specs.View.{asked, told, sizesView}
 use Rattle.table.specs.Lists as lists
 use Rattle.table.proofs.Spans.{list-length}
 use Rattle.table.specs.declared.lists.Write.{Write}
@@ -42,7 +42,7 @@ use Rattle.txn_needs.specs.Needs.{bucketsFor, readsNeed, rowsWritten, writeNeed
 use Rattle.txn_needs.specs.Holders.{freeAll, unclaimAll}
 use Rattle.finish_publish.specs.Publish.{neededIn, freedIn, abortOf}
 use Rattle.step.specs.Steps.{inAborted}
-use Rattle.step.specs.Words.{Words, sizesView, view, txnAt, SizedTxn, Sized}
+use Rattle.step.specs.Words.{Words, view, txnAt, SizedTxn, Sized}
 use Rattle.step_bridge.proofs.Shaped.{Shaped, shaped}
 use Rattle.step_bridge.proofs.Places.{standing, sized-at, live-at}
 use Rattle.step_bridge.proofs.Placed.{idle-view, txns-set, sized-set}

@@ -22,7 +22,7 @@ use Rattle.model.specs.Machine.{accepted, afterRefusal, carried}
 use Rattle.model.proofs.Ranges.{good-sized, bucket-in}
 use Rattle.base_protocol.specs.declared.Step.the-variants as ask
 use Rattle.base_protocol.specs.declared.Answer.the-variants as tell
-use Rattle.base_protocol.specs.View.{asked}
+use Rattle.base_protocol.specs.View.{asked, sizesView}
 use Rattle.table.specs.Fields.{stampOf, holderOf, setHolder}
 use Rattle.table.specs.Lists as lists
 use Rattle.table.specs.Lists.{stored, listsWords}
@@ -41,7 +41,7 @@ use Rattle.txn.specs.declared.Phase.{Phase}
 use Rattle.txn.specs.declared.Phase.the-variants as phase
 use Rattle.txn.specs.declared.Transaction.{Transaction}
 use Rattle.step.specs.Steps.{inBuckets}
-use Rattle.step.specs.Words.{Words, sizesView, view, txnAt, SizedTxn, Sized}
+use Rattle.step.specs.Words.{Words, view, txnAt, SizedTxn, Sized}
 use Rattle.step_bridge.proofs.Shaped.{Shaped}
 use Rattle.step_bridge.proofs.Places.{standing, sized-at}
 use Rattle.step_bridge.proofs.Placed.{slot-view, txns-set, sized-set}

@@ -11,12 +11,13 @@ use Rattle.model.specs.Store as model
 use Rattle.model.specs.Store.{fresh}
 use Rattle.model.specs.Machine.{run, canOpen}
 use Rattle.model.proofs.Good.{Good, opened-good}
+use Rattle.base_protocol.specs.View.{sizesView}
 use Rattle.table.specs.Words.{field}
 use Rattle.table.specs.Fields.{rowWords, versionWords, bucketWords}
 use Rattle.table.specs.Lists.{listsWords}
 use Rattle.txn.specs.View.{rowsPart, versionsPart, bucketsPart}
 use Rattle.txn.specs.Methods.{idleOf}
-use Rattle.step.specs.Words.{Words, sizesView, view, txnAt, freePlaces, Sized}
+use Rattle.step.specs.Words.{Words, view, txnAt, freePlaces, Sized}
 use Rattle.step_bridge.proofs.Placed.{idle-view}
 use Rattle.step_bridge.proofs.Same.{same-store}
 use Rattle.step_bridge.proofs.Running.{Stands}

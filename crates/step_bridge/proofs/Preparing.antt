@@ -19,7 +19,7 @@ use Rattle.model.specs.Refusals.{refusalNumber, WrongPhase, Taken, Conflict, No
 use Rattle.model.specs.Machine.{accepted, afterRefusal, carried}
 use Rattle.base_protocol.specs.declared.Step.the-variants as ask
 use Rattle.base_protocol.specs.declared.Answer.the-variants as tell
-use Rattle.base_protocol.specs.View.{asked, verdictTold}
+use Rattle.base_protocol.specs.View.{asked, verdictTold, sizesView}
 use Rattle.table.specs.Fields as fields
 use Rattle.table.proofs.Parts.{part-field}
 use Rattle.table.specs.Regions.{listOf}
@@ -34,7 +34,7 @@ use Rattle.write_prepare.specs.Prepare.{isClear, versionsIn, reservedIn, lacks,
 use Rattle.finish_install.specs.Install.{rowsListed, pendingInto, versionsInto}
 use Rattle.txn_places.specs.Places.{preparedCount}
 use Rattle.step.specs.Steps.{inPrepared}
-use Rattle.step.specs.Words.{Words, sizesView, view, txnAt, othersIn, Sized}
+use Rattle.step.specs.Words.{Words, view, txnAt, othersIn, Sized}
 use Rattle.step_bridge.proofs.Shaped.{Shaped}
 use Rattle.step_bridge.proofs.Places.{standing, live-at, sized-at}
 use Rattle.step_bridge.proofs.Placed.{txns-set, sized-set}

@@ -25,7 +25,7 @@ use Rattle.model.proofs.Move.{live-test}
 use Rattle.model.proofs.Good.{Good, right-shape}
 use Rattle.base_protocol.specs.declared.Step.the-variants as ask
 use Rattle.base_protocol.specs.declared.Answer.the-variants as tell
-use Rattle.base_protocol.specs.View.{asked}
+use Rattle.base_protocol.specs.View.{asked, sizesView}
 use Rattle.table.specs.Words.{field}
 use Rattle.txn.specs.View.{phaseView, rowsPart, versionsPart, bucketsPart, chainsView, indexView, heldView}
 use Rattle.txn.specs.Methods.{idleOf, refusedOf}
@@ -33,7 +33,7 @@ use Rattle.finish_install.specs.Install.{oneMore}
 use Rattle.txn_needs.specs.Holders.{stampAll, freeAll, unclaimAll}
 use Rattle.finish_publish.specs.Publish.{postedAll, stampedIn, neededIn, freedIn, publishOf}
 use Rattle.step.specs.Steps.{publishStep, publishedFrom, inPublished}
-use Rattle.step.specs.Words.{Words, sizesView, view, txnAt, Sized}
+use Rattle.step.specs.Words.{Words, view, txnAt, Sized}
 use Rattle.step_bridge.proofs.Shaped.{Shaped, shaped}
 use Rattle.step_bridge.proofs.Places.{standing, sized-at, live-at}
 use Rattle.step_bridge.proofs.Same.{two-held, SameAt, Same, refused-same, later-tests, by-place}

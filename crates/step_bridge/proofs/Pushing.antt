@@ -25,7 +25,7 @@ use Rattle.model.proofs.Room.{reserves}
 use Rattle.model.proofs.Ranges.{good-sized}
 use Rattle.base_protocol.specs.declared.Step.the-variants as ask
 use Rattle.base_protocol.specs.declared.Answer.the-variants as tell
-use Rattle.base_protocol.specs.View.{asked}
+use Rattle.base_protocol.specs.View.{asked, sizesView}
 use Rattle.table.specs.Words.{field}
 use Rattle.table.proofs.Laws.{field-length}
 use Rattle.table.proofs.Parts.{part-field}
@@ -36,7 +36,7 @@ use Rattle.txn.specs.declared.Transaction.{Transaction}
 use Rattle.finish_install.specs.Install as install
 use Rattle.finish_install.specs.Install.{oneMore, lastWriteOf, versionStored, pushedRow, pushedRows, toInstall, installOf}
 use Rattle.step.specs.Steps.{inInstalled}
-use Rattle.step.specs.Words.{Words, sizesView, view, txnAt, Sized}
+use Rattle.step.specs.Words.{Words, view, txnAt, Sized}
 use Rattle.step_bridge.proofs.Shaped.{Shaped}
 use Rattle.step_bridge.proofs.Places.{standing, sized-at, live-at}
 use Rattle.step_bridge.proofs.Placed.{txns-set, sized-set}

@@ -9,11 +9,12 @@ use Rattle.model.specs.Machine.{canOpen}
 use Rattle.base_protocol.specs.declared.Step.{Step}
 use Rattle.base_protocol.specs.declared.Step.the-variants as ask
 use Rattle.base_protocol.specs.declared.Answer.the-variants as tell
+use Rattle.base_protocol.specs.declared.Sizes.{Sizes}
+use Rattle.base_protocol.specs.View.{sizesView}
 use Rattle.table.specs.Fields.{rowWords, versionWords, bucketWords}
 use Rattle.txn.specs.Methods.{idleOf}
 use Rattle.txn.specs.declared.Phase.the-variants as phase
-use Rattle.txn_places.specs.declared.Sizes.{Sizes}
-use Rattle.step.specs.Words.{sizesView, movedBy, wordsAfter}
+use Rattle.step.specs.Words.{movedBy, wordsAfter}
 use Rattle.shape.specs.Shape.{tablesLent, shapeOf, wordsOf}
 use Rattle.shape.specs.declared.Machine.{Machine}
 use Rattle.call.specs.Calls.{Left, calledBy, wordsCalled, callOf, cleared, freshOf, closedOf, refusedOpen, openOf}

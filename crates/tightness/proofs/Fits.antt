@@ -8,12 +8,12 @@ use lib.Dec.{eqb, ltb, leb}
 use Rattle.base_limits.specs.Limits.{mostIndexReads, mostWrites, mostRecords, mostRows}
 use Rattle.base_lists.specs.Lists.{every}
 use Rattle.model.specs.Store.{rank, phaseInstalled}
+use Rattle.base_protocol.specs.declared.Sizes.{Sizes}
 use Rattle.table.specs.Lists.{writeAt}
 use Rattle.txn.specs.View.{phaseView}
 use Rattle.txn.specs.Methods.{withWrites}
 use Rattle.txn.specs.declared.Phase.the-variants as phase
 use Rattle.txn.specs.declared.Transaction.{Transaction}
-use Rattle.txn_places.specs.declared.Sizes.{Sizes}
 use Rattle.txn_needs.specs.Keys.{newKeyOf, headedBy}
 use Rattle.shape_txn.specs.Fits.{countsFit, rangesFit, leastOf, txnFits, placeFits}
 use Rattle.tightness.specs.Wrong.{Excludes}

@@ -30,6 +30,5 @@ pub mod Log
 pub mod Lines
 pub mod Answers
 pub mod Report
-pub mod Commands
 pub mod Stops
 pub mod Replay

@@ -6,7 +6,7 @@ use mathlib.Core.Bool.{Bool, _&&_}
 use mathlib.Core.List.{List, [], _∷_}
 use lib.Dec.{ltb, leb}
 use Rattle.model.specs.Shape as model
-use Rattle.txn_places.specs.declared.Sizes.{Sizes}
+use Rattle.base_protocol.specs.declared.Sizes.{Sizes}
 use Rattle.shape_chains.specs.Links.{headsIn, nextsFall, chainsFit}
 use Rattle.tightness.specs.Wrong.{Excludes}
 use Rattle.tightness.proofs.Apart.{apart, bit}

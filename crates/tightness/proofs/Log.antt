@@ -18,18 +18,18 @@ use Rattle.tightness.proofs.Computes.{computes}
 abbrev oneBegin : List ℕ
 oneBegin = 2 ∷ 0 ∷ 2 ∷ 0 ∷ []
 
-abbrev readAt : List ℕ × ℕ → Decoded
-readAt (log, at) = decodedOf log at
+abbrev decodeAt : List ℕ × ℕ → Decoded
+decodeAt (log, at) = decodedOf log at
 
--- `read_at`: always the first record
-pub read-at-start : Excludes readAt (λ (log, at). decodedOf log 0)
+-- `decode_at`: always the first record
+pub decode-at-start : Excludes decodeAt (λ (log, at). decodedOf log 0)
 unfolding computes
-read-at-start = apart (oneBegin, 1) (λ (d : Decoded). d .next) refl
+decode-at-start = apart (oneBegin, 1) (λ (d : Decoded). d .next) refl
 
--- `read_at`: the 2 bytes of the length are not passed over
-pub read-at-next-short : Excludes readAt (λ (log, at). record { command = decodedOf log at .command; next = at + lengthIn (drop at log) })
+-- `decode_at`: the 2 bytes of the length are not passed over
+pub decode-at-next-short : Excludes decodeAt (λ (log, at). record { command = decodedOf log at .command; next = at + lengthIn (drop at log) })
 unfolding computes
-read-at-next-short = apart (oneBegin, 0) (λ (d : Decoded). d .next) refl
+decode-at-next-short = apart (oneBegin, 0) (λ (d : Decoded). d .next) refl
 
 -- bytes that someone has lent
 abbrev lent : List ℕ → RefT (List ℕ)

@@ -9,10 +9,11 @@ use lib.ListN.{getD, replicate}
 use Rattle.base_limits.specs.Limits.{mostRows, mostVersions, mostBuckets, mostLive}
 use Rattle.model.specs.Shape as model
 use Rattle.model.specs.Machine.{canOpen}
+use Rattle.base_protocol.specs.declared.Sizes.{Sizes}
+use Rattle.base_protocol.specs.View.{sizesView}
 use Rattle.txn.specs.Methods.{idleOf}
 use Rattle.txn.specs.declared.Transaction.{Transaction}
-use Rattle.txn_places.specs.declared.Sizes.{Sizes}
-use Rattle.step.specs.Words.{sizesView, freePlaces}
+use Rattle.step.specs.Words.{freePlaces}
 use Rattle.tightness.specs.Wrong.{Excludes}
 use Rattle.tightness.proofs.Apart.{apart, bit}
 use Rattle.tightness.proofs.Computes.{computes}

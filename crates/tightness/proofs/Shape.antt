@@ -7,11 +7,11 @@ use mathlib.Core.List.{[], map}
 use lib.Dec.{leb}
 use lib.ListN.{length, getD, replicate, set}
 use Rattle.model.specs.Shape.{rightShape}
+use Rattle.base_protocol.specs.declared.Sizes.{Sizes}
 use Rattle.table.specs.Fields.{rowWords, versionWords, bucketWords}
 use Rattle.table.specs.Lists.{listsWords}
 use Rattle.txn.specs.declared.Phase.the-variants as phase
 use Rattle.txn.specs.declared.Transaction.{Transaction}
-use Rattle.txn_places.specs.declared.Sizes.{Sizes}
 use Rattle.txn_places.specs.declared.Others.{Others}
 use Rattle.step.specs.Words.{view, freePlaces, othersIn}
 use Rattle.shape.specs.Shape.{tablesLent, tablesFit, shapeOf}

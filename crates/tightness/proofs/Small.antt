@@ -8,6 +8,7 @@ use lib.ListN.{replicate, set}
 use Rattle.base_limits.specs.Limits.{mostActive}
 use Rattle.base_lists.specs.Lists.{member, pick}
 use Rattle.model.specs.Store.{bucketIn}
+use Rattle.base_protocol.specs.declared.Sizes.{Sizes}
 use Rattle.table.specs.Fields.{rowWords, versionWords, bucketWords}
 use Rattle.table.specs.Lists.{Kind, writes, listsWords}
 use Rattle.table_chain.specs.Chain.{activeOf}
@@ -17,7 +18,6 @@ use Rattle.txn.specs.Methods.{withWrites}
 use Rattle.txn.specs.declared.Phase.{Phase}
 use Rattle.txn.specs.declared.Phase.the-variants as phase
 use Rattle.txn.specs.declared.Transaction.{Transaction}
-use Rattle.txn_places.specs.declared.Sizes.{Sizes}
 use Rattle.step.specs.Words.{Words, freePlaces}
 use Rattle.shape.specs.Shape.{shapeOf, wordsOf}
 use Rattle.shape.specs.declared.Machine.{Machine}

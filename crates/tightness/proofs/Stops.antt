@@ -1,4 +1,4 @@
--- Wrong bodies of the crate `stops`.
+-- Wrong bodies of the module `stop` of the crate `replay`.
 -- Assumes nothing.
 use Prim.Native.Nat.{ℕ}
 use mathlib.Core.Path.{refl}
@@ -9,8 +9,8 @@ use Rattle.report_lines.specs.declared.Wrote.{Wrote}
 use Rattle.report_lines.specs.declared.Wrote.the-variants.{Next, Full}
 use Rattle.report_lines.specs.Lines.{writtenAt}
 use Rattle.report.specs.Lines.{openLine, badLine}
-use Rattle.replay_stop.specs.declared.Stopped.{Stopped}
-use Rattle.replay_stop.specs.Stops.{Left, stopAfter, stopWith, malformedAt, unopenedAt}
+use Rattle.replay.specs.declared.stop.Stopped.{Stopped}
+use Rattle.replay.specs.Stops.{Left, stopAfter, stopWith, malformedAt, unopenedAt}
 use Rattle.tightness.specs.Wrong.{Excludes}
 use Rattle.tightness.proofs.Apart.{apart}
 use Rattle.tightness.proofs.Computes.{computes}

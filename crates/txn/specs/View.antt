@@ -66,10 +66,6 @@ txnView lists t = record {
   candidates = candidatesIn lists t;
 }
 
--- the sizes that a store was opened with
-abbrev pub sizesView : ℕ → ℕ → ℕ → model.Sizes
-sizesView rows versions buckets = record { rows = rows; versions = versions; buckets = buckets }
-
 -- the part of a table that its size names: entries past it are none of the store's
 abbrev pub rowsPart : model.Sizes → List ℕ → List ℕ
 rowsPart z rows = take (rowWords * z .rows) rows

@@ -10,13 +10,6 @@ ghost use Prim.Native.Nat.{_<_};
 ghost use Rattle.base_limits.specs.Limits.{lastNumber, mostLive};
 ghost use Rattle.txn_places.specs.Places.{wantedOf, isBegin, missesOf, placeIn, activeNumber, preparedCount, oneLive, liveIn};
 
-// The sizes that a store was opened with.
-pub struct Sizes {
-    pub rows: u64,
-    pub versions: u64,
-    pub buckets: u64,
-}
-
 // Of each place: its number, 0 where it is free; its number while it is active; how many pending writes it has reserved versions for.
 pub struct Others {
     pub numbers: [u64; MOST_LIVE],

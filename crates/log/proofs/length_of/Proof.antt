@@ -37,7 +37,9 @@ unfolding lengthOf widths total
 returns-7 c = rw (c .match .keys7)
 
 returns-8 : tie.Need-returns-8
-returns-8 c = let r = c .before .before .match .rest in let k = c .before .before .before .args .kind in sym (length-only k (behind 7 1 k (r .0 .0 .0 .0 .0 .0 .1, (r .0 .0 .0 .0 .0 .1, (r .0 .0 .0 .0 .1, (r .0 .0 .0 .1, (r .0 .0 .1, (r .0 .1, (r .1, tt))))))) (c .before .if1 .left)) (c .if2 .taken))
+returns-8 c =
+    let kind = c .before .before .before .args .kind in
+    sym (length-only kind (behind 7 1 kind (c .before .before .match .rest) (c .before .if1 .left)) (c .if2 .taken))
 
 returns-9 : tie.Need-returns-9
 returns-9 c = let e : c .before .before .args .kind ≡ 0 = let h = c .if1 .taken in omega (arith, h) in rw (e, length-zero)

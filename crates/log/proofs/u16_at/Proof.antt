@@ -30,7 +30,11 @@ add-result : tie.Need-add-result
 add-result c = search needs
 
 returns : tie.Need-returns
-returns c = let a = c .before .before .before .before .before .args in let h : a .at + 2 ≤ length (a .log .now) = omega arith in (rw (number-two (a .log .now) (a .at) h, c .wide2 .ensures .0, c .before .before .wide .ensures .0), omega arith)
+returns c =
+    let first = c .before .before in
+    let a = first .before .before .before .args in
+    let h : a .at + 2 ≤ length (a .log .now) = omega arith in
+    (rw (number-two (a .log .now) (a .at) h, c .wide2 .ensures .0, first .wide .ensures .0), omega arith)
 
 pub u16-at-spec : {M : Type 1} → statement M
 u16-at-spec =

@@ -24,7 +24,10 @@ add-result : tie.Need-add-result
 add-result c = search needs
 
 returns : tie.Need-returns
-returns c = let a = c .before .before .before .args in let h : a .at + 2 ≤ length (a .log .now) = omega arith in (rw (number-twice (a .log .now) (a .at) 2 h, ← c .before .u16-at .ensures .0, ← c .u16-at2 .ensures .0), omega arith)
+returns c =
+    let a = c .before .before .before .args in
+    let h : a .at + 2 ≤ length (a .log .now) = omega arith in
+    (rw (number-twice (a .log .now) (a .at) 2 h, ← c .before .u16-at .ensures .0, ← c .u16-at2 .ensures .0), omega arith)
 
 pub u32-at-spec : {M : Type 1} → statement M
 u32-at-spec =

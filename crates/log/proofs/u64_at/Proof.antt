@@ -24,7 +24,10 @@ add-result : tie.Need-add-result
 add-result c = search needs
 
 returns : tie.Need-returns
-returns c = let a = c .before .before .before .args in let h : a .at + 4 ≤ length (a .log .now) = omega arith in rw (number-twice (a .log .now) (a .at) 4 h, ← c .before .u32-at .ensures .0, ← c .u32-at2 .ensures .0)
+returns c =
+    let a = c .before .before .before .args in
+    let h : a .at + 4 ≤ length (a .log .now) = omega arith in
+    rw (number-twice (a .log .now) (a .at) 4 h, ← c .before .u32-at .ensures .0, ← c .u32-at2 .ensures .0)
 
 pub u64-at-spec : {M : Type 1} → statement M
 u64-at-spec =

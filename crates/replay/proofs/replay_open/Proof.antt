@@ -2,23 +2,53 @@
 -- Assumes nothing.
 use borrow.Author.Needs.{needs}
 use borrow.Author.Tests.{not-true, not-false}
-use mathlib.Core.Path.{sym, _∙_}
+use Prim.Native.Nat.{ℕ, _<_, _≤_}
+use mathlib.Core.Path.{_≡_, sym, _∙_}
+use mathlib.Core.Bool.{true}
+use mathlib.Core.List.{List}
 use native.Mathlib.Omega.{arith}
+use lib.ListN.{length}
+use Rattle.model.specs.Machine.{canOpen}
+use Rattle.model.specs.Replay.{replay}
+use Rattle.base_protocol.specs.declared.Sizes.{Sizes}
+use Rattle.base_protocol.specs.View.{sizesView}
+use Rattle.log.specs.declared.Command.the-variants.{Open}
+use Rattle.report_lines.specs.declared.Wrote.the-variants.{Next, Full}
+use Rattle.replay.specs.declared.stop.Stopped.{Stopped}
+use Rattle.replay.specs.Replay.{Leaves, openedFrom}
 use Rattle.replay.proofs.First.{left-empty, left-malformed, left-unopened, left-full, opened-fits, left-on}
+use Rattle.replay.proofs.Lining.{roomIn}
 use Rattle.replay.proofs.replay_open.Statement.{statement}
 use Rattle.replay.proofs.replay_open.Tie as tie
 
+-- ---- an empty log, and the first record of another
 returns : tie.Need-returns
 returns c =
-    let a = c .before .before .before .before .before .before .before .before .args in
+    let lent = c .before .before .before in
+    let first = lent .before .before .before in
+    let a = first .before .before .args in
     left-empty (a .log .now) (a .report .now) (omega (arith, c .if1 .taken))
 
-read-at-requires : tie.Need-read-at-requires
-read-at-requires c κs = search needs
+decode-at-requires : tie.Need-decode-at-requires
+decode-at-requires c κs = search needs
 
-is-open-requires : tie.Need-is-open-requires
-is-open-requires c κs = search needs
+enum-known-command : tie.Need-enum-known-command
+enum-known-command c = search needs
 
+module _ (c : tie.After-decode-at) where
+  abbrev begun : tie.Start
+  begun = let lent = c .before .before .before in let first = lent .before .before .before in first .before .before .before
+
+  abbrev log : List ℕ
+  log = begun .args .log .now
+
+  abbrev report : List ℕ
+  report = begun .args .report .now
+
+  some-bytes : 0 < length log
+  some-bytes = omega (arith, c .before .if1 .left)
+
+-- ---- no open
 stop-malformed-requires : tie.Need-stop-malformed-requires
 stop-malformed-requires c κs = search needs
 
@@ -27,14 +57,24 @@ same-length c = search needs
 
 returns-2 : tie.Need-returns-2
 returns-2 c =
-    let a = c .before .before .before .before .before .before .before .before .before .before .before .before .before .before .before .args in
-    left-malformed (a .log .now) (a .report .now) (omega (arith, c .before .before .before .before .before .before .before .if1 .left)) (c .before .before .before .before .before .before .read-at .ensures) (sym (c .before .before .before .before .before .is-open .ensures) ∙ not-true (c .before .before .before .before .before .is-open .result) (c .before .before .before .before .if2 .taken)) _ (c .before .before .stop-malformed .ensures)
+    let stop = c .before .before in
+    let other = stop .before .before in
+    let read = other .before in
+    left-malformed (log read) (report read) (some-bytes read) (read .decode-at .ensures) (other .match .keys2) _ (stop .stop-malformed .ensures)
 
-sizes-of-requires : tie.Need-sizes-of-requires
-sizes-of-requires c κs = search needs
+-- ---- an open: the sizes and the clock that it asks for
+module _ (c : tie.After-known-told) where
+  abbrev first : tie.After-decode-at
+  first = c .before .before .before
 
-clock-of-requires : tie.Need-clock-of-requires
-clock-of-requires c κs = search needs
+  abbrev sizes : Sizes
+  sizes = c .before .command .given .0 .0
+
+  abbrev clock : ℕ
+  clock = c .before .command .given .0 .1 .0
+
+  opens : first .decode-at .result .command ≡ Open sizes clock
+  opens = c .before .command .given .1
 
 can-open-requires : tie.Need-can-open-requires
 can-open-requires c κs = search needs
@@ -47,9 +87,13 @@ same-length-2 c = search needs
 
 returns-3 : tie.Need-returns-3
 returns-3 c =
-    let a = c .before .before .before .before .before .before .before .before .before .before .before .before .before .before .before .before .before .before .before .args in
-    let opens = sym (c .before .before .before .before .before .before .before .before .before .is-open .ensures) ∙ not-false (c .before .before .before .before .before .before .before .before .before .is-open .result) (c .before .before .before .before .before .before .before .before .if2 .left) in
-    left-unopened (a .log .now) (a .report .now) (omega (arith, c .before .before .before .before .before .before .before .before .before .before .before .if1 .left)) (c .before .before .before .before .before .before .before .before .before .before .read-at .ensures) opens (c .before .before .before .before .before .before .before .sizes-of .ensures) (c .before .before .before .before .before .before .clock-of .ensures) (sym (c .before .before .before .before .before .can-open .ensures) ∙ not-true (c .before .before .before .before .before .can-open .result) (c .before .before .before .before .if3 .taken)) _ (c .before .before .stop-unopened .ensures)
+    let stop = c .before .before in
+    let test = stop .before .before in
+    let can = test .before .can-open in
+    let told = test .before .before in
+    let read = first told in
+    left-unopened (log read) (report read) (some-bytes read) (read .decode-at .ensures) (opens told)
+    (sym (can .ensures) ∙ not-true (can .result) (test .if2 .taken)) _ (stop .stop-unopened .ensures)
 
 open-line-requires : tie.Need-open-line-requires
 open-line-requires c κs = search needs
@@ -60,22 +104,53 @@ enum-known-line c = search needs
 enum-told : tie.Need-enum-told
 enum-told c = search needs
 
+-- ---- opened: its line is written, or does not fit
+module _ (c : tie.After-open-line) where
+  abbrev tested : tie.Else2
+  tested = c .before .before
+
+  abbrev asked : tie.After-known-told
+  asked = tested .before .before
+
+  abbrev read : tie.After-decode-at
+  read = first asked
+
+  can : canOpen (sizesView (sizes asked)) (clock asked) ≡ true
+  can = let test = tested .before .can-open in sym (test .ensures) ∙ not-false (test .result) (tested .if2 .left)
+
+  abbrev lent : List ℕ
+  lent = c .open-line .last .0
+
+  full : c .open-line .result ≡ Full → Leaves (record { status = 10; wrote = 0 }) lent (replay (log read) (length (report read))) (report read)
+  full q = left-full (log read) (report read) (some-bytes read) (read .decode-at .ensures) (opens asked) can (c .open-line .ensures) q
+
+  module _ (end : ℕ) (q : c .open-line .result ≡ Next end) where
+    fits : end ≤ roomIn lent
+    fits = opened-fits (log read) (report read) (some-bytes read) (read .decode-at .ensures) (opens asked) can (c .open-line .ensures) q
+
+    on : (r : Stopped) (after : List ℕ) → Leaves r after (openedFrom (log read) lent (sizes asked) (clock asked) (read .decode-at .result .next) end) lent
+        → Leaves r after (replay (log read) (length (report read))) (report read)
+    on r after l =
+        left-on (log read) (report read) (some-bytes read) (read .decode-at .ensures) (opens asked) can (c .open-line .ensures) q r after l
+
 same-length-3 : tie.Need-same-length-3
 same-length-3 c = search needs
 
 returns-4 : tie.Need-returns-4
-returns-4 c =
-    let a = c .before .before .before .before .before .before .before .before .before .before .before .before .before .before .before .before .before .before .before .before .before .args in
-    let opens = sym (c .before .before .before .before .before .before .before .before .before .before .before .is-open .ensures) ∙ not-false (c .before .before .before .before .before .before .before .before .before .before .before .is-open .result) (c .before .before .before .before .before .before .before .before .before .before .if2 .left) in
-    let can = sym (c .before .before .before .before .before .before .before .can-open .ensures) ∙ not-false (c .before .before .before .before .before .before .before .can-open .result) (c .before .before .before .before .before .before .if3 .left) in
-    left-full (a .log .now) (a .report .now) (omega (arith, c .before .before .before .before .before .before .before .before .before .before .before .before .before .if1 .left)) (c .before .before .before .before .before .before .before .before .before .before .before .before .read-at .ensures) opens (c .before .before .before .before .before .before .before .before .before .sizes-of .ensures) (c .before .before .before .before .before .before .before .before .clock-of .ensures) can (c .before .before .before .before .open-line .ensures) (c .enum-told .given .1)
+returns-4 c = let back = c .before .before .before in full (back .before) (c .enum-told .given .1)
+
+-- ---- and the others: from the call back to the line
+abbrev lined : tie.After-known-told2 → tie.After-open-line
+lined c = let back = c .before .before .before in back .before .before
+
+abbrev passed : tie.After-replay-steps-arg6 → tie.After-known-told2
+passed c = let half = c .before .before .before in half .before .before .before
 
 replay-steps-requires : tie.Need-replay-steps-requires
 replay-steps-requires c κs =
-    let a = c .before .before .before .before .before .before .before .before .before .before .before .before .before .before .before .before .before .before .before .before .before .before .before .before .before .before .before .before .args in
-    let opens = sym (c .before .before .before .before .before .before .before .before .before .before .before .before .before .before .before .before .before .before .is-open .ensures) ∙ not-false (c .before .before .before .before .before .before .before .before .before .before .before .before .before .before .before .before .before .before .is-open .result) (c .before .before .before .before .before .before .before .before .before .before .before .before .before .before .before .before .before .if2 .left) in
-    let can = sym (c .before .before .before .before .before .before .before .before .before .before .before .before .before .before .can-open .ensures) ∙ not-false (c .before .before .before .before .before .before .before .before .before .before .before .before .before .before .can-open .result) (c .before .before .before .before .before .before .before .before .before .before .before .before .before .if3 .left) in
-    (c .before .before .before .before .before .before .before .before .before .before .before .before .before .before .before .before .before .before .before .before .before .before .before .before .before .before .before .before .pre, can, opened-fits (a .log .now) (a .report .now) (omega (arith, c .before .before .before .before .before .before .before .before .before .before .before .before .before .before .before .before .before .before .before .before .if1 .left)) (c .before .before .before .before .before .before .before .before .before .before .before .before .before .before .before .before .before .before .before .read-at .ensures) opens (c .before .before .before .before .before .before .before .before .before .before .before .before .before .before .before .before .sizes-of .ensures) (c .before .before .before .before .before .before .before .before .before .before .before .before .before .before .before .clock-of .ensures) can (c .before .before .before .before .before .before .before .before .before .before .before .open-line .ensures) (c .before .before .before .before .before .before .before .line .given .1))
+    let line = passed c in
+    let opened = lined line in
+    (begun (read opened) .pre, can opened, fits opened _ (line .before .line .given .1))
 
 same-length-4 : tie.Need-same-length-4
 same-length-4 c = search needs
@@ -95,25 +170,29 @@ same-length-8 c = search needs
 same-length-9 : tie.Need-same-length-9
 same-length-9 c = search needs
 
+abbrev called : tie.After-slice-known15 → tie.After-replay-steps
+called c =
+    let lists = c .before .before .before in
+    let versions = lists .before .before .before in
+    let rows = versions .before .before .before in
+    rows .before .before .before
+
 returns-5 : tie.Need-returns-5
 returns-5 c =
-    let a = c .before .before .before .before .before .before .before .before .before .before .before .before .before .before .before .before .before .before .before .before .before .before .before .before .before .before .before .before .before .before .before .before .before .before .before .before .before .before .before .before .before .args in
-    let opens = sym (c .before .before .before .before .before .before .before .before .before .before .before .before .before .before .before .before .before .before .before .before .before .before .before .before .before .before .before .before .before .before .before .is-open .ensures) ∙ not-false (c .before .before .before .before .before .before .before .before .before .before .before .before .before .before .before .before .before .before .before .before .before .before .before .before .before .before .before .before .before .before .before .is-open .result) (c .before .before .before .before .before .before .before .before .before .before .before .before .before .before .before .before .before .before .before .before .before .before .before .before .before .before .before .before .before .before .if2 .left) in
-    let can = sym (c .before .before .before .before .before .before .before .before .before .before .before .before .before .before .before .before .before .before .before .before .before .before .before .before .before .before .before .can-open .ensures) ∙ not-false (c .before .before .before .before .before .before .before .before .before .before .before .before .before .before .before .before .before .before .before .before .before .before .before .before .before .before .before .can-open .result) (c .before .before .before .before .before .before .before .before .before .before .before .before .before .before .before .before .before .before .before .before .before .before .before .before .before .before .if3 .left) in
-    left-on (a .log .now) (a .report .now) (omega (arith, c .before .before .before .before .before .before .before .before .before .before .before .before .before .before .before .before .before .before .before .before .before .before .before .before .before .before .before .before .before .before .before .before .before .if1 .left)) (c .before .before .before .before .before .before .before .before .before .before .before .before .before .before .before .before .before .before .before .before .before .before .before .before .before .before .before .before .before .before .before .before .read-at .ensures) opens (c .before .before .before .before .before .before .before .before .before .before .before .before .before .before .before .before .before .before .before .before .before .before .before .before .before .before .before .before .before .sizes-of .ensures) (c .before .before .before .before .before .before .before .before .before .before .before .before .before .before .before .before .before .before .before .before .before .before .before .before .before .before .before .before .clock-of .ensures) can (c .before .before .before .before .before .before .before .before .before .before .before .before .before .before .before .before .before .before .before .before .before .before .before .before .open-line .ensures) (c .before .before .before .before .before .before .before .before .before .before .before .before .before .before .before .before .before .before .before .before .line .given .1) _ _ (c .before .before .before .before .before .before .before .before .before .before .before .before .replay-steps .ensures)
+    let call = called c in
+    let line = passed (call .before) in
+    on (lined line) _ (line .before .line .given .1) _ _ (call .replay-steps .ensures)
 
 pub replay-open-spec : {M : Type 1} → statement M
 replay-open-spec =
     tie.close
     (tie.spec
     returns
-    read-at-requires
-    is-open-requires
+    decode-at-requires
+    enum-known-command
     stop-malformed-requires
     same-length
     returns-2
-    sizes-of-requires
-    clock-of-requires
     can-open-requires
     stop-unopened-requires
     same-length-2

@@ -3,7 +3,7 @@
 use borrow.Author.Needs.{needs}
 use Prim.Native.Nat.{_+_, _*_}
 use mathlib.Core.Path.{ap}
-use Rattle.replay_stop.specs.Stops.{Left}
+use Rattle.replay.specs.Stops.{Left}
 use Rattle.replay.proofs.toruxeng_replay.Statement.{statement}
 use Rattle.replay.proofs.toruxeng_replay.Tie as tie
 
@@ -36,7 +36,9 @@ same-length c = search needs
 
 returns : tie.Need-returns
 returns c =
-    let e = c .before .before .before .before .before .before .before .before .replay-open .ensures .0 in
+    let lists = c .before .before .before in
+    let rows = lists .before .before .before in
+    let e = rows .before .before .replay-open .ensures .0 in
     (ap (λ (l : Left). l .stopped .status * 4294967296 + l .stopped .wrote) e, ap (λ (l : Left). l .report) e)
 
 pub toruxeng-replay-spec : {M : Type 1} → statement M

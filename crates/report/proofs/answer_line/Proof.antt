@@ -3,7 +3,8 @@
 use borrow.Author.Needs.{needs}
 use mathlib.Core.Path.{_≡_, ap, sym, _∙_}
 use native.Mathlib.Omega.{arith}
-use lib.ListN.{length}
+use Prim.Native.Nat.{_≤_}
+use lib.ListN.{length, take}
 use lib.Seq.{length-take-le}
 use Rattle.report_lines.specs.Lines.{writtenAt}
 use Rattle.report.proofs.Answers.{line-said}
@@ -19,20 +20,46 @@ numbers-of-requires c κs = search needs
 least-requires : tie.Need-least-requires
 least-requires c κs = search needs
 
+-- behind the lesser count of rows: the calls before it
+abbrev worded : tie.After-least → tie.After-word-of
+worded c = let numbers = c .before .before in numbers .before .before
+
+abbrev begun : tie.After-least → tie.Start
+begun c = worded c .before .before .before
+
+-- the word is within its eight bytes, the numbers within their five, and the rows within those lent
+in-word : (c : tie.After-least) → worded c .word-of .result .long ≤ length (worded c .word-of .result .bytes)
+in-word c = let eight : length (worded c .word-of .result .bytes) ≡ 8 = search needs in omega arith
+
+in-numbers : (c : tie.After-least) → c .before .before .numbers-of .result .count ≤ length (c .before .before .numbers-of .result .list)
+in-numbers c = let five : length (c .before .before .numbers-of .result .list) ≡ 5 = search needs in omega arith
+
+in-rows : (c : tie.After-least) → c .least .result ≤ length (begun c .args .rows .now)
+in-rows c = let k = c .least .ensures in omega arith
+
 array-share-prefix-bytes : tie.Need-array-share-prefix-bytes
-array-share-prefix-bytes c = let eight : length (c .before .before .before .before .before .word-of .result .bytes) ≡ 8 = search needs in omega arith
+array-share-prefix-bytes c = in-word (c .before)
 
 slice-aggregate-write-line : tie.Need-slice-aggregate-write-line
-slice-aggregate-write-line c = let eight : length (c .before .before .before .before .before .before .word-of .result .bytes) ≡ 8 = search needs in sym (length-take-le (c .before .before .before .before .before .before .word-of .result .long) (c .before .before .before .before .before .before .word-of .result .bytes) (omega arith))
+slice-aggregate-write-line c =
+    let k = c .before .before in
+    let w = worded k .word-of .result in
+    sym (length-take-le (w .long) (w .bytes) (in-word k))
 
 array-share-prefix-list : tie.Need-array-share-prefix-list
-array-share-prefix-list c = let five : length (c .before .before .before .before .numbers-of .result .list) ≡ 5 = search needs in omega arith
+array-share-prefix-list c = in-numbers (c .before .before)
 
 slice-aggregate-write-line-2 : tie.Need-slice-aggregate-write-line-2
-slice-aggregate-write-line-2 c = let five : length (c .before .before .before .before .before .numbers-of .result .list) ≡ 5 = search needs in sym (length-take-le (c .before .before .before .before .before .numbers-of .result .count) (c .before .before .before .before .before .numbers-of .result .list) (omega arith))
+slice-aggregate-write-line-2 c =
+    let k = c .before .before .before in
+    let n = k .before .before .numbers-of .result in
+    sym (length-take-le (n .count) (n .list) (in-numbers k))
 
 slice-aggregate-write-line-3 : tie.Need-slice-aggregate-write-line-3
-slice-aggregate-write-line-3 c = let k = c .before .before .before .before .least .ensures in sym (length-take-le (c .before .before .before .before .least .result) (c .before .before .before .before .before .before .before .before .before .before .before .args .rows .now) (omega arith))
+slice-aggregate-write-line-3 c =
+    let bytes = c .before .before in
+    let k = bytes .before .before in
+    sym (length-take-le (k .least .result) (begun k .args .rows .now) (in-rows k))
 
 write-line-requires : tie.Need-write-line-requires
 write-line-requires c κs = search needs
@@ -41,7 +68,15 @@ same-length : tie.Need-same-length
 same-length c = search needs
 
 returns : tie.Need-returns
-returns c = let a = c .before .before .before .before .before .before .before .before .before .before .before .before .before .before .args in c .before .before .write-line .ensures ∙ ap (writtenAt (a .report .now) (a .at)) (line-said (a .step) (a .answer) (a .rows .now) _ (c .before .before .before .before .before .before .before .before .before .numbers-of .result) (c .before .before .before .before .before .before .before .least .result) (c .before .before .before .before .before .before .before .before .before .before .before .word-of .ensures .0) (c .before .before .before .before .before .before .before .before .before .numbers-of .ensures .0) (c .before .before .before .before .before .before .before .least .ensures))
+returns c =
+    let call = c .before .before in
+    let bytes = call .before .before .before in
+    let k = bytes .before .before in
+    let a = begun k .args in
+    let n = k .before .before .numbers-of in
+    call .write-line .ensures
+    ∙ ap (writtenAt (a .report .now) (a .at))
+    (line-said (a .step) (a .answer) (a .rows .now) _ (n .result) (k .least .result) (worded k .word-of .ensures .0) (n .ensures .0) (k .least .ensures))
 
 pub answer-line-spec : {M : Type 1} → statement M
 answer-line-spec =

@@ -1,6 +1,7 @@
 -- `report::word_of` meets its contract.
 -- Assumes nothing.
 use borrow.Author.Needs.{needs}
+use native.Mathlib.Omega.{arith}
 use Rattle.report.proofs.word_of.Statement.{statement}
 use Rattle.report.proofs.word_of.Tie as tie
 
@@ -41,40 +42,40 @@ enum-told-12 : tie.Need-enum-told-12
 enum-told-12 c = search needs
 
 returns : tie.Need-returns
-returns c = search needs
+returns c = (rw (c .before .before .enum-told .given .1), omega arith)
 
 returns-2 : tie.Need-returns-2
-returns-2 c = search needs
+returns-2 c = (rw (c .before .before .enum-told2 .given .1), omega arith)
 
 returns-3 : tie.Need-returns-3
-returns-3 c = search needs
+returns-3 c = (rw (c .before .before .enum-told3 .given .1), omega arith)
 
 returns-4 : tie.Need-returns-4
-returns-4 c = search needs
+returns-4 c = (rw (c .before .before .enum-told4 .given .1), omega arith)
 
 returns-5 : tie.Need-returns-5
-returns-5 c = search needs
+returns-5 c = (rw (c .before .before .enum-told5 .given .1), omega arith)
 
 returns-6 : tie.Need-returns-6
-returns-6 c = search needs
+returns-6 c = (rw (c .before .before .enum-told6 .given .1), omega arith)
 
 returns-7 : tie.Need-returns-7
-returns-7 c = search needs
+returns-7 c = (rw (c .before .before .enum-told7 .given .1), omega arith)
 
 returns-8 : tie.Need-returns-8
-returns-8 c = search needs
+returns-8 c = (rw (c .before .before .enum-told8 .given .1), omega arith)
 
 returns-9 : tie.Need-returns-9
-returns-9 c = search needs
+returns-9 c = (rw (c .before .before .enum-told9 .given .1), omega arith)
 
 returns-10 : tie.Need-returns-10
-returns-10 c = search needs
+returns-10 c = (rw (c .before .before .enum-told10 .given .1), omega arith)
 
 returns-11 : tie.Need-returns-11
-returns-11 c = search needs
+returns-11 c = (rw (c .before .before .enum-told11 .given .1), omega arith)
 
 returns-12 : tie.Need-returns-12
-returns-12 c = search needs
+returns-12 c = (rw (c .before .before .enum-told12 .given .1), omega arith)
 
 pub word-of-spec : {M : Type 1} → statement M
 word-of-spec =

@@ -95,13 +95,21 @@ put-digits-slice-write-out-2 : (t : ℕ) → put-digits-lts.Need-slice-write-out
   put-digits-below t,
   put-digits.Post,
 ) (put-digits-at t) put-digits.Post
-put-digits-slice-write-out-2 t c = let more = more-long (c .before .before .before .before .before .before .args .n) (c .before .before .before .before .if1 .left) in omega arith
+put-digits-slice-write-out-2 t c =
+    let lent = c .before .before .before in
+    let test = lent .before in
+    let more = more-long (test .before .before .args .n) (test .if1 .left) in
+    omega arith
 
 put-digits-add-result-2 : (t : ℕ) → put-digits-lts.Need-add-result-2 (
   put-digits-below t,
   put-digits.Post,
 ) (put-digits-at t) put-digits.Post
-put-digits-add-result-2 t c = let more = more-long (c .before .before .before .before .before .before .args .n) (c .before .before .before .before .if1 .left) in omega arith
+put-digits-add-result-2 t c =
+    let lent = c .before .before .before in
+    let test = lent .before in
+    let more = more-long (test .before .before .args .n) (test .if1 .left) in
+    omega arith
 
 put-digits-same-length-2 : (t : ℕ) → put-digits-lts.Need-same-length-2 (
   put-digits-below t,
@@ -114,11 +122,13 @@ put-digits-returns-2 : (t : ℕ) → put-digits-lts.Need-returns-2 (
   put-digits.Post,
 ) (put-digits-at t) put-digits.Post
 put-digits-returns-2 t c =
-    let a = c .before .before .before .before .before .before .args in
-    let d = c .before .before .put-digits in
-    let more = more-long (c .before .before .before .before .before .before .args .n) (c .before .before .before .before .if1 .left) in (
+    let call = c .before .before in
+    let d = call .put-digits in
+    let test = call .before .before in
+    let a = test .before .before .args in
+    let more = more-long (a .n) (test .if1 .left) in (
       omega arith,
-      rw (decimal-more (a .n) (c .before .before .before .before .if1 .left))
+      rw (decimal-more (a .n) (test .if1 .left))
           (then-store (a .out .now) (a .at) (decimal (a .n / 10)) (d .last .0) (d .result) (d .ensures .1) (d .ensures .0) (48 + a .n % 10) (omega arith)),
     )
 

@@ -1,12 +1,13 @@
 -- `report_lines::put_spaced` meets its contract.
 -- Assumes nothing.
 use borrow.Author.Needs.{needs}
-use Prim.Native.Nat.{_+_, _-_, _≤_}
+use Prim.Native.Nat.{ℕ, _+_, _-_, _≤_}
 use mathlib.Core.Path.{_≡_, refl, _∙_}
+use mathlib.Core.List.{List}
 use native.Mathlib.Omega.{arith}
-use lib.ListN.{length, take, length-set}
+use lib.ListN.{length, take, getD, length-set}
 use lib.Seq.{take-length}
-use Rattle.model.specs.Report.{spaced}
+use Rattle.model.specs.Report.{decimal, spaced}
 use Rattle.report_lines.specs.Lines.{laid}
 use Rattle.report_lines.proofs.Laid.{laid-none}
 use Rattle.report_lines.proofs.Spaced.{spaced-room, spaced-laid}
@@ -14,7 +15,11 @@ use Rattle.report_lines.proofs.put_spaced.Statement.{statement}
 use Rattle.report_lines.proofs.put_spaced.Tie as tie
 
 abbrev Inv-loop : tie.InvT-loop
-Inv-loop out₀ at list p₀ i₀ out p i = (i ≤ length list) × (length out ≡ length out₀) × (p ≡ at + length (spaced (take i list))) × (out ≡ laid out₀ at (spaced (take i list)))
+Inv-loop out₀ at list p₀ i₀ out p i =
+    (i ≤ length list)
+    × (length out ≡ length out₀)
+    × (p ≡ at + length (spaced (take i list)))
+    × (out ≡ laid out₀ at (spaced (take i list)))
 
 abbrev μ-loop : tie.MeasureT-loop
 μ-loop out₀ at list p₀ i₀ out p i = length list - i
@@ -23,11 +28,22 @@ loop-holds : tie.Need-loop-holds Inv-loop μ-loop
 unfolding spaced
 loop-holds c = (omega arith, refl, omega arith, laid-none (c .before .before .args .out .now) (c .before .before .args .at))
 
+-- in a turn: the parameters, and room for the next number
+abbrev begun : tie.In-loop Inv-loop μ-loop → tie.Start Inv-loop μ-loop
+begun c = let lent = c .before .before .before in lent .before
+
+module _ (c : tie.In-loop Inv-loop μ-loop) where
+  abbrev list : List ℕ
+  list = begun c .args .list .now
+
+  room : length (spaced (take (c .before .loop .i) list)) + 1 + length (decimal (getD list (c .before .loop .i) 0)) ≤ length (spaced list)
+  room = spaced-room list (c .before .loop .i) (c .loop-test .taken)
+
 slice-write-out : tie.Need-slice-write-out Inv-loop μ-loop
-slice-write-out c = let a = c .before .before .before .before .args in let room = spaced-room (a .list .now) (c .before .loop .i) (c .loop-test .taken) in omega arith
+slice-write-out c = let more = room c in omega arith
 
 add-put-digits : tie.Need-add-put-digits Inv-loop μ-loop
-add-put-digits c = let a = c .before .before .before .before .before .args in let room = spaced-room (a .list .now) (c .before .before .loop .i) (c .before .loop-test .taken) in omega arith
+add-put-digits c = let more = room (c .before) in omega arith
 
 mul-put-digits : tie.Need-mul-put-digits Inv-loop μ-loop
 mul-put-digits c = search needs
@@ -36,7 +52,7 @@ shared-slice-read-put-digits : tie.Need-shared-slice-read-put-digits Inv-loop μ
 shared-slice-read-put-digits c = search needs
 
 put-digits-requires : tie.Need-put-digits-requires Inv-loop μ-loop
-put-digits-requires c κs = let a = c .before .before .before .before .before .before .args in let room = spaced-room (a .list .now) (c .before .before .before .loop .i) (c .before .before .loop-test .taken) in simp length-set (omega arith)
+put-digits-requires c κs = let more = room (c .before .before) in simp length-set (omega arith)
 
 add-i : tie.Need-add-i Inv-loop μ-loop
 add-i c = search needs
@@ -45,15 +61,26 @@ loop-less : tie.Need-loop-less Inv-loop μ-loop
 loop-less c = search needs
 
 loop-again : tie.Need-loop-again Inv-loop μ-loop
-loop-again c = let a = c .before .before .before .before .before .before .before .before .before .args in let l = c .before .before .before .before .before .before .loop in let d = c .before .before .put-digits in
-    let s = spaced-laid (a .out .now) (l .out) (d .last .0) (a .list .now) (a .at) (l .p) (d .result) (l .i) (c .before .before .before .before .before .loop-test .taken) (omega arith) (l .inv .3) (l .inv .2) (d .ensures .1) (d .ensures .0) in
+loop-again c =
+    let call = c .before .before in
+    let turn = call .before .before .before in
+    let a = begun turn .args in
+    let l = turn .before .loop in
+    let d = call .put-digits in
+    let s =
+    spaced-laid (a .out .now) (l .out) (d .last .0) (a .list .now) (a .at) (l .p) (d .result) (l .i) (turn .loop-test .taken) (omega arith) (l .inv .3)
+    (l .inv .2) (d .ensures .1) (d .ensures .0) in
     (omega arith, d .kept .0 ∙ simp length-set (l .inv .1), s .0, s .1)
 
 same-length : tie.Need-same-length Inv-loop μ-loop
 same-length c = search needs
 
 returns : tie.Need-returns Inv-loop μ-loop
-returns c = let a = c .before .before .before .before .args in let l = c .before .loop in let e : l .i ≡ length (a .list .now) = omega arith in
+returns c =
+    let l = c .before .loop in
+    let lent = c .before .before .before in
+    let a = lent .before .args in
+    let e : l .i ≡ length (a .list .now) = omega arith in
     (rw (take-length (a .list .now)) at (rw e at (l .inv .2)), rw (take-length (a .list .now)) at (rw e at (l .inv .3)))
 
 pub put-spaced-spec : {M : Type 1} → statement M

@@ -43,10 +43,20 @@ loop-less : tie.Need-loop-less Inv-loop μ-loop
 loop-less c = search needs
 
 loop-again : tie.Need-loop-again Inv-loop μ-loop
-loop-again c = let a = c .before .before .before .before .before .args in let l = c .before .before .before .loop in let next = next-long (a .list .now) (l .i) (c .before .before .loop-test .taken) in let w = c .width .ensures .0 in (omega arith, omega arith, omega arith)
+loop-again c =
+    let turn = c .before .before in
+    let l = turn .before .loop in
+    let a = turn .before .before .before .args in
+    let next = next-long (a .list .now) (l .i) (turn .loop-test .taken) in
+    let w = c .width .ensures .0 in
+    (omega arith, omega arith, omega arith)
 
 returns : tie.Need-returns Inv-loop μ-loop
-returns c = let a = c .before .before .before .args in let l = c .before .loop in let e : l .i ≡ length (a .list .now) = omega arith in (rw (take-length (a .list .now)) at (rw e at (l .inv .1)), omega arith)
+returns c =
+    let a = c .before .before .before .args in
+    let l = c .before .loop in
+    let e : l .i ≡ length (a .list .now) = omega arith in
+    (rw (take-length (a .list .now)) at (rw e at (l .inv .1)), omega arith)
 
 pub spaced-width-spec : {M : Type 1} → statement M
 spaced-width-spec =

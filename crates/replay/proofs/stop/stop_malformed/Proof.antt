@@ -1,8 +1,8 @@
--- `replay_stop::stop_malformed` meets its contract.
+-- `replay::stop::stop_malformed` meets its contract.
 -- Assumes nothing.
 use borrow.Author.Needs.{needs}
-use Rattle.replay_stop.proofs.stop_malformed.Statement.{statement}
-use Rattle.replay_stop.proofs.stop_malformed.Tie as tie
+use Rattle.replay.proofs.stop.stop_malformed.Statement.{statement}
+use Rattle.replay.proofs.stop.stop_malformed.Tie as tie
 
 bad-line-requires : tie.Need-bad-line-requires
 bad-line-requires c κs = search needs

@@ -1,8 +1,8 @@
--- `replay_stop::stop_unopened` meets its contract.
+-- `replay::stop::stop_unopened` meets its contract.
 -- Assumes nothing.
 use borrow.Author.Needs.{needs}
-use Rattle.replay_stop.proofs.stop_unopened.Statement.{statement}
-use Rattle.replay_stop.proofs.stop_unopened.Tie as tie
+use Rattle.replay.proofs.stop.stop_unopened.Statement.{statement}
+use Rattle.replay.proofs.stop.stop_unopened.Tie as tie
 
 open-line-requires : tie.Need-open-line-requires
 open-line-requires c κs = search needs

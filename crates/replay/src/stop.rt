@@ -1,12 +1,12 @@
 // How a replay stops: with a last line, or with 10 where that line did not fit.
-use report_lines::Wrote;
 use base_protocol::MALFORMED;
 use base_protocol::NO_ROOM;
 use base_protocol::WRONG_SIZE;
 use report::bad_line;
 use report::open_line;
+use report_lines::Wrote;
 ghost use mathlib.Core.Path.{_≡_};
-ghost use Rattle.replay_stop.specs.Stops.{stopAfter, malformedAt, unopenedAt};
+ghost use Rattle.replay.specs.Stops.{stopAfter, malformedAt, unopenedAt};
 
 // How a replay stops: its status, and how many bytes of the report it wrote.
 pub struct Stopped {

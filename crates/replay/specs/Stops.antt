@@ -6,7 +6,7 @@ use Rattle.report_lines.specs.declared.Wrote.{Wrote}
 use Rattle.report_lines.specs.declared.Wrote.the-variants.{Next, Full}
 use Rattle.report_lines.specs.Lines.{Written, writtenAt}
 use Rattle.report.specs.Lines.{openLine, badLine}
-use Rattle.replay_stop.specs.declared.Stopped.{Stopped}
+use Rattle.replay.specs.declared.stop.Stopped.{Stopped}
 
 -- how a replay stopped, and the lent report afterwards
 pub record Left : Type 0 where

@@ -1,8 +1,8 @@
--- `replay_stop::stop_after` meets its contract.
+-- `replay::stop::stop_after` meets its contract.
 -- Assumes nothing.
 use borrow.Author.Needs.{needs}
-use Rattle.replay_stop.proofs.stop_after.Statement.{statement}
-use Rattle.replay_stop.proofs.stop_after.Tie as tie
+use Rattle.replay.proofs.stop.stop_after.Statement.{statement}
+use Rattle.replay.proofs.stop.stop_after.Tie as tie
 
 enum-known-line : tie.Need-enum-known-line
 enum-known-line c = search needs
