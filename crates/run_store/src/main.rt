@@ -66,8 +66,8 @@ fn told(answer: Answer) {
         Answer::Done => io::write_all(1, b"done\n"),
         Answer::Number(n) => say(b"number ", n),
         Answer::Stamp(n) => say(b"stamp ", n),
-        Answer::Count(n) => say(b"candidates: ", n),
-        Answer::Rows(n) => say(b"rows: ", n),
+        Answer::Count(n) => say(b"candidates ", n),
+        Answer::Rows(n) => say(b"found ", n),
         Answer::Judged(verdict) => judge(verdict),
         Answer::Refused(why) => say(b"refused with ", why),
     }
