@@ -188,16 +188,20 @@ module _ (w : Words) (c : Call) where
     right : shapeOf w ≡ true
     right = shape-is w ∙ rw (sized-fit w z, e)
 
-    called : SameAs lent cut (calledBy lent cut)
-    called = call-same lent (lent-sized w (c .lent) z) e cut (cut-lent lent (c .asks))
+    same : SameAs lent cut (calledBy lent cut)
+    same = call-same lent (lent-sized w (c .lent) z) e cut (cut-lent lent (c .asks))
 
     pub right-sized : Sized (called w c .words)
-    right-sized = rw (called-right right) (called .sized)
+    right-sized = rw (called-right right) (same .sized)
 
     pub right-as : CalledAs w c
     right-as =
         let m = model-right (view w) (asking c) e in
-        record { answer = rw (called-right right, m) (called .answer); store = rw (called-right right, m) (called .store); found = rw (called-right right, m) (called .lent) }
+        record {
+          answer = rw (called-right right, m) (same .answer);
+          store = rw (called-right right, m) (same .store);
+          found = rw (called-right right, m) (same .lent);
+        }
 
   -- of wrong shape
   wrong-as : tablesFit w ≡ true → rightShape (view w) ≡ false → CalledAs w c
