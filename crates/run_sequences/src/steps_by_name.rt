@@ -20,7 +20,6 @@ use toruxeng::install;
 use toruxeng::prepare;
 use toruxeng::publish;
 use toruxeng::put;
-use toruxeng::rows;
 use toruxeng::validate;
 ghost use Prim.Native.Nat.{_≤_};
 
@@ -140,7 +139,7 @@ fn read_rows(
     room: u64,
 ) -> Called {
     let lent = room_of(room, found.len());
-    rows(
+    toruxeng::rows(
         rows,
         versions,
         buckets,

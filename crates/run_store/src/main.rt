@@ -39,31 +39,36 @@ const LISTS_LENT: usize = SLOT_WORDS * MOST_LIVE;
 // The key that is published and revoked, in row 2.
 const KEY: u64 = 7;
 
+// Words, as they stand.
+fn tell(words: &[u8]) {
+    io::write_all(1, words);
+}
+
 // Words, a number, and the line's end.
 fn say(words: &[u8], number: u64) {
-    io::write_all(1, words);
+    tell(words);
     io::print_decimal(1, number);
-    io::write_all(1, b"\n");
+    tell(b"\n");
 }
 
 // A verdict: whether what the tap relied on stands, and else the first that does not.
 fn judge(verdict: Verdict) {
     match verdict {
-        Verdict::Clear => io::write_all(1, b"no conflict\n"),
+        Verdict::Clear => tell(b"no conflict\n"),
         Verdict::Bucket {
             bucket,
             captured: _,
             present: _,
         } => say(b"conflict in bucket ", bucket),
         Verdict::Row { row, ptr: _ } => say(b"conflict in row ", row),
-        Verdict::Mark => io::write_all(1, b"marked\n"),
+        Verdict::Mark => tell(b"marked\n"),
     }
 }
 
 // What a step answered.
 fn told(answer: Answer) {
     match answer {
-        Answer::Done => io::write_all(1, b"done\n"),
+        Answer::Done => tell(b"done\n"),
         Answer::Number(n) => say(b"number ", n),
         Answer::Stamp(n) => say(b"stamp ", n),
         Answer::Count(n) => say(b"candidates ", n),
@@ -90,7 +95,7 @@ fn number_of(answer: Answer) -> u64 {
 fn shown(step: &[u8], called: Called) -> Machine {
     let answer = called.answer;
     let machine = called.machine;
-    io::write_all(1, step);
+    tell(step);
     told(answer);
     machine
 }
@@ -130,7 +135,7 @@ fn publish_key(
     lists: &mut [u64; LISTS_LENT],
     m: Machine,
 ) -> Machine {
-    io::write_all(1, b"a key is published\n");
+    tell(b"a key is published\n");
     let called = begin(rows, versions, buckets, lists, m);
     let answer = called.answer;
     let number = number_of(answer);
@@ -150,7 +155,7 @@ fn revoke(
     lists: &mut [u64; LISTS_LENT],
     m: Machine,
 ) -> Machine {
-    io::write_all(1, b"the key is revoked\n");
+    tell(b"the key is revoked\n");
     let called = begin(rows, versions, buckets, lists, m);
     let answer = called.answer;
     let number = number_of(answer);
@@ -196,14 +201,14 @@ fn play(
     m: Machine,
 ) {
     let updated = publish_key(rows, versions, buckets, lists, m);
-    io::write_all(1, b"a tap looks the key up\n");
+    tell(b"a tap looks the key up\n");
     let called = begin(rows, versions, buckets, lists, updated);
     let answer = called.answer;
     let tap = number_of(answer);
     let begun = shown(b"  begin: ", called);
     let read = look_up(rows, versions, buckets, lists, found, begun, tap);
     let revoked = revoke(rows, versions, buckets, lists, read);
-    io::write_all(1, b"does the tap's read stand?\n");
+    tell(b"does the tap's read stand?\n");
     shown(
         b"  validate: ",
         validate(rows, versions, buckets, lists, revoked, tap),
@@ -216,7 +221,7 @@ fn main() {
     let mut buckets = [0u64; BUCKETS_LENT];
     let mut lists = [0u64; LISTS_LENT];
     let mut found = [0u64; ROWS];
-    io::write_all(1, b"a store is opened\n");
+    tell(b"a store is opened\n");
     let m = shown(
         b"  open: ",
         open(

@@ -3,7 +3,7 @@
 use Rattle.model.proofs.Computes as model
 use Rattle.model.specs.Log as log
 use Rattle.model.specs.Report.{digitsStep, digitsFor, decimal, spaced, line}
-use Rattle.model.specs.Replay.{writeThen, call, replayFor, replayFrom, replay}
+use Rattle.model.specs.Replay.{writeThen, turn, replayFor, replayFrom, replay}
 use Rattle.table.specs.Words.{field, setField}
 use Rattle.table.specs.Regions.{words, listOf}
 use Rattle.table_buckets.specs.Buckets.{canonicalOf}
@@ -34,5 +34,5 @@ use Rattle.report_lines.specs.Lines.{writtenAt}
 
 -- all but `shapeOf` and `callOf`: what tests the shape of a whole store is opened where it is spoken of
 unfoldable pub computes : Unit {0}
-unfolding model.computes log.number log.widths log.total log.whole log.readRecord digitsStep digitsFor decimal spaced line writeThen call replayFor replayFrom replay field setField words listOf canonicalOf firstFrom lastBelow stepFrom walkFor walkFrom firstVisible holdOf captureAt writeOf collectOf missesOf placeFrom liveFrom versionKey oldKeyOf newKeyOf getsVersionOf headedBy pushOne pushAll bucketsFor writeNeeds writeChanges holdAll stampAll freeAll claimAll unclaimAll firstWhere oneMore rowsListed pendingInto kept versionsInto lastWriteOf versionStored pushedRow pushedRows toInstall installOf readsTakenIn validateOf versionsIn reservedIn lacks neededInto prepareWith prepareOf endOf postedOne postedAll stampedIn neededIn freedIn publishOf abortOf keepActive keepAll snapshotOf spent beginOf matchOf only planned recordsFor putRecords recordedOf matchedRows newRecords readingOf rowsOf releaseEvery unclaimEvery publishStep stepOf placeFor movedBy rangesFit headsFit txnFits placeFits tablesFit sweptFor cleared openOf decodedOf writtenAt
+unfolding model.computes log.number log.widths log.total log.whole log.readRecord digitsStep digitsFor decimal spaced line writeThen turn replayFor replayFrom replay field setField words listOf canonicalOf firstFrom lastBelow stepFrom walkFor walkFrom firstVisible holdOf captureAt writeOf collectOf missesOf placeFrom liveFrom versionKey oldKeyOf newKeyOf getsVersionOf headedBy pushOne pushAll bucketsFor writeNeeds writeChanges holdAll stampAll freeAll claimAll unclaimAll firstWhere oneMore rowsListed pendingInto kept versionsInto lastWriteOf versionStored pushedRow pushedRows toInstall installOf readsTakenIn validateOf versionsIn reservedIn lacks neededInto prepareWith prepareOf endOf postedOne postedAll stampedIn neededIn freedIn publishOf abortOf keepActive keepAll snapshotOf spent beginOf matchOf only planned recordsFor putRecords recordedOf matchedRows newRecords readingOf rowsOf releaseEvery unclaimEvery publishStep stepOf placeFor movedBy rangesFit headsFit txnFits placeFits tablesFit sweptFor cleared openOf decodedOf writtenAt
 computes = tt
