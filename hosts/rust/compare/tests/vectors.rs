@@ -5,7 +5,6 @@ use engine::Driver;
 #[test]
 fn every_vector_agrees() {
     let vectors = vectors::all();
-    assert_eq!(vectors.len(), 125);
     let mut driver = Driver::start();
     for vector in vectors {
         let replayed = driver.replay(&vector.log, vector.room);

@@ -5,7 +5,6 @@ const UNTOUCHED: u8 = 0xA5;
 #[test]
 fn every_vector_agrees() {
     let vectors = vectors::all();
-    assert_eq!(vectors.len(), 125);
     for vector in vectors {
         let mut report = vec![UNTOUCHED; vector.room];
         let answer = twin::replay(&vector.log, &mut report);

@@ -14,14 +14,14 @@ pub struct Vector {
 /// All of them, in the order of the file.
 ///
 /// # Panics
-/// Where the file is missing, is cut, or has more or fewer vectors than `vectors.txt` names.
+/// Where the file is missing, is cut, is empty, or has more or fewer vectors than `vectors.txt` names.
 pub fn all() -> Vec<Vector> {
     let folder = Path::new(env!("CARGO_MANIFEST_DIR")).join("../../../crates/run_cases/data");
     let words = fs::read_to_string(folder.join("vectors.txt")).expect("the vectors in words");
     let packed = fs::read(folder.join("vectors")).expect("the vectors as bytes");
     let mut rest = &packed[..];
-    let vectors = words.lines().filter_map(|line| line.strip_prefix("## ")).map(|name| next(name, &mut rest)).collect();
-    assert!(rest.is_empty(), "each vector has its name");
+    let vectors: Vec<Vector> = words.lines().filter_map(|line| line.strip_prefix("## ")).map(|name| next(name, &mut rest)).collect();
+    assert!(!vectors.is_empty() && rest.is_empty(), "each vector has its name, and there are some");
     vectors
 }
 
