@@ -158,7 +158,7 @@ judges w t v y = by (tablesFit w) refl
         ((λ e. (f, m .0 (told-judged (step (view w) (validate t) .answer) v (sym k ∙ e)))), (λ s. k ∙ ap told (m .1 (s .1))))
     by false f =
         let k : called w (validating t) .answer
-            ≡ tell.Refused (refusalNumber WrongShape) = ap (λ x. x .answer) (any-call w (validating t) y .wrong (any-call w (validating t) y .shape ∙ rw f)) in
+        ≡ tell.Refused (refusalNumber WrongShape) = ap (λ x. x .answer) (any-call w (validating t) y .wrong (any-call w (validating t) y .shape ∙ rw f)) in
         ((λ e. let q : _≡_ {A = ℕ} 0 1 = cc in absurd (omega arith)), (λ s. absurd (true≢false (sym (s .0) ∙ f))))
 
 -- ---- open
