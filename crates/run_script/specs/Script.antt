@@ -1,5 +1,6 @@
 -- A line written as a text: what is read of it, byte by byte.
 use Prim.Native.Nat.{ℕ, zero, suc, _+_, _*_, _-_, _%_, _^_}
+use Prim.Native.Char.{code}
 use mathlib.Core.Bool.{Bool, true, false, cond, _&&_, _||_}
 use mathlib.Core.List.{List, [], _∷_}
 use lib.Dec.{eqb, ltb, leb}
@@ -9,7 +10,7 @@ use Rattle.run_script.specs.declared.Line.{Line}
 
 -- the sign of a step is `:`, of a look `?`, of a change `=`
 abbrev pub isSign : ℕ → Bool
-isSign c = eqb c 58 || eqb c 63 || eqb c 61
+isSign c = eqb c (code ":") || eqb c (code "?") || eqb c (code "=")
 
 -- eight numbers stand before the sign, and eight behind it from this place on
 abbrev pub answerPlace : ℕ
@@ -45,8 +46,8 @@ signed l c = record { name = l .name; sign = c; numbers = l .numbers; at = answe
 -- one byte more: a digit, a letter, a sign, or what parts them
 unfoldable pub withByte : Line → ℕ → Line
 withByte l c =
-    cond (leb 48 c && leb c 57) (withDigit l (c - 48))
-    (cond (leb 97 c && leb c 122) (withLetter l c)
+    cond (leb (code "0") c && leb c (code "9")) (withDigit l (c - code "0"))
+    (cond (leb (code "a") c && leb c (code "z")) (withLetter l c)
     (cond (isSign c) (signed (endedLine l) c) (endedLine l)))
 
 -- n bytes more, from a place on; past the end they are 0
@@ -61,7 +62,7 @@ lineOf text from to = withBytes text from (to - from) emptyLine
 -- behind the first semicolon of what is left, which begins at a place; or where it ends
 unfoldable pub endFrom : ℕ → List ℕ → ℕ
 endFrom at [] = at
-endFrom at (c ∷ cs) = cond (eqb c 59) (suc at) (endFrom (suc at) cs)
+endFrom at (c ∷ cs) = cond (eqb c (code ";")) (suc at) (endFrom (suc at) cs)
 
 -- where the line at a place ends
 unfoldable pub stepEnd : List ℕ → ℕ → ℕ
