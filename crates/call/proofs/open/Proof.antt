@@ -6,7 +6,7 @@ use native.Mathlib.Omega.{arith}
 use native.Mathlib.Numerals.{add-one}
 use borrow.Author.Tests.{not-true, not-false}
 use Rattle.model.specs.Machine.{canOpen}
-use Rattle.step.specs.Words.{sizesView}
+use Rattle.base_protocol.specs.View.{sizesView}
 use Rattle.shape.specs.Shape.{tablesLent}
 use Rattle.call.specs.Calls.{openOf}
 use Rattle.call.proofs.Laws.{Roomy, lent-roomy}
