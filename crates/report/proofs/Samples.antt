@@ -1,6 +1,6 @@
 -- Lines of the report spelled out, as the model has them: the word and the values of every answer, and every refusal's number. Assumes nothing.
 use mathlib.Core.Path.{_≡_, refl}
-use mathlib.Core.List.{List, [], _∷_}
+use mathlib.Core.List.{[], _∷_}
 use Rattle.model.specs.Refusals.{begin, capture, collect, rows, put, erase, prepare, install, end, publish, validate, abort}
 use Rattle.model.specs.Refusals as refused
 use Rattle.model.specs.Verdict as judged

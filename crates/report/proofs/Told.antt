@@ -1,6 +1,6 @@
 -- Lines of the report spelled out, as the code has them: the word and the values of every answer. Assumes nothing.
 use mathlib.Core.Path.{_≡_, refl}
-use mathlib.Core.List.{List, [], _∷_}
+use mathlib.Core.List.{[], _∷_}
 use Rattle.model.specs.Report.{bytes, digitsStep, digitsFor, decimal, spaced, line}
 use Rattle.base_protocol.specs.declared.Step.the-variants as ask
 use Rattle.base_protocol.specs.declared.Verdict.the-variants as verdict

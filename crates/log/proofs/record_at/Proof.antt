@@ -6,7 +6,7 @@ use mathlib.Core.Path.{_≡_, sym, _∙_}
 use mathlib.Core.List.{List}
 use native.Mathlib.Omega.{arith}
 use lib.ListN.{length, drop}
-use Rattle.log.specs.Records.{lengthOf, commandIn, malformedAt, decodedOf}
+use Rattle.log.specs.Records.{commandIn, malformedAt, decodedOf}
 use Rattle.log.proofs.Known.{known-of}
 use Rattle.log.proofs.Decoding.{decoded-short, decoded-unlike, decoded-cut, decoded-whole}
 use Rattle.log.proofs.record_at.Statement.{statement}

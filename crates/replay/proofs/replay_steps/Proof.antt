@@ -3,9 +3,8 @@
 use borrow.Author.Needs.{needs}
 use Prim.Native.Nat.{ℕ, _-_, _≤_, _<_}
 use mathlib.Core.Path.{_≡_, refl, _∙_}
-use mathlib.Core.List.{List}
 use native.Mathlib.Omega.{arith}
-use lib.ListN.{length, set, length-set}
+use lib.ListN.{length, length-set}
 use Rattle.base_limits.specs.Limits.{mostRows, mostLive}
 use Rattle.model.specs.Replay.{Replayed}
 use Rattle.base_protocol.specs.declared.Step.{Step}
