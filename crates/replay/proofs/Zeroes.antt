@@ -16,7 +16,8 @@ use Rattle.model.specs.Machine.{canOpen}
 use Rattle.table.specs.Fields.{rowWords, versionWords, bucketWords}
 use Rattle.txn.specs.declared.Transaction.{Transaction}
 use Rattle.txn_places.specs.declared.Sizes.{Sizes}
-use Rattle.step.specs.Words.{Words, sizesView, freePlaces}
+use Rattle.txn_places.specs.Places.{freePlaces}
+use Rattle.step.specs.Words.{Words, sizesView}
 use Rattle.step_bridge.proofs.Opening.{Opened, opened-view, opened-stands}
 use Rattle.replay.specs.Replay.{Zeroed, openedFrom}
 use Rattle.replay.proofs.Lining.{roomIn}

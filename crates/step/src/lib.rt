@@ -1,24 +1,24 @@
 // One step: the transaction at its place, the lent tables, and what the step needs to know of the other places.
-use txn_begin::Begun;
-use txn_begin::begin;
-use finish_install::Installed;
-use finish_install::install;
-use finish_install::one_more;
-use txn_places::Others;
-use txn_places::Sizes;
-use txn_places::live_count;
-use txn_places::misses;
-use write_prepare::prepare;
-use write_prepare::validate;
+use base_numbers::one_more;
 use base_protocol::Answer;
 use base_protocol::NO_SUCH;
 use base_protocol::Step;
+use finish_install::Installed;
+use finish_install::install;
 use finish_publish::abort;
 use finish_publish::end;
 use finish_publish::publish;
 use read::rows;
 use txn::Answered;
 use txn::Transaction;
+use txn_begin::Begun;
+use txn_begin::begin;
+use txn_places::Others;
+use txn_places::Sizes;
+use txn_places::live_count;
+use txn_places::misses;
+use write_prepare::prepare;
+use write_prepare::validate;
 ghost use mathlib.Core.Path.{_≡_};
 ghost use Rattle.step.specs.Steps.{withClock, withBegun, withInstalled, clockAfter, publishStep, stepOf};
 

@@ -16,8 +16,8 @@ word-of-requires c κs = search needs
 numbers-of-requires : tie.Need-numbers-of-requires
 numbers-of-requires c κs = search needs
 
-least-requires : tie.Need-least-requires
-least-requires c κs = search needs
+lesser-usize-requires : tie.Need-lesser-usize-requires
+lesser-usize-requires c κs = search needs
 
 array-share-prefix-bytes : tie.Need-array-share-prefix-bytes
 array-share-prefix-bytes c = let eight : length (c .before .before .before .before .before .word-of .result .bytes) ≡ 8 = search needs in omega arith
@@ -32,7 +32,7 @@ slice-aggregate-write-line-2 : tie.Need-slice-aggregate-write-line-2
 slice-aggregate-write-line-2 c = let five : length (c .before .before .before .before .before .numbers-of .result .list) ≡ 5 = search needs in sym (length-take-le (c .before .before .before .before .before .numbers-of .result .count) (c .before .before .before .before .before .numbers-of .result .list) (omega arith))
 
 slice-aggregate-write-line-3 : tie.Need-slice-aggregate-write-line-3
-slice-aggregate-write-line-3 c = let k = c .before .before .before .before .least .ensures in sym (length-take-le (c .before .before .before .before .least .result) (c .before .before .before .before .before .before .before .before .before .before .before .args .rows .now) (omega arith))
+slice-aggregate-write-line-3 c = let k = c .before .before .before .before .lesser-usize .ensures in sym (length-take-le (c .before .before .before .before .lesser-usize .result) (c .before .before .before .before .before .before .before .before .before .before .before .args .rows .now) (omega arith))
 
 write-line-requires : tie.Need-write-line-requires
 write-line-requires c κs = search needs
@@ -41,7 +41,7 @@ same-length : tie.Need-same-length
 same-length c = search needs
 
 returns : tie.Need-returns
-returns c = let a = c .before .before .before .before .before .before .before .before .before .before .before .before .before .before .args in c .before .before .write-line .ensures ∙ ap (writtenAt (a .report .now) (a .at)) (line-said (a .step) (a .answer) (a .rows .now) _ (c .before .before .before .before .before .before .before .before .before .numbers-of .result) (c .before .before .before .before .before .before .before .least .result) (c .before .before .before .before .before .before .before .before .before .before .before .word-of .ensures .0) (c .before .before .before .before .before .before .before .before .before .numbers-of .ensures .0) (c .before .before .before .before .before .before .before .least .ensures))
+returns c = let a = c .before .before .before .before .before .before .before .before .before .before .before .before .before .before .args in c .before .before .write-line .ensures ∙ ap (writtenAt (a .report .now) (a .at)) (line-said (a .step) (a .answer) (a .rows .now) _ (c .before .before .before .before .before .before .before .before .before .numbers-of .result) (c .before .before .before .before .before .before .before .lesser-usize .result) (c .before .before .before .before .before .before .before .before .before .before .before .word-of .ensures .0) (c .before .before .before .before .before .before .before .before .before .numbers-of .ensures .0) (c .before .before .before .before .before .before .before .lesser-usize .ensures))
 
 pub answer-line-spec : {M : Type 1} → statement M
 answer-line-spec =
@@ -49,7 +49,7 @@ answer-line-spec =
     (tie.spec
     word-of-requires
     numbers-of-requires
-    least-requires
+    lesser-usize-requires
     array-share-prefix-bytes
     slice-aggregate-write-line
     array-share-prefix-list

@@ -36,14 +36,14 @@ add-long-2 c = search needs
 add-long-3 : tie.Need-add-long-3
 add-long-3 c = search needs
 
-least-requires : tie.Need-least-requires
-least-requires c κs = search needs
+lesser-usize-requires : tie.Need-lesser-usize-requires
+lesser-usize-requires c κs = search needs
 
 returns-4 : tie.Need-returns-4
-returns-4 c = let a = c .before .before .before .before .before .before .before .before .before .before .before .args in let r = c .before .least .ensures in let long = line-two-long (a .word .now) (a .numbers .now) (a .rows .now) in written-full (a .report .now) (a .at) _ (omega arith)
+returns-4 c = let a = c .before .before .before .before .before .before .before .before .before .before .before .args in let r = c .before .lesser-usize .ensures in let long = line-two-long (a .word .now) (a .numbers .now) (a .rows .now) in written-full (a .report .now) (a .at) _ (omega arith)
 
 returns-5 : tie.Need-returns-5
-returns-5 c = let a = c .before .before .before .before .before .before .before .before .before .before .before .before .args in let v = c .before .before .before .before .spaced-width .ensures .0 in let w = c .before .before .before .spaced-width2 .ensures .0 in let r = c .before .before .least .ensures in let long = line-two-long (a .word .now) (a .numbers .now) (a .rows .now) in written-full (a .report .now) (a .at) _ (omega arith)
+returns-5 c = let a = c .before .before .before .before .before .before .before .before .before .before .before .before .args in let v = c .before .before .before .before .spaced-width .ensures .0 in let w = c .before .before .before .spaced-width2 .ensures .0 in let r = c .before .before .lesser-usize .ensures in let long = line-two-long (a .word .now) (a .numbers .now) (a .rows .now) in written-full (a .report .now) (a .at) _ (omega arith)
 
 sub-put-line : tie.Need-sub-put-line
 sub-put-line c = search needs
@@ -55,7 +55,7 @@ part-put-line-end : tie.Need-part-put-line-end
 part-put-line-end c = search needs
 
 put-line-requires : tie.Need-put-line-requires
-put-line-requires c κs = let a = c .before .before .before .before .before .before .before .before .before .before .before .before .before .args in let v = c .before .before .before .before .before .spaced-width .ensures .0 in let w = c .before .before .before .before .spaced-width2 .ensures .0 in let r = c .before .before .before .least .ensures in let long = line-two-long (a .word .now) (a .numbers .now) (a .rows .now) in omega arith
+put-line-requires c κs = let a = c .before .before .before .before .before .before .before .before .before .before .before .before .before .args in let v = c .before .before .before .before .before .spaced-width .ensures .0 in let w = c .before .before .before .before .spaced-width2 .ensures .0 in let r = c .before .before .before .lesser-usize .ensures in let long = line-two-long (a .word .now) (a .numbers .now) (a .rows .now) in omega arith
 
 add-t13 : tie.Need-add-t13
 add-t13 c = search needs
@@ -64,7 +64,7 @@ same-length : tie.Need-same-length
 same-length c = search needs
 
 returns-6 : tie.Need-returns-6
-returns-6 c = let a = c .before .before .before .before .before .before .before .before .before .before .before .before .before .before .before .before .args in let v = c .before .before .before .before .before .before .before .before .spaced-width .ensures .0 in let w = c .before .before .before .before .before .before .before .spaced-width2 .ensures .0 in let r = c .before .before .before .before .before .before .least .ensures in
+returns-6 c = let a = c .before .before .before .before .before .before .before .before .before .before .before .before .before .before .before .before .args in let v = c .before .before .before .before .before .before .before .before .spaced-width .ensures .0 in let w = c .before .before .before .before .before .before .before .spaced-width2 .ensures .0 in let r = c .before .before .before .before .before .before .lesser-usize .ensures in
     let long = line-two-long (a .word .now) (a .numbers .now) (a .rows .now) in
     let text = line (a .word .now) (a .numbers .now ++ a .rows .now) in
     let n : length (a .word .now) + c .before .before .before .before .before .before .before .before .spaced-width .result + c .before .before .before .before .before .before .before .spaced-width2 .result + 1 ≡ length text = omega arith in
@@ -83,7 +83,7 @@ write-line-spec =
     spaced-width-requires-2
     add-long-2
     add-long-3
-    least-requires
+    lesser-usize-requires
     returns-4
     returns-5
     sub-put-line
