@@ -21,7 +21,7 @@ use Rattle.txn_places.specs.declared.Others.{Others}
 use Rattle.txn_places.specs.Places.{wantedOf, placeIn}
 use Rattle.step.specs.Steps.{Moved, stepOf}
 use Rattle.step.specs.Words.{othersIn, placeFor, movedBy}
-use Rattle.step_bridge.proofs.Places.{default-any}
+use Rattle.txn_places.proofs.Laws.{default-any}
 use Rattle.shape.specs.Shape.{tablesLent, tablesFit, shapeOf, wordsOf}
 use Rattle.shape.specs.declared.Machine.{Machine}
 use Rattle.call.specs.declared.Called.{Called}

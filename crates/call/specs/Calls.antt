@@ -17,7 +17,8 @@ use Rattle.txn.specs.declared.Transaction.{Transaction}
 use Rattle.table_sweeps.specs.Sweeps.{releaseEvery, unclaimEvery}
 use Rattle.step.specs.declared.Stepped.{Stepped}
 use Rattle.step.specs.Steps.{Moved}
-use Rattle.step.specs.Words.{Words, freePlaces, placeFor, movedBy, tablesAfter}
+use Rattle.txn_places.specs.Places.{freePlaces}
+use Rattle.step.specs.Words.{Words, placeFor, movedBy, tablesAfter}
 use Rattle.shape.specs.Shape.{tablesLent, shapeOf, wordsOf}
 use Rattle.shape.specs.declared.Machine.{Machine}
 use Rattle.call.specs.declared.Called.{Called}

@@ -28,20 +28,22 @@ use Rattle.txn.specs.View.{phaseView, rowsPart, versionsPart, bucketsPart, chai
 use Rattle.txn.specs.Methods.{idleOf, refusedOf}
 use Rattle.txn.specs.declared.Transaction.{Transaction}
 use Rattle.txn_needs.specs.Needs.{rowsWritten}
-use Rattle.txn_needs.specs.Holders.{freeAll, unclaimAll}
-use Rattle.finish_install.specs.Install.{oneMore}
+use Rattle.table.specs.Fields.{clearHolders, clearClaims}
+use Rattle.base_numbers.specs.Numbers.{oneMore}
+use Rattle.base_numbers.proofs.Laws.{one-up}
 use Rattle.finish_publish.specs.Publish.{publishOf, abortOf}
 use Rattle.table_sweeps.specs.Sweeps.{releaseEvery, unclaimEvery}
 use Rattle.step.specs.Steps.{Moved, publishStep, publishedFrom, inPublished, inAborted}
 use Rattle.step.specs.Words.{Words, view, txnAt, placeFor, Sized}
 use Rattle.step_bridge.proofs.Places.{default-any, standing, live-at}
+use Rattle.txn_places.proofs.Laws.{default-any}
 use Rattle.step_bridge.proofs.Placed.{unmoved}
 use Rattle.step_bridge.proofs.Same.{two-held, SameAt, SameAs, Same, refused-same, by-place-as}
 use Rattle.step_bridge.proofs.Shaped.{Shaped, shaped}
 use Rattle.step_bridge.proofs.Tabled.{part}
-use Rattle.step_bridge.proofs.Freeing.{freedAt, free-all, unclaim-all, free-all-length, unclaim-all-length}
+use Rattle.step_bridge.proofs.Freeing.{freedAt, clear-all, clear-length}
 use Rattle.step_bridge.proofs.Needing.{row-in}
-use Rattle.step_bridge.proofs.Pushing.{one-up, install-same}
+use Rattle.step_bridge.proofs.Pushing.{install-same}
 use Rattle.step_bridge.proofs.Aborting.{late-test, freedList, freed-in, freed-buckets, abort-chains, abort-index, ended-at}
 use Rattle.step_bridge.proofs.Publishing.{rowsAfter, bucketsAfter, stamped, stamped-is, freed-is, rows-long, buckets-long, publish-chains, publish-index, holders-freed, claims-freed, clock-below}
 use Rattle.step_bridge.proofs.Writing.{end-same, put-same, erase-same}
@@ -110,8 +112,9 @@ module _ (w : Words) (z : Sized w) (g : Shaped w) (n : ℕ) where
       (cond b (record { reply = refusedOf (txnAt w (standing w n)) (refusalNumber WrongPhase); rows = w .tables .rows; buckets = w .tables .buckets })
       (record {
         reply = record { answer = tell.Done; txn = idleOf (txnAt w (standing w n) .slot) };
-        rows = unclaimAll (w .tables .rows) (txnAt w (standing w n) .number) (rowsWritten (w .tables .lists) (txnAt w (standing w n) .slot) (txnAt w (standing w n) .«writes_n»));
-        buckets = freeAll (w .tables .buckets) (txnAt w (standing w n) .number) (freedList w (standing w n));
+        rows = clearClaims (w .tables .rows) (txnAt w (standing w n) .number)
+            (rowsWritten (w .tables .lists) (txnAt w (standing w n) .slot) (txnAt w (standing w n) .«writes_n»));
+        buckets = clearHolders (w .tables .buckets) (txnAt w (standing w n) .number) (freedList w (standing w n));
       }))
       (w .clock) (w .used) (w .tables)))
       (carried (view w) (asked (ask.Abort n)) (cond b (some WrongPhase) none))
@@ -122,8 +125,10 @@ module _ (w : Words) (z : Sized w) (g : Shaped w) (n : ℕ) where
       let v = txnAt w q .number in
       let rs = rowsWritten (w .tables .lists) (txnAt w q .slot) (txnAt w q .«writes_n») in
       swept-at w z q l a _ _ tell.Done machine.Done (w .clock) (w .clock) _ _ _ refl (abort-chains w v rs) (abort-index w v rs (freedList w q))
-      (swept-freed w z q l a _ _ rs (freedList w q) (free-all (w .sizes .buckets) v (w .tables .buckets) (freedList w q) (freed-in w z g q a) (z .buckets)) (unclaim-all (w .sizes .rows) v (w .tables .rows) rs (λ r m. row-in w z g q a r m) (z .rows)))
-      (unclaim-all-length (w .sizes .rows) v (w .tables .rows) rs) (free-all-length (w .sizes .buckets) v (w .tables .buckets) (freedList w q)) refl refl
+      (swept-freed w z q l a _ _ rs (freedList w q)
+      (clear-all 2 1 (omega arith) (w .sizes .buckets) v (w .tables .buckets) (freedList w q) (freed-in w z g q a) (z .buckets))
+      (clear-all 4 1 (omega arith) (w .sizes .rows) v (w .tables .rows) rs (λ r m. row-in w z g q a r m) (z .rows)))
+      (clear-length 4 1 v (w .tables .rows) rs) (clear-length 2 1 v (w .tables .buckets) (freedList w q)) refl refl
 
   abort-called : SameAs w (ask.Abort n) (calledBy w (ask.Abort n))
   unfolding refusal abortOf

@@ -14,14 +14,14 @@ use Rattle.base_lists.specs.Table.{cond-elim}
 use Rattle.base_lists.proofs.ListLaws.{among-left, among-right, among-last}
 use Rattle.model.specs.Store as model
 use Rattle.model.specs.Steps.{release, freed}
-use Rattle.table.specs.Words.{field}
+use Rattle.table.specs.Words.{field, clearFields}
 use Rattle.table.proofs.Parts.{part-past}
 use Rattle.txn.specs.View.{rowsPart, bucketsPart, chainsView, indexView, heldView}
-use Rattle.txn_needs.specs.Holders.{freeAll, unclaimAll}
+use Rattle.table.specs.Fields.{clearHolders, clearClaims}
 use Rattle.table_sweeps.specs.Sweeps.{releaseEvery, unclaimEvery}
 use Rattle.step_bridge.proofs.Same.{two-held}
 use Rattle.step_bridge.proofs.Tabled.{part, InRange}
-use Rattle.step_bridge.proofs.Freeing.{freedAt, freed-release, free-all, unclaim-all, free-all-other, unclaim-all-other, free-all-length, unclaim-all-length}
+use Rattle.step_bridge.proofs.Freeing.{freedAt, freed-release, clear-all, clear-other, clear-length}
 
 -- the numbers below a bound
 abbrev below : ℕ → List ℕ
@@ -37,26 +37,21 @@ among-below zero i h = absurd (omega arith)
 among-below (suc n) i h = elim (decLt i n) [ yes l ↦ among-left i (below n) (n ∷ []) (among-below n i l) | no l ↦ among-right i (below n) (n ∷ []) (inl (omega (arith, l))) ]
 
 -- a sweep frees one after another
+clear-append : (w k v : ℕ) (xs is js : List ℕ) → clearFields w k xs v (is ++ js) ≡ clearFields w k (clearFields w k xs v is) v js
+unfolding clearFields
+clear-append w k v xs [] js = refl
+clear-append w k v xs (i ∷ is) js = clear-append w k v _ is js
+
 module _ (v : ℕ) where
-  free-append : (xs bs cs : List ℕ) → freeAll xs v (bs ++ cs) ≡ freeAll (freeAll xs v bs) v cs
-  unfolding freeAll
-  free-append xs [] cs = refl
-  free-append xs (b ∷ bs) cs = free-append _ bs cs
-
-  pub release-all : (n : ℕ) (xs : List ℕ) → releaseEvery xs n v ≡ freeAll xs v (below n)
-  unfolding releaseEvery freeAll
+  pub release-all : (n : ℕ) (xs : List ℕ) → releaseEvery xs n v ≡ clearHolders xs v (below n)
+  unfolding releaseEvery clearFields
   release-all zero xs = refl
-  release-all (suc n) xs = rw (release-all n xs) (sym (free-append xs (below n) (n ∷ [])))
+  release-all (suc n) xs = rw (release-all n xs) (sym (clear-append 2 1 v xs (below n) (n ∷ [])))
 
-  unclaim-append : (xs bs cs : List ℕ) → unclaimAll xs v (bs ++ cs) ≡ unclaimAll (unclaimAll xs v bs) v cs
-  unfolding unclaimAll
-  unclaim-append xs [] cs = refl
-  unclaim-append xs (b ∷ bs) cs = unclaim-append _ bs cs
-
-  pub unclaim-all-below : (n : ℕ) (xs : List ℕ) → unclaimEvery xs n v ≡ unclaimAll xs v (below n)
-  unfolding unclaimEvery unclaimAll
+  pub unclaim-all-below : (n : ℕ) (xs : List ℕ) → unclaimEvery xs n v ≡ clearClaims xs v (below n)
+  unfolding unclaimEvery clearFields
   unclaim-all-below zero xs = refl
-  unclaim-all-below (suc n) xs = rw (unclaim-all-below n xs) (sym (unclaim-append xs (below n) (n ∷ [])))
+  unclaim-all-below (suc n) xs = rw (unclaim-all-below n xs) (sym (clear-append 4 1 v xs (below n) (n ∷ [])))
 
 -- an entry past the part carries no number
 part-below : (s k n : ℕ) (xs : List ℕ) (v : ℕ) → 1 ≤ v → (j : ℕ) → field s k (part s n xs) j ≡ v → Among j (below n)
@@ -78,23 +73,26 @@ module _ (z : model.Sizes) (v : ℕ) (l : 1 ≤ v) (rows buckets : List ℕ) whe
   swept-held r b =
       rw (release-all v (z .buckets) buckets, unclaim-all-below v (z .rows) rows)
       (two-held _ _ _ _
-      (free-all (z .buckets) v buckets (below (z .buckets)) (below-in (z .buckets)) b ∙ freed-release v _ (below (z .buckets)) (part-below 2 1 (z .buckets) buckets v l))
-      (unclaim-all (z .rows) v rows (below (z .rows)) (below-in (z .rows)) r ∙ freed-release v _ (below (z .rows)) (part-below 4 1 (z .rows) rows v l)))
+      (clear-all 2 1 (omega arith) (z .buckets) v buckets (below (z .buckets)) (below-in (z .buckets)) b
+      ∙ freed-release v _ (below (z .buckets)) (part-below 2 1 (z .buckets) buckets v l))
+      (clear-all 4 1 (omega arith) (z .rows) v rows (below (z .rows)) (below-in (z .rows)) r
+      ∙ freed-release v _ (below (z .rows)) (part-below 4 1 (z .rows) rows v l)))
 
   pub swept-chains : (versions : List ℕ) (used : ℕ) → chainsView (rowsPart z (unclaimEvery rows (z .rows) v)) versions used ≡ chainsView (rowsPart z rows) versions used
-  swept-chains versions used = rw (unclaim-all-below v (z .rows) rows, unclaim-all-other (z .rows) v rows (below (z .rows)) 0 (omega arith) (omega arith))
+  swept-chains versions used =
+      rw (unclaim-all-below v (z .rows) rows, clear-other 4 1 (omega arith) (z .rows) v rows (below (z .rows)) 0 (omega arith) (omega arith))
 
   pub swept-index : indexView (rowsPart z (unclaimEvery rows (z .rows) v)) (bucketsPart z (releaseEvery buckets (z .buckets) v)) ≡ indexView (rowsPart z rows) (bucketsPart z buckets)
   swept-index = rw (
     release-all v (z .buckets) buckets,
     unclaim-all-below v (z .rows) rows,
-    unclaim-all-other (z .rows) v rows (below (z .rows)) 2 (omega arith) (omega arith),
-    unclaim-all-other (z .rows) v rows (below (z .rows)) 3 (omega arith) (omega arith),
-    free-all-other (z .buckets) v buckets (below (z .buckets)),
+    clear-other 4 1 (omega arith) (z .rows) v rows (below (z .rows)) 2 (omega arith) (omega arith),
+    clear-other 4 1 (omega arith) (z .rows) v rows (below (z .rows)) 3 (omega arith) (omega arith),
+    clear-other 2 1 (omega arith) (z .buckets) v buckets (below (z .buckets)) 0 (omega arith) (omega arith),
   )
 
   pub swept-rows-long : length (unclaimEvery rows (z .rows) v) ≡ length rows
-  swept-rows-long = rw (unclaim-all-below v (z .rows) rows) (unclaim-all-length (z .rows) v rows (below (z .rows)))
+  swept-rows-long = rw (unclaim-all-below v (z .rows) rows) (clear-length 4 1 v rows (below (z .rows)))
 
   pub swept-buckets-long : length (releaseEvery buckets (z .buckets) v) ≡ length buckets
-  swept-buckets-long = rw (release-all v (z .buckets) buckets) (free-all-length (z .buckets) v buckets (below (z .buckets)))
+  swept-buckets-long = rw (release-all v (z .buckets) buckets) (clear-length 2 1 v buckets (below (z .buckets)))

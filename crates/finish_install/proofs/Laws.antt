@@ -6,19 +6,13 @@ use mathlib.Core.Bool.{true}
 use mathlib.Core.List.{List}
 use lib.Dec.{eqb}
 use lib.ListN.{take, replicate}
-use Rattle.base_limits.specs.Limits.{mostBuckets, mostWrites}
+use Rattle.base_limits.specs.Limits.{mostWrites}
 use Rattle.model.specs.Store.{rank}
-use Rattle.table_buckets.specs.Buckets.{Made, canonicalOf}
 use Rattle.txn.specs.View.{phaseView}
 use Rattle.txn.specs.declared.Transaction.{Transaction}
-use Rattle.txn_needs.specs.Needs.{Listed, pushAll, rowsWritten}
-use Rattle.finish_install.specs.Install.{Chains, listed, rowsListed, pendingInto, versionsInto, pushedRows, toInstall, installed, installOf}
-
--- rows listed, then sorted
-pub pending-made : (lists : List ℕ) (slot n : ℕ) (out : List ℕ) (st : Listed) (made : Made) → st ≡ pushAll (record { out = replicate mostWrites 0; n = 0 }) (rowsWritten lists slot n)
-    → made ≡ canonicalOf (take (st .n) (st .out)) mostBuckets out → listed made ≡ pendingInto lists slot n out
-unfolding pendingInto rowsListed
-pending-made lists slot n out st made e m = rw (m, e)
+use Rattle.txn_needs.specs.Needs.{Listed}
+use Rattle.txn_needs.specs.Versions.{versionsInto}
+use Rattle.finish_install.specs.Install.{Chains, pushedRows, toInstall, installed, installOf}
 
 -- the right phase, the rows, and their versions
 pub install-made : (lists : List ℕ) (t : Transaction) (c c′ : Chains) (st : Listed) → eqb (rank (phaseView (t .phase))) 4 ≡ true → st ≡ versionsInto (c .rows) (c .versions) lists (t .slot) (t .«writes_n») (replicate mostWrites 0)

@@ -1,13 +1,13 @@
--- Install: the distinct pending rows ascending, and a new version for each.
-use Prim.Native.Nat.{ℕ, _+_}
+-- Install: a new version for each of the pending rows that get one.
+use Prim.Native.Nat.{ℕ}
 use mathlib.Core.Bool.{cond, not}
 use mathlib.Core.List.{List, [], _∷_}
-use lib.Dec.{eqb, ltb}
-use lib.ListN.{take, replicate}
-use Rattle.base_limits.specs.Limits.{mostBuckets, mostWrites, lastNumber}
-use Rattle.base_lists.specs.Lists.{join}
+use lib.Dec.{eqb}
+use lib.ListN.{replicate}
+use Rattle.base_limits.specs.Limits.{mostWrites}
 use Rattle.model.specs.Store.{rank, phasePrepared}
 use Rattle.model.specs.Refusals.{WrongPhase, refusalNumber}
+use Rattle.base_numbers.specs.Numbers.{oneMore}
 use Rattle.base_protocol.specs.declared.Answer.the-variants as tell
 use Rattle.table.specs.Fields.{headOf, setHead, setXmin, setXmax, setNext, setKeyed, setKey, setPayload}
 use Rattle.table.specs.Lists.{writeAt}
@@ -15,45 +15,13 @@ use Rattle.table.specs.declared.lists.Write.{Write}
 use Rattle.table_scans.specs.Scans.{latestPending}
 use Rattle.table_scans.specs.declared.Found.{Found}
 use Rattle.table_scans.specs.declared.Found.the-variants.{At, Nothing}
-use Rattle.table_buckets.specs.Buckets.{Made, canonicalOf}
-use Rattle.table_buckets.specs.declared.Canonical.{Canonical}
-use Rattle.table_buckets.specs.declared.Canonical.the-variants.{Sorted, Bad, NoRoom}
 use Rattle.txn.specs.View.{phaseView}
 use Rattle.txn.specs.Methods.{withPhase}
 use Rattle.txn.specs.declared.Phase.the-variants as phase
 use Rattle.txn.specs.declared.Transaction.{Transaction}
-use Rattle.txn_needs.specs.Keys.{getsVersionOf}
-use Rattle.txn_needs.specs.Needs.{Listed, pushAll, rowsWritten, front}
+use Rattle.txn_needs.specs.Needs.{Listed, front}
+use Rattle.txn_needs.specs.Versions.{versionsInto}
 use Rattle.finish_install.specs.declared.Installed.{Installed}
-
--- one more, but the very last number stays
-unfoldable pub oneMore : ℕ → ℕ
-oneMore x = cond (ltb x lastNumber) (x + 1) x
-
--- how many numbers a kernel listed
-abbrev pub sortedCount : Canonical → ℕ
-sortedCount (Sorted n) = n
-sortedCount (Bad b) = 0
-sortedCount NoRoom = 0
-
-abbrev pub listed : Made → Listed
-listed m = record { out = m .out; n = sortedCount (m .answer) }
-
--- the rows of the pending writes in sixteen words
-unfoldable pub rowsListed : List ℕ → ℕ → ℕ → Listed
-rowsListed lists slot n = pushAll (record { out = replicate mostWrites 0; n = 0 }) (rowsWritten lists slot n)
-
--- the distinct rows of the pending writes, ascending, at the front of a list
-unfoldable pub pendingInto : List ℕ → ℕ → ℕ → List ℕ → Listed
-pendingInto lists slot n out = listed (canonicalOf (take (rowsListed lists slot n .n) (rowsListed lists slot n .out)) mostBuckets out)
-
--- a row, where it gets a version
-unfoldable pub kept : List ℕ → List ℕ → List ℕ → ℕ → ℕ → ℕ → List ℕ
-kept rows versions lists slot n r = cond (getsVersionOf rows versions lists slot n r) (r ∷ []) []
-
--- the distinct rows of the pending writes that get a version, ascending, at the front of a list
-unfoldable pub versionsInto : List ℕ → List ℕ → List ℕ → ℕ → ℕ → List ℕ → Listed
-versionsInto rows versions lists slot n out = pushAll (record { out = out; n = 0 }) (join (kept rows versions lists slot n) (front (pendingInto lists slot n (replicate mostWrites 0))))
 
 -- a row's last pending write; an erase where it has none
 abbrev pub writeFound : List ℕ → ℕ → ℕ → Found → Write

@@ -1,22 +1,10 @@
 // Install: for each distinct pending row that gets a version, ascending, one from its last write.
-use table_buckets::Canonical;
-use table_buckets::canonical_buckets_sort;
-use txn_needs::gets_version;
-use base_limits::LAST_NUMBER;
-use base_limits::MOST_BUCKETS;
-use base_limits::MOST_WRITES;
+use base_numbers::one_more;
 use base_protocol::Answer;
 use base_protocol::WRONG_PHASE;
-use txn::PREPARED;
-use txn::Phase;
-use txn::Transaction;
-use txn::phase_rank;
-use table_scans::Found;
-use table_scans::latest_pending;
 use table::head_at;
 use table::lists::Write;
 use table::lists::write_at;
-use table::lists::write_row_at;
 use table::set_head;
 use table::set_key;
 use table::set_keyed;
@@ -24,124 +12,23 @@ use table::set_next;
 use table::set_payload;
 use table::set_xmax;
 use table::set_xmin;
+use table_scans::Found;
+use table_scans::latest_pending;
+use txn::PREPARED;
+use txn::Phase;
+use txn::Transaction;
+use txn::phase_rank;
+use txn_needs::versions::MOST_PENDING;
+use txn_needs::versions::version_rows;
 ghost use mathlib.Core.Path.{_≡_};
-ghost use Prim.Native.Nat.{_≤_};
-ghost use lib.ListN.{length, take};
-ghost use Rattle.base_lists.specs.Lists.{join};
-ghost use Rattle.txn_needs.specs.Needs.{pushAll, rowsWritten};
-ghost use Rattle.finish_install.specs.Install.{sortedCount, pendingInto, kept, versionsInto, lastWriteOf, oneMore, versionStored, pushedRow, pushedRows, installOf};
-
-// Words for the rows of all pending writes of a transaction.
-pub const MOST_PENDING: usize = MOST_WRITES as usize;
+ghost use lib.ListN.{take};
+ghost use Rattle.finish_install.specs.Install.{lastWriteOf, versionStored, pushedRow, pushedRows, installOf};
 
 // What install leaves beside the tables.
 pub struct Installed {
     pub answer: Answer,
     pub txn: Transaction,
     pub used: u64,
-}
-
-// One more, but the very last number stays.
-pub fn one_more(x: u64) -> u64
-    ensures { λ r. ⌜ r ≡ oneMore x ⌝ }
-{
-    if x < LAST_NUMBER {
-        return x + 1;
-    }
-    x
-}
-
-// How many numbers a kernel listed.
-fn sorted_count(made: Canonical) -> usize
-    ensures { λ r. ⌜ r ≡ sortedCount made ⌝ }
-{
-    match made {
-        Canonical::Sorted(n) => n,
-        Canonical::Bad(_) => 0,
-        Canonical::NoRoom => 0,
-    }
-}
-
-// The rows of the pending writes, as they stand.
-fn push_rows(lists: &[u64], slot: u32, count: u32, out: &mut [u64]) -> usize
-    ensures { λ r. ⌜ (record { out = now (out .exit); n = r } ≡ pushAll (record { out = now (out .entry); n = 0 }) (rowsWritten (now (lists .entry)) slot count)) × (r ≤ length (now (out .exit))) ⌝ }
-{
-    let mut n = 0;
-    let mut i: u32 = 0;
-    while i < count {
-        n = txn_needs::push(out, n, write_row_at(lists, slot, i));
-        i += 1;
-    }
-    n
-}
-
-// The distinct rows of the pending writes go ascending to the front of `out`; tells how many they are.
-pub fn pending_rows(lists: &[u64], slot: u32, count: u32, out: &mut [u64]) -> usize
-    ensures { λ r. ⌜ record { out = now (out .exit); n = r } ≡ pendingInto (now (lists .entry)) slot count (now (out .entry)) ⌝ }
-{
-    let mut rows = [0u64; MOST_PENDING];
-    let n = push_rows(lists, slot, count, &mut rows);
-    sorted_count(canonical_buckets_sort(&rows[..n], MOST_BUCKETS, out))
-}
-
-// One row goes to a list where it gets a version.
-fn keep_row(
-    rows: &[u64],
-    versions: &[u64],
-    lists: &[u64],
-    slot: u32,
-    count: u32,
-    row: u64,
-    out: &mut [u64],
-    n: usize,
-) -> usize
-    ensures { λ r. ⌜ record { out = now (out .exit); n = r } ≡ pushAll (record { out = now (out .entry); n = n }) (kept (now (rows .entry)) (now (versions .entry)) (now (lists .entry)) slot count row) ⌝ }
-{
-    if gets_version(rows, versions, lists, slot, count, row) {
-        return txn_needs::push(out, n, row);
-    }
-    n
-}
-
-// The same for the first n rows of a list.
-fn keep_rows(
-    rows: &[u64],
-    versions: &[u64],
-    lists: &[u64],
-    slot: u32,
-    count: u32,
-    list: &[u64],
-    n: usize,
-    out: &mut [u64],
-) -> usize
-    ensures { λ r. ⌜ record { out = now (out .exit); n = r } ≡ pushAll (record { out = now (out .entry); n = 0 }) (join (kept (now (rows .entry)) (now (versions .entry)) (now (lists .entry)) slot count) (take n (now (list .entry)))) ⌝ }
-{
-    let mut m = 0;
-    let mut i = 0;
-    while i < list.len() {
-        if n <= i {
-            return m;
-        }
-        m = keep_row(rows, versions, lists, slot, count, list[i], out, m);
-        i += 1;
-    }
-    m
-}
-
-// The distinct rows of the pending writes that get a version go ascending to the front of `out`; tells how many they are.
-pub fn version_rows(
-    rows: &[u64],
-    versions: &[u64],
-    lists: &[u64],
-    slot: u32,
-    count: u32,
-    out: &mut [u64],
-) -> usize
-    ensures { λ r. ⌜ record { out = now (out .exit); n = r } ≡ versionsInto (now (rows .entry)) (now (versions .entry)) (now (lists .entry)) slot count (now (out .entry)) ⌝ }
-{
-    let mut list = [0u64; MOST_PENDING];
-    let n = pending_rows(lists, slot, count, &mut list);
-    keep_rows(rows, versions, lists, slot, count, &list, n, out)
 }
 
 // The last pending write of a row; an erase where it has none.

@@ -7,7 +7,6 @@ use Rattle.base_limits.specs.Limits.{mostIndexReads, mostWrites}
 use Rattle.model.specs.Store.{rank, phaseInstalled, phaseEnded, bucketIn}
 use Rattle.model.specs.Refusals.{WrongPhase, refusalNumber}
 use Rattle.base_protocol.specs.declared.Answer.the-variants as tell
-use Rattle.table.specs.Fields.{setPosted, setPostedKey}
 use Rattle.txn.specs.View.{phaseView}
 use Rattle.txn.specs.Methods.{idleOf, withPhase, refusedOf}
 use Rattle.txn.specs.declared.Phase.the-variants as phase
@@ -15,7 +14,7 @@ use Rattle.txn.specs.declared.Transaction.{Transaction}
 use Rattle.txn.specs.declared.Answered.{Answered}
 use Rattle.txn_needs.specs.Keys.{newKeyOf}
 use Rattle.txn_needs.specs.Needs.{listedIn, front, readsNeed, rowsWritten, writesNeed, writesChange}
-use Rattle.txn_needs.specs.Holders.{freeAll, stampAll, unclaimAll}
+use Rattle.table.specs.Fields.{setPosted, setPostedKey, setStamps, clearHolders, clearClaims}
 
 -- end: wrong phase; else Ended
 unfoldable pub endOf : Transaction → Answered
@@ -36,14 +35,16 @@ mostHeld = mostIndexReads + mostWrites + mostWrites + 1
 
 -- the buckets of the pending rows whose key changed get the stamp
 unfoldable pub stampedIn : List ℕ → List ℕ → List ℕ → ℕ → ℕ → ℕ → ℕ → ℕ → List ℕ → List ℕ
-stampedIn rows versions lists count number slot n stamp buckets = stampAll buckets stamp (front (listedIn mostHeld (writesChange rows versions lists count number slot n)))
+stampedIn rows versions lists count number slot n stamp buckets =
+    setStamps buckets stamp (front (listedIn mostHeld (writesChange rows versions lists count number slot n)))
 
 -- what a transaction needs of the buckets
 unfoldable pub neededIn : List ℕ → List ℕ → List ℕ → ℕ → Bool → ℕ → ℕ → ℕ → ℕ → List ℕ
 neededIn rows versions lists count installed bucket slot reads writes = (bucket ∷ []) ++ readsNeed lists slot reads ++ writesNeed rows versions lists count installed slot writes
 
 unfoldable pub freedIn : List ℕ → List ℕ → List ℕ → ℕ → Bool → ℕ → ℕ → ℕ → ℕ → ℕ → List ℕ → List ℕ
-freedIn rows versions lists count installed bucket slot reads writes number buckets = freeAll buckets number (front (listedIn mostHeld (neededIn rows versions lists count installed bucket slot reads writes)))
+freedIn rows versions lists count installed bucket slot reads writes number buckets =
+    clearHolders buckets number (front (listedIn mostHeld (neededIn rows versions lists count installed bucket slot reads writes)))
 
 -- an answer, rows and buckets
 pub record Left : Type 0 where
@@ -57,7 +58,8 @@ publishOf versions lists count clock t rows buckets =
     cond (not (eqb (rank (phaseView (t .phase))) phaseEnded)) (record { reply = refusedOf t (refusalNumber WrongPhase); rows = rows; buckets = buckets })
     (record {
       reply = record { answer = tell.Stamp clock; txn = idleOf (t .slot) };
-      rows = unclaimAll (postedAll lists (t .slot) (t .«writes_n») rows (rowsWritten lists (t .slot) (t .«writes_n»))) (t .number) (rowsWritten lists (t .slot) (t .«writes_n»));
+      rows = clearClaims (postedAll lists (t .slot) (t .«writes_n») rows (rowsWritten lists (t .slot) (t .«writes_n»))) (t .number)
+          (rowsWritten lists (t .slot) (t .«writes_n»));
       buckets = freedIn rows versions lists count true (bucketIn (phaseView (t .phase))) (t .slot) (t .«reads_n») (t .«writes_n») (t .number) (stampedIn rows versions lists count (t .number) (t .slot) (t .«writes_n») clock buckets);
     })
 
@@ -67,6 +69,6 @@ abortOf versions lists count t rows buckets =
     cond (leb phaseInstalled (rank (phaseView (t .phase)))) (record { reply = refusedOf t (refusalNumber WrongPhase); rows = rows; buckets = buckets })
     (record {
       reply = record { answer = tell.Done; txn = idleOf (t .slot) };
-      rows = unclaimAll rows (t .number) (rowsWritten lists (t .slot) (t .«writes_n»));
+      rows = clearClaims rows (t .number) (rowsWritten lists (t .slot) (t .«writes_n»));
       buckets = freedIn rows versions lists count false (bucketIn (phaseView (t .phase))) (t .slot) (t .«reads_n») (t .«writes_n») (t .number) buckets;
     })

@@ -1,16 +1,12 @@
 // End, publish and abort: a transaction's last steps.
-use txn_needs::new_key;
-use txn_needs::push;
-use txn_needs::push_changes;
-use txn_needs::push_reads;
-use txn_needs::push_writes;
-use txn_needs::release_all;
-use txn_needs::stamp_all;
-use txn_needs::unclaim_all;
 use base_limits::MOST_INDEX_READS;
 use base_limits::MOST_WRITES;
 use base_protocol::Answer;
 use base_protocol::WRONG_PHASE;
+use table::lists::write_row_at;
+use table::set_posted;
+use table::set_posted_key;
+use table::set_stamps;
 use txn::Answered;
 use txn::ENDED;
 use txn::INSTALLED;
@@ -20,9 +16,13 @@ use txn::bucket_in;
 use txn::idle;
 use txn::phase_rank;
 use txn::refused;
-use table::lists::write_row_at;
-use table::set_posted;
-use table::set_posted_key;
+use txn_needs::new_key;
+use txn_needs::push;
+use txn_needs::push_changes;
+use txn_needs::push_reads;
+use txn_needs::push_writes;
+use txn_needs::release_all;
+use txn_needs::unclaim_all;
 ghost use mathlib.Core.Path.{_≡_};
 ghost use Rattle.txn_needs.specs.Needs.{rowsWritten};
 ghost use Rattle.finish_publish.specs.Publish.{endOf, postedOne, postedAll, stampedIn, freedIn, publishOf, abortOf};
@@ -90,7 +90,7 @@ fn stamp_changes(
         &mut list,
         0,
     );
-    stamp_all(buckets, &list, n, stamp);
+    set_stamps(buckets, &list, n, stamp);
 }
 
 // Frees what the transaction needs of the buckets: the one that Holding carries, the index reads', the old and the new keys'.

@@ -1,11 +1,11 @@
 // The rows that a read looks at: candidates joined with own pending rows.
 use base_limits::MOST_ROWS;
 use base_limits::MOST_WRITES;
-use txn::Transaction;
-use table_scans::clip;
+use base_numbers::lesser_u32;
 use table::lists::candidate_at;
 use table::lists::write_row_at;
 use table::set_word;
+use txn::Transaction;
 ghost use mathlib.Core.Path.{_≡_};
 ghost use Prim.Native.Nat.{_≤_, _<_};
 ghost use Rattle.base_limits.specs.Limits.{mostRows};
@@ -27,7 +27,7 @@ fn keep_below(out: &mut [u64], n: usize, row: u64, bound: u64) -> usize
 fn copy_candidates(lists: &[u64], out: &mut [u64], slot: u32, count: u32, bound: u64) -> usize
     ensures { λ r. ⌜ record { n = r; words = now (out .exit) } ≡ copied (now (out .entry)) 0 bound (candidateRows (now (lists .entry)) slot count) ⌝ }
 {
-    let most = clip(count, MOST_ROWS as u32);
+    let most = lesser_u32(count, MOST_ROWS as u32);
     let mut n = 0;
     let mut i: u32 = 0;
     while i < most {
@@ -49,7 +49,7 @@ fn copy_pending(
     requires { ⌜ from ≤ mostRows ⌝ }
     ensures { λ r. ⌜ record { n = r; words = now (out .exit) } ≡ copied (now (out .entry)) from bound (writtenRows (now (lists .entry)) slot count) ⌝ }
 {
-    let most = clip(count, MOST_WRITES);
+    let most = lesser_u32(count, MOST_WRITES);
     let mut n = from;
     let mut i: u32 = 0;
     while i < most {

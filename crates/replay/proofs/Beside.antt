@@ -12,7 +12,7 @@ use Rattle.txn_places.specs.declared.Others.{Others}
 use Rattle.txn_places.specs.Places.{wantedOf, placeIn, activeNumber, preparedCount}
 use Rattle.step.specs.Steps.{Moved, stepOf}
 use Rattle.step.specs.Words.{Words, othersIn, placeFor, movedBy}
-use Rattle.step_bridge.proofs.Places.{default-any}
+use Rattle.txn_places.proofs.Laws.{default-any}
 
 map-set : {A B : Type 0} (f : A → B) (l : List A) (i : ℕ) (a : A) → map f (set l i a) ≡ set (map f l) i (f a)
 map-set f [] i a = refl

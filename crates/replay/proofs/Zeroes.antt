@@ -17,7 +17,8 @@ use Rattle.base_protocol.specs.declared.Sizes.{Sizes}
 use Rattle.base_protocol.specs.View.{sizesView}
 use Rattle.table.specs.Fields.{rowWords, versionWords, bucketWords}
 use Rattle.txn.specs.declared.Transaction.{Transaction}
-use Rattle.step.specs.Words.{Words, freePlaces}
+use Rattle.txn_places.specs.Places.{freePlaces}
+use Rattle.step.specs.Words.{Words}
 use Rattle.step_bridge.proofs.Opening.{Opened, opened-view, opened-stands}
 use Rattle.replay.specs.Replay.{Zeroed, openedFrom}
 use Rattle.replay.proofs.Lining.{roomIn}

@@ -1,10 +1,10 @@
 // The report: the line of an open, of a malformed log, and of every step's answer.
+use base_numbers::lesser_usize;
 use base_protocol::Answer;
 use base_protocol::MALFORMED;
 use base_protocol::Step;
 use report_answers::numbers_of;
 use report_lines::Wrote;
-use report_lines::least;
 use report_lines::write_line;
 ghost use mathlib.Core.Path.{_≡_};
 ghost use Prim.Native.Nat.{_≤_};
@@ -104,6 +104,6 @@ pub fn answer_line(report: &mut [u8], at: usize, step: Step, answer: Answer, row
     let numbers = numbers_of(answer);
     let list = numbers.list;
     let count = numbers.count;
-    let n = least(numbers.rows, rows.len());
+    let n = lesser_usize(numbers.rows, rows.len());
     write_line(report, at, &bytes[..long], &list[..count], &rows[..n])
 }

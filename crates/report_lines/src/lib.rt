@@ -1,7 +1,8 @@
 // Lines of a word and numbers in the lent report, each written from where the last one ended.
+use base_numbers::lesser_usize;
 ghost use mathlib.Core.Path.{_≡_};
 ghost use mathlib.Core.List.{_++_};
-ghost use Prim.Native.Nat.{_+_, _*_, _≤_, min};
+ghost use Prim.Native.Nat.{_+_, _*_, _≤_};
 ghost use lib.ListN.{length};
 ghost use Rattle.model.specs.Report.{decimal, spaced, line};
 ghost use Rattle.model.specs.Replay.{mostRoom};
@@ -93,13 +94,6 @@ fn put_line(rest: &mut [u8], word: &[u8], numbers: &[u64], rows: &[u64])
     rest[end] = b'\n';
 }
 
-// The lesser of two lengths.
-pub fn least(a: usize, b: usize) -> usize
-    ensures { λ r. ⌜ r ≡ min a b ⌝ }
-{
-    if a < b { a } else { b }
-}
-
 // Writes a word, then numbers and rows, from `at` on, or nothing where the line does not fit.
 pub fn write_line(report: &mut [u8], at: usize, word: &[u8], numbers: &[u64], rows: &[u64]) -> Wrote
     ensures { λ r. ⌜ record { wrote = r; report = now (report .exit) }
@@ -115,7 +109,7 @@ pub fn write_line(report: &mut [u8], at: usize, word: &[u8], numbers: &[u64], ro
         return Wrote::Full;
     }
     let long = word.len() + spaced_width(numbers) + spaced_width(rows) + 1;
-    let room = least(report.len(), MOST_ROOM);
+    let room = lesser_usize(report.len(), MOST_ROOM);
     if at > room {
         return Wrote::Full;
     }

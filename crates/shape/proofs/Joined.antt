@@ -2,50 +2,47 @@
 -- Assumes nothing.
 use Prim.Native.Nat.{ℕ, zero, suc, _+_, _*_, _≤_, _<_}
 use mathlib.Core.Path.{_≡_, refl, sym, ap, _∙_}
-use mathlib.Core.Bool.{Bool, true, false, cond, not, _&&_, _||_}
+use mathlib.Core.Bool.{Bool, true, false, not, _&&_, _||_}
 use mathlib.Core.Logic.{inl, inr}
-use mathlib.Core.Option.{none}
 use mathlib.Core.List.{List, [], _∷_, _++_, map}
-use native.Mathlib.Nat.{zero-add}
 use native.Mathlib.Omega.{arith}
 use lib.Dec.{eqb, ltb, leb}
-use lib.ListN.{length, take, drop, getD, replicate, length-map, length-take, List·getD-map}
-use lib.Seq.{take-at}
+use lib.ListN.{length, take, getD, length-take}
 use borrow.Author.Tests.{eqb-true, ltb-true, leb-true, le-leb}
 use Rattle.base_limits.specs.Limits.{mostLive, mostActive, mostIndexReads, mostWrites, mostRows, lastNumber}
-use Rattle.base_lists.specs.Lists.{pick, every, all-of, Among}
+use Rattle.base_lists.specs.Lists.{every, all-of, Among}
 use Rattle.base_lists.proofs.ListLaws.{and-l, and-r, same-test, each-all, every-each}
 use Rattle.model.specs.Store as model
-use Rattle.model.specs.Seeing.{live, keyAt}
+use Rattle.model.specs.Seeing.{live}
 use Rattle.model.specs.Steps as steps
-use Rattle.model.specs.Steps.{pendingRows, oldKey, getsVersion, versionRows}
-use Rattle.model.specs.Refusals.{liveCount, reservedBy, reserved}
+use Rattle.model.specs.Steps.{pendingRows, getsVersion}
+use Rattle.model.specs.Refusals.{reserved}
 use Rattle.model.specs.Shape.{within, goodSizes, goodChains, goodCounts, goodRanges, goodHeads, goodTxn, distinctNumbers, rightShape}
 use Rattle.model.proofs.Ranges.{good-sized}
+use Rattle.table.specs.Fields as fields
 use Rattle.base_protocol.specs.declared.Sizes.{Sizes}
 use Rattle.base_protocol.specs.View.{sizesView}
-use Rattle.table.specs.Fields as fields
 use Rattle.table.specs.Fields.{headOf, nextOf}
 use Rattle.table.specs.Lists.{Kind, reads, writes, records, startOf, readOf, writeOf, recordOf, candidateOf, candidates, entryAt, listAt}
 use Rattle.table.specs.Regions.{words, listOf}
 use Rattle.table.specs.declared.lists.Write.{Write}
 use Rattle.table.proofs.Parts.{part-field}
 use Rattle.table.proofs.Spans.{list-length, list-map}
-use Rattle.table_buckets.proofs.Sorted.{buckets-no-longer}
-use Rattle.txn.specs.View.{keyView, phaseView, readView, writeView, recordView, txnView, rowsPart, versionsPart, chainsView}
-use Rattle.txn.specs.Methods.{idleOf}
+use Rattle.txn.specs.View.{phaseView, readView, writeView, recordView, txnView}
 use Rattle.txn.specs.declared.Transaction.{Transaction}
-use Rattle.txn_needs.specs.Keys.{keyOf, versionKey, oldKeyOf, headedBy}
+use Rattle.txn_needs.specs.Keys.{headedBy}
 use Rattle.txn_needs.specs.Needs.{rowsWritten}
-use Rattle.write_prepare.specs.Prepare.{versionsIn, reservedIn}
-use Rattle.txn_places.specs.Places.{preparedCount, liveIn}
+use Rattle.write_prepare.specs.Prepare.{reservedIn}
+use Rattle.txn_places.specs.Places.{liveIn}
 use Rattle.step.specs.Words.{Words, txnAt, view, othersIn}
+use Rattle.txn_needs.specs.Versions.{reservedIn}
 use Rattle.step_bridge.proofs.Places.{number-at}
 use Rattle.step_bridge.proofs.Listing.{all-each, every-at}
-use Rattle.step_bridge.proofs.Starting.{nonzero, pick-nonzero, live-nonzero}
+use Rattle.step_bridge.proofs.Beginning.{live-same}
+use Rattle.step_bridge.proofs.Headed.{Headed, WritesIn, chainsIn, headed-same, old-key-same}
 use Rattle.step_bridge.proofs.Needing.{written-pending, pending-written}
-use Rattle.step_bridge.proofs.Distinct.{sorted-pending, listed-pending, gets-same, version-count, versions-fewer}
-use Rattle.step_bridge.proofs.Preparing.{none-reserved}
+use Rattle.step_bridge.proofs.Distinct.{gets-same}
+use Rattle.step_bridge.proofs.Reserving.{reserved-same}
 use Rattle.shape.specs.Shape.{tablesLent, inPlace, allInPlace, tablesFit, shapeOf}
 use Rattle.shape_chains.specs.Links.{chainsFit}
 use Rattle.shape_txn.specs.Fits.{countsFit, writesIn, rangesFit, rowFits, headsFit, leastOf, txnFits, placeFits}
@@ -135,28 +132,16 @@ module _ (xs : List ℕ) (t : Transaction) where
   rows-below n e r m = ltb-true r n (all-each (λ v. ltb v n) (rowsWritten xs (t .slot) (t .«writes_n»)) (entries (λ (w : Write). w .row) writeOf writes xs (t .slot) (t .«writes_n») (λ v. ltb v n) ∙ e) r m)
 
 -- where pointers are in the part of the table that its size names
-module _ (rows versions xs : List ℕ) (z : Sizes) (used : ℕ) (room : used ≤ z .versions) (heads : (r : ℕ) → r < z .rows → headOf rows r ≤ used) (t : Transaction) where
+module _ (rows versions xs : List ℕ) (z : Sizes) (used : ℕ) (g : Headed (sizesView z) rows used) (t : Transaction) where
   abbrev chains : model.Chains
-  chains = chainsView (rowsPart (sizesView z) rows) (versionsPart (sizesView z) versions) used
-
-  headed-same : (r : ℕ) → r < z .rows → steps.headedBy chains (t .number) r ≡ headedBy rows versions (t .number) r
-  unfolding steps.headedBy headedBy
-  headed-same r h = rw (part-field 4 0 (z .rows) rows r (omega arith) h, part-field 6 0 (suc (z .versions)) versions (headOf rows r) (omega arith) (omega (arith, heads r h)))
-
-  -- the key of a row's head
-  pub head-key : (r : ℕ) → r < z .rows → keyOf (oldKeyOf rows versions false r) ≡ oldKey chains r
-  unfolding oldKeyOf versionKey keyAt
-  head-key r h =
-      rw (part-field 4 0 (z .rows) rows r (omega arith) h, part-field 6 3 (suc (z .versions)) versions (headOf rows r) (omega arith) (omega (arith, heads r h)), part-field 6 4 (suc (z .versions)) versions (headOf rows r) (omega arith) (omega (arith, heads r h)))
-      (by (eqb (headOf rows r) 0))
-    where
-      by : (b : Bool) → keyOf (cond b (record { keyed = 0; key = 0 }) (record { keyed = fields.keyedOf versions (headOf rows r); key = fields.keyOf versions (headOf rows r) }))
-          ≡ cond b none (keyView (fields.keyedOf versions (headOf rows r)) (fields.keyOf versions (headOf rows r)))
-      by true = refl
-      by false = refl
+  chains = chainsIn (sizesView z) rows versions used
 
   row-same : t .«writes_n» ≤ mostWrites → (r : ℕ) → r < z .rows → steps.headedBy chains (t .number) r || not (getsVersion chains (txnView xs t .writes) r) ≡ rowFits rows versions xs (t .slot) (t .«writes_n») (t .number) r
-  row-same few r h = rw (headed-same r h, gets-same rows versions xs t chains r few (head-key r h))
+  row-same few r h =
+      rw (
+        headed-same (sizesView z) rows versions used g (t .number) r h,
+        gets-same rows versions xs t chains r few (old-key-same (sizesView z) rows versions used g r h),
+      )
 
   heads-same : t .«writes_n» ≤ mostWrites → writesIn xs (t .slot) (t .«writes_n») (z .rows) ≡ true → goodHeads (sizesView z) chains (txnView xs t) ≡ headsFit rows versions xs t
   unfolding goodHeads headsFit
@@ -191,21 +176,6 @@ module _ (rows versions xs : List ℕ) (z : Sizes) (clock used : ℕ) (t : Trans
   writes-fit : writesIn xs (t .slot) (t .«writes_n») (z .rows) ≡ true
   writes-fit = writes-true xs t z used (and-r (seenFits clock t && countsFit t) (rangesFit xs z used t) front-fits)
 
--- how many versions a Prepared transaction has reserved
-module _ (rows versions xs : List ℕ) (z : Sizes) (used : ℕ) (room : used ≤ z .versions) (heads : (r : ℕ) → r < z .rows → headOf rows r ≤ used) (t : Transaction) where
-  versions-count : z .rows ≤ 256 → t .«writes_n» ≤ mostWrites → writesIn xs (t .slot) (t .«writes_n») (z .rows) ≡ true
-      → versionsIn rows versions xs (t .slot) (t .«writes_n») ≡ length (versionRows (sizesView z) (chains rows versions xs z used room heads t) (txnView xs t .writes))
-  unfolding versionsIn
-  versions-count most few e =
-      let c = chains rows versions xs z used room heads t in
-      let rs = rowsWritten xs (t .slot) (t .«writes_n») in
-      let ps = pendingRows (sizesView z) (txnView xs t .writes) in
-      let below = rows-below xs t (z .rows) e in
-      let n = entries-length (λ (w : Write). w .row) writeOf writes xs (t .slot) (t .«writes_n») in
-      let into = listed-pending xs (t .slot) (t .«writes_n») (sizesView z) below (omega arith) (omega (arith, n)) in
-      let m : length (versionRows (sizesView z) c (txnView xs t .writes)) ≤ mostWrites = omega (arith, versions-fewer (sizesView z) c (txnView xs t .writes), ap length (sorted-pending xs (t .slot) (t .«writes_n») (sizesView z) below), buckets-no-longer rs, n) in
-      rw (version-count rows versions xs t (sizesView z) c few (head-key rows versions xs z used room heads t) (rw into (take-at ps (drop (length ps) (replicate mostWrites 0)) (length ps) refl)) m) (omega arith)
-
 -- ---- the whole
 
 -- the tests in the order of the code
@@ -218,7 +188,7 @@ tested w =
     && txnsFit (w .tables .rows) (w .tables .versions) (w .tables .lists) (w .sizes) (w .clock) (w .used) (w .txns)
     && allDistinct (othersIn (w .txns) .numbers)
     && leb (w .clock + liveIn (othersIn (w .txns) .numbers)) lastNumber
-    && leb (w .used + reservedIn (w .tables .rows) (w .tables .versions) (w .tables .lists) (othersIn (w .txns) .prepared)) (w .sizes .versions))
+    && leb (w .used + reservedIn (w .tables .rows) (w .tables .versions) (w .tables .lists) (othersIn (w .txns) .prepared) mostLive) (w .sizes .versions))
 
 module _ (w : Words) where
   chains-same : goodChains (sizesView (w .sizes)) (view w .chains) ≡ chainsFit (w .tables .rows) (w .tables .versions) (w .sizes) (w .used)
@@ -231,6 +201,16 @@ module _ (w : Words) where
       let room = leb-true (w .used) (w .sizes .versions) (and-l _ _ e) in
       every-same (w .used) (λ p. ltb (view w .chains .next (suc p)) (suc p)) (λ p. ltb (nextOf (w .tables .versions) (suc p)) (suc p)) (λ p h. rw (part-field 6 2 (suc (w .sizes .versions)) (w .tables .versions) (suc p) (omega arith) (omega arith))))
 
+  -- no head is past the last used pointer
+  fits-headed : chainsFit (w .tables .rows) (w .tables .versions) (w .sizes) (w .used) ≡ true → Headed (sizesView (w .sizes)) (w .tables .rows) (w .used)
+  fits-headed k =
+      let test : ℕ → Bool = λ r. leb (headOf (w .tables .rows) r) (w .used) in
+      let first = and-l (leb (w .used) (w .sizes .versions) && every (w .sizes .rows) test) _ k in
+      record {
+        room = leb-true (w .used) (w .sizes .versions) (and-l _ _ first);
+        heads = λ r l. leb-true _ (w .used) (every-at (w .sizes .rows) test (and-r (leb (w .used) (w .sizes .versions)) _ first) r l);
+      }
+
   module _ (eight : length (w .txns) ≡ mostLive) where
     distinct-same : distinctNumbers (view w .txns) ≡ allDistinct (othersIn (w .txns) .numbers)
     unfolding distinctNumbers
@@ -239,14 +219,6 @@ module _ (w : Words) where
         go : (i n : ℕ) (b : Bool) → every i (λ j. not (not b) || not (eqb n (txnAt w j .number))) ≡ b || unlike (othersIn (w .txns) .numbers) i n
         go i n true = every-each i _ (λ j l. refl)
         go i n false = every-same i (λ j. not (eqb n (txnAt w j .number))) (λ j. not (eqb n (getD (othersIn (w .txns) .numbers) j 0))) (λ j l. rw (number-at (w .txns) j))
-
-    live-same : liveIn (othersIn (w .txns) .numbers) ≡ liveCount (view w .txns)
-    unfolding liveCount
-    live-same =
-        let ns = othersIn (w .txns) .numbers in
-        let n : length ns ≡ mostLive = length-map (w .txns) (λ (t : Transaction). t .number) ∙ eight in
-        let e = pick-nonzero (λ i. txnAt w i .number) (λ i. live (view w .txns i)) 0 ns (λ i h. rw (zero-add i, number-at (w .txns) i)) (λ i h q. rw (zero-add i, number-at (w .txns) i)) in
-        live-nonzero 0 ns ∙ (zero-add (length (nonzero ns)) ∙ (sym (ap length e) ∙ (length-map (pick (λ i. live (view w .txns i)) 0 (length ns)) (λ i. txnAt w i .number) ∙ ap (λ (m : ℕ). length (pick (λ i. live (view w .txns i)) 0 m)) n)))
 
   module _ (places : allInPlace (w .txns) ≡ true) where
     place-in : (i : ℕ) → i < mostLive → inPlace i (txnAt w i) ≡ true
@@ -266,11 +238,12 @@ module _ (w : Words) where
     unfolding goodTxn txnFits
     txn-same k i h =
         let t = txnAt w i in
-        let first = and-l (leb (w .used) (w .sizes .versions) && every (w .sizes .rows) (λ r. leb (headOf (w .tables .rows) r) (w .used))) _ k in
-        let heads : (r : ℕ) → r < w .sizes .rows → headOf (w .tables .rows) r ≤ w .used = λ r l. leb-true _ (w .used) (every-at (w .sizes .rows) (λ r. leb (headOf (w .tables .rows) r) (w .used)) (and-r (leb (w .used) (w .sizes .versions)) _ first) r l) in
         and-same _ _ _ _
-        (and-same _ _ _ _ (and-same (seenFits (w .clock) t) _ _ _ refl (λ e. counts-same (w .tables .lists) t (few-active i h))) (λ e. ranges-same (w .tables .lists) t (w .sizes) (w .used)))
-        (λ e. heads-same (w .tables .rows) (w .tables .versions) (w .tables .lists) (w .sizes) (w .used) (leb-true (w .used) (w .sizes .versions) (and-l _ _ first)) heads t (few-in (w .clock) (w .tables .lists) (w .sizes) (w .used) t e) (writes-true (w .tables .lists) t (w .sizes) (w .used) (and-r (seenFits (w .clock) t && countsFit t) _ e)))
+        (and-same _ _ _ _ (and-same (seenFits (w .clock) t) _ _ _ refl (λ e. counts-same (w .tables .lists) t (few-active i h)))
+        (λ e. ranges-same (w .tables .lists) t (w .sizes) (w .used)))
+        (λ e. heads-same (w .tables .rows) (w .tables .versions) (w .tables .lists) (w .sizes) (w .used) (fits-headed k) t
+        (few-in (w .clock) (w .tables .lists) (w .sizes) (w .used) t e)
+        (writes-true (w .tables .lists) t (w .sizes) (w .used) (and-r (seenFits (w .clock) t && countsFit t) _ e)))
 
     txns-same : chainsFit (w .tables .rows) (w .tables .versions) (w .sizes) (w .used) ≡ true
         → every mostLive (λ i. not (live (view w .txns i)) || goodTxn (view w) (view w .txns i)) ≡ txnsFit (w .tables .rows) (w .tables .versions) (w .tables .lists) (w .sizes) (w .clock) (w .used) (w .txns)
@@ -281,39 +254,28 @@ module _ (w : Words) where
         go true x y e = refl
         go false x y e = e
 
-    module _ (sizes : goodSizes (sizesView (w .sizes)) ≡ true) (chainsGood : chainsFit (w .tables .rows) (w .tables .versions) (w .sizes) (w .used) ≡ true) (txns : txnsFit (w .tables .rows) (w .tables .versions) (w .tables .lists) (w .sizes) (w .clock) (w .used) (w .txns) ≡ true) where
-      first : leb (w .used) (w .sizes .versions) && every (w .sizes .rows) (λ r. leb (headOf (w .tables .rows) r) (w .used)) ≡ true
-      first = and-l (leb (w .used) (w .sizes .versions) && every (w .sizes .rows) (λ r. leb (headOf (w .tables .rows) r) (w .used))) _ chainsGood
-
-      room : w .used ≤ w .sizes .versions
-      room = leb-true (w .used) (w .sizes .versions) (and-l _ _ first)
-
-      heads : (r : ℕ) → r < w .sizes .rows → headOf (w .tables .rows) r ≤ w .used
-      heads r l = leb-true _ (w .used) (every-at (w .sizes .rows) (λ r. leb (headOf (w .tables .rows) r) (w .used)) (and-r (leb (w .used) (w .sizes .versions)) _ first) r l)
-
-      live-fits : (i : ℕ) → i < mostLive → eqb (txnAt w i .number) 0 ≡ false → txnFits (w .tables .rows) (w .tables .versions) (w .tables .lists) (w .sizes) (w .clock) (w .used) (txnAt w i) ≡ true
+    -- what is reserved, by the tests made before
+    module _ (sizes : goodSizes (sizesView (w .sizes)) ≡ true) (good : chainsFit (w .tables .rows) (w .tables .versions) (w .sizes) (w .used) ≡ true)
+        (txns : txnsFit (w .tables .rows) (w .tables .versions) (w .tables .lists) (w .sizes) (w .clock) (w .used) (w .txns) ≡ true) where
+      live-fits : (i : ℕ) → i < mostLive → eqb (txnAt w i .number) 0 ≡ false
+          → txnFits (w .tables .rows) (w .tables .versions) (w .tables .lists) (w .sizes) (w .clock) (w .used) (txnAt w i) ≡ true
       unfolding placeFits
-      live-fits i h e = rw e at (every-at mostLive (λ i. placeFits (w .tables .rows) (w .tables .versions) (w .tables .lists) (w .sizes) (w .clock) (w .used) (txnAt w i)) txns i h)
+      live-fits i h e =
+          rw e at (every-at mostLive
+          (λ i. placeFits (w .tables .rows) (w .tables .versions) (w .tables .lists) (w .sizes) (w .clock) (w .used) (txnAt w i)) txns i h)
 
-      count-same : (i : ℕ) → i < mostLive → eqb (txnAt w i .number) 0 ≡ false → versionsIn (w .tables .rows) (w .tables .versions) (w .tables .lists) i (txnAt w i .«writes_n») ≡ length (versionRows (sizesView (w .sizes)) (view w .chains) (view w .txns i .writes))
-      count-same i h e =
+      live-writes : (i : ℕ) → i < mostLive → eqb (txnAt w i .number) 0 ≡ false → WritesIn (sizesView (w .sizes)) (w .tables .lists) (txnAt w i)
+      live-writes i h e =
           let t = txnAt w i in
           let fits = live-fits i h e in
-          ap (λ (j : ℕ). versionsIn (w .tables .rows) (w .tables .versions) (w .tables .lists) j (t .«writes_n»)) (sym (own-slot i h))
-          ∙ versions-count (w .tables .rows) (w .tables .versions) (w .tables .lists) (w .sizes) (w .used) room heads t (good-sized (sizesView (w .sizes)) sizes .rows-most) (few-writes _ _ (w .tables .lists) (w .sizes) (w .clock) (w .used) t fits) (writes-fit _ _ (w .tables .lists) (w .sizes) (w .clock) (w .used) t fits)
+          record {
+            few = few-writes _ _ (w .tables .lists) (w .sizes) (w .clock) (w .used) t fits;
+            below = rows-below (w .tables .lists) t (w .sizes .rows) (writes-fit _ _ (w .tables .lists) (w .sizes) (w .clock) (w .used) t fits);
+          }
 
-      reserved-one : (i : ℕ) → i < mostLive → versionsIn (w .tables .rows) (w .tables .versions) (w .tables .lists) i (getD (othersIn (w .txns) .prepared) i 0) ≡ reservedBy (sizesView (w .sizes)) (view w .chains) (view w .txns i)
-      unfolding reservedBy
-      reserved-one i h = rw (List·getD-map (λ (t : Transaction). preparedCount (t .number) (t .phase) (t .«writes_n»)) (w .txns) i (idleOf i)) (go (eqb (txnAt w i .number) 0) refl (eqb (model.rank (phaseView (txnAt w i .phase))) 4))
-        where
-          go : (b : Bool) → eqb (txnAt w i .number) 0 ≡ b → (c : Bool) → versionsIn (w .tables .rows) (w .tables .versions) (w .tables .lists) i (cond b 0 (cond c (txnAt w i .«writes_n») 0)) ≡ cond (not b && c) (length (versionRows (sizesView (w .sizes)) (view w .chains) (view w .txns i .writes))) 0
-          go true e c = none-reserved (w .tables .rows) (w .tables .versions) (w .tables .lists) i
-          go false e false = none-reserved (w .tables .rows) (w .tables .versions) (w .tables .lists) i
-          go false e true = count-same i h e
-
-      reserved-same : reservedIn (w .tables .rows) (w .tables .versions) (w .tables .lists) (othersIn (w .txns) .prepared) ≡ reserved (sizesView (w .sizes)) (view w .chains) (view w .txns) mostLive
-      unfolding reservedIn reserved
-      reserved-same = omega (arith, reserved-one 0 (omega arith), reserved-one 1 (omega arith), reserved-one 2 (omega arith), reserved-one 3 (omega arith), reserved-one 4 (omega arith), reserved-one 5 (omega arith), reserved-one 6 (omega arith), reserved-one 7 (omega arith))
+      others-same : reservedIn (w .tables .rows) (w .tables .versions) (w .tables .lists) (othersIn (w .txns) .prepared) mostLive
+          ≡ reserved (sizesView (w .sizes)) (view w .chains) (view w .txns) mostLive
+      others-same = reserved-same w (fits-headed good) (omega (arith, good-sized (sizesView (w .sizes)) sizes .rows-most)) own-slot live-writes
 
   -- the code's test is the model's, both ways
   pub shape-tested : length (w .txns) ≡ mostLive → shapeOf w ≡ tested w
@@ -332,8 +294,9 @@ module _ (w : Words) where
       (and-same sizes _ _ _ refl (λ e. chains-same))
       (λ e. txns-same places (and-r sizes chains e)))
       (λ e. distinct-same eight))
-      (λ e. ap (λ (n : ℕ). leb (w .clock + n) lastNumber) (sym (live-same eight))))
+      (λ e. ap (λ (n : ℕ). leb (w .clock + n) lastNumber) (sym (live-same w eight))))
       (λ e.
       let front : sizes && chains && txns ≡ true = and-l _ _ (and-l _ _ e) in
       let good = and-l (goodSizes (sizesView (w .sizes))) (leb 1 (w .clock)) (and-l sizes chains (and-l (sizes && chains) txns front)) in
-      ap (λ (n : ℕ). leb (w .used + n) (w .sizes .versions)) (sym (reserved-same places good (and-r sizes chains (and-l (sizes && chains) txns front)) (and-r (sizes && chains) txns front)))))
+      ap (λ (n : ℕ). leb (w .used + n) (w .sizes .versions))
+      (sym (others-same places good (and-r sizes chains (and-l (sizes && chains) txns front)) (and-r (sizes && chains) txns front)))))

@@ -1,26 +1,16 @@
--- A sum within a limit, the record at a place, and lists that are filled place by place.
+-- The record at a place, and lists that are filled place by place.
 -- Assumes nothing.
 use Prim.Native.Nat.{ℕ, _+_, _-_, _<_, _≤_}
-use mathlib.Core.Path.{_≡_, refl, sym, ap, _∙_}
-use mathlib.Core.Bool.{Bool, true, false}
+use mathlib.Core.Path.{_≡_, sym, ap, _∙_}
+use mathlib.Core.Bool.{Bool}
 use mathlib.Core.List.{List, map}
 use native.Mathlib.Numerals.{add-one}
 use native.Mathlib.Omega.{arith}
-use lib.Dec.{leb}
-use borrow.Author.Tests.{leb-true, leb-false, le-leb, lt-leb}
 use lib.ListN.{length, take, getD, set, length-map, List·getD-map}
 use lib.Seq.{take-all, take-suc, take-suc-set}
 use Rattle.txn.specs.Methods.{idleOf}
 use Rattle.txn.specs.declared.Transaction.{Transaction}
-use Rattle.step_bridge.proofs.Places.{default-any}
-
--- a sum within a limit, by what is left of the limit
-pub sum-leb : (a b limit : ℕ) → a ≤ limit → leb b (limit - a) ≡ leb (a + b) limit
-sum-leb a b limit h = by (leb b (limit - a)) refl
-  where
-    by : (t : Bool) → leb b (limit - a) ≡ t → t ≡ leb (a + b) limit
-    by true e = sym (le-leb (a + b) limit (omega (arith, leb-true b (limit - a) e)))
-    by false e = sym (lt-leb (a + b) limit (omega (arith, leb-false b (limit - a) e)))
+use Rattle.txn_places.proofs.Laws.{default-any}
 
 -- the record read at a place, whatever stands past the eighth
 pub place-any : (ts : List Transaction) (i : ℕ) (d : Transaction) → i < length ts → getD ts i d ≡ getD ts i (idleOf i)

@@ -1,26 +1,26 @@
 // The shape that public steps test first: the model's test, and that the lent tables and the records' slots fit.
-use shape_txn::counts_fit;
-use shape_txn::place_fits;
 use base_limits::LAST_NUMBER;
 use base_limits::MOST_ACTIVE;
 use base_limits::MOST_LIVE;
 use base_protocol::Sizes;
+use base_numbers::sum_within;
 use shape_chains::chains_fit;
 use shape_open::good_sizes;
-use txn_places::Others;
-use txn_places::active_number;
-use txn_places::live_count;
-use txn_places::prepared_count;
-use write_prepare::reserved;
-use txn::Transaction;
+use shape_txn::counts_fit;
+use shape_txn::place_fits;
 use table::BUCKET_WORDS;
 use table::ROW_WORDS;
 use table::VERSION_WORDS;
 use table::lists::SLOT_WORDS;
+use txn::Transaction;
+use txn_needs::versions::reserved;
+use txn_places::Others;
+use txn_places::active_number;
+use txn_places::live_count;
+use txn_places::prepared_count;
 ghost use mathlib.Core.Path.{_≡_};
 ghost use mathlib.Core.List.{[]};
-ghost use Prim.Native.Nat.{_+_, _<_, _≤_};
-ghost use lib.Dec.{leb};
+ghost use Prim.Native.Nat.{_<_, _≤_};
 ghost use Rattle.base_limits.specs.Limits.{mostLive};
 ghost use Rattle.step.specs.Words.{othersIn};
 ghost use Rattle.shape.specs.Shape.{tablesLent, inPlace, allInPlace, shapeOf, wordsOf};
@@ -167,16 +167,6 @@ fn distinct_numbers(numbers: [u64; MOST_LIVE]) -> bool
         i += 1;
     }
     true
-}
-
-// Whether two numbers together are at most a limit.
-fn sum_within(a: u64, b: u64, limit: u64) -> bool
-    ensures { λ r. ⌜ r ≡ leb (a + b) limit ⌝ }
-{
-    if limit < a {
-        return false;
-    }
-    b <= limit - a
 }
 
 // Whether the machine and its lent tables have the shape that every step asks for.

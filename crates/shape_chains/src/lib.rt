@@ -3,18 +3,7 @@ use base_protocol::Sizes;
 use table::head_at;
 use table::next_at;
 ghost use mathlib.Core.Path.{_≡_};
-ghost use Rattle.model.specs.Shape as model;
 ghost use Rattle.shape_chains.specs.Links.{headsIn, nextsFall, chainsFit};
-
-// Whether a number is from 1 to the most.
-pub fn within(n: u64, most: u64) -> bool
-    ensures { λ r. ⌜ r ≡ model.within n most ⌝ }
-{
-    if n < 1 {
-        return false;
-    }
-    n <= most
-}
 
 // Whether heads are at most the last used pointer.
 fn heads_in(rows_table: &[u64], count: u64, used: u64) -> bool

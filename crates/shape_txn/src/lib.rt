@@ -1,22 +1,22 @@
 // What the shape asks of one transaction's record and its lists.
-use txn_needs::gets_version;
-use txn_needs::headed_by;
 use base_limits::MOST_INDEX_READS;
 use base_limits::MOST_RECORDS;
 use base_limits::MOST_ROWS;
 use base_limits::MOST_WRITES;
 use base_protocol::Sizes;
-use shape_chains::within;
 use txn::INSTALLED;
 use txn::Transaction;
 use txn::bucket_in;
 use txn::phase_rank;
 use table_scans::least_of;
+use base_numbers::within;
 use table::lists::candidate_at;
 use table::lists::read_bucket_at;
 use table::lists::record_ptr_at;
 use table::lists::record_row_at;
 use table::lists::write_row_at;
+use txn_needs::gets_version;
+use txn_needs::headed_by;
 ghost use mathlib.Core.Path.{_≡_};
 ghost use Rattle.shape_txn.specs.Fits.{countsFit, writesIn, recordIn, recordsIn, candidatesIn, readsIn, rangesFit, rowFits, rowsHeaded, headsFit, txnFits, placeFits};
 

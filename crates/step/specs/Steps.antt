@@ -3,6 +3,7 @@ use Prim.Native.Nat.{ℕ}
 use mathlib.Core.Bool.{cond}
 use mathlib.Core.List.{List}
 use Rattle.model.specs.Refusals.{NoSuch, refusalNumber}
+use Rattle.base_numbers.specs.Numbers.{oneMore}
 use Rattle.base_protocol.specs.declared.Step.{Step}
 use Rattle.base_protocol.specs.declared.Step.the-variants as ask
 use Rattle.base_protocol.specs.declared.Answer.{Answer}
@@ -34,7 +35,7 @@ withInstalled i clock = record { answer = i .answer; txn = i .txn; clock = clock
 
 -- clock up by 1 where a stamp was given
 abbrev pub clockAfter : Answer → ℕ → ℕ
-clockAfter (tell.Stamp n) clock = install.oneMore clock
+clockAfter (tell.Stamp n) clock = oneMore clock
 clockAfter tell.Done clock = clock
 clockAfter (tell.Number n) clock = clock
 clockAfter (tell.Count n) clock = clock

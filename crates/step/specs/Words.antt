@@ -1,7 +1,7 @@
 -- A whole store in words, how the model sees it, and a step of it.
 use Prim.Native.Nat.{ℕ, suc, _*_, _≤_, _<_}
 use mathlib.Core.Path.{_≡_}
-use mathlib.Core.List.{List, [], _∷_, map}
+use mathlib.Core.List.{List, map}
 use lib.ListN.{length, getD, set}
 use Rattle.base_limits.specs.Limits.{mostLive, mostActive, mostIndexReads, mostWrites, mostRecords, mostRows}
 use Rattle.model.specs.Store as model
@@ -25,9 +25,6 @@ pub record Words : Type 0 where
   pub clock : ℕ
   pub used : ℕ
 
--- eight free places
-abbrev pub freePlaces : List Transaction
-freePlaces = idleOf 0 ∷ idleOf 1 ∷ idleOf 2 ∷ idleOf 3 ∷ idleOf 4 ∷ idleOf 5 ∷ idleOf 6 ∷ idleOf 7 ∷ []
 
 -- the record at a place
 abbrev pub txnAt : Words → ℕ → Transaction

@@ -1,10 +1,10 @@
 // One step: the transaction at its place, the lent tables, and what the step needs to know of the other places.
+use base_numbers::one_more;
 use base_protocol::Answer;
 use base_protocol::NO_SUCH;
 use base_protocol::Step;
 use finish_install::Installed;
 use finish_install::install;
-use finish_install::one_more;
 use finish_publish::abort;
 use finish_publish::end;
 use finish_publish::publish;

@@ -39,7 +39,7 @@ use Rattle.txn.specs.declared.Transaction.{Transaction}
 use Rattle.txn_needs.specs.declared.Key.{Key}
 use Rattle.txn_needs.specs.Keys.{oldKeyOf, newKeyOf}
 use Rattle.txn_needs.specs.Needs.{bucketsFor, readsNeed, rowsWritten, writeNeeds}
-use Rattle.txn_needs.specs.Holders.{freeAll, unclaimAll}
+use Rattle.table.specs.Fields.{clearHolders, clearClaims}
 use Rattle.finish_publish.specs.Publish.{neededIn, freedIn, abortOf}
 use Rattle.step.specs.Steps.{inAborted}
 use Rattle.step.specs.Words.{Words, view, txnAt, SizedTxn, Sized}
@@ -50,7 +50,7 @@ use Rattle.step_bridge.proofs.Same.{same-store, SameAt, Same, refused-s
 use Rattle.step_bridge.proofs.Listing.{listed-all}
 use Rattle.step_bridge.proofs.Judging.{needs-length, read-in}
 use Rattle.step_bridge.proofs.Tabled.{InRange}
-use Rattle.step_bridge.proofs.Freeing.{freed-release, free-all, unclaim-all, free-all-other, unclaim-all-other, free-all-length, unclaim-all-length}
+use Rattle.step_bridge.proofs.Freeing.{freed-release, clear-all, clear-other, clear-length}
 use Rattle.step_bridge.proofs.Needing.{listedNeeds, row-in, pending-row, needed-listed}
 
 -- one bucket for a key, at most, and in range
@@ -113,9 +113,9 @@ module _ (w : Words) (p : ℕ) where
   freedList = bucketIn (phaseView (txnAt w p .phase)) ∷ listedNeeds w p
 
   pub freed-buckets : Sized w → freedIn (w .tables .rows) (w .tables .versions) (w .tables .lists) (w .sizes .buckets) false (bucketIn (phaseView (txnAt w p .phase))) (txnAt w p .slot) (txnAt w p .«reads_n») (txnAt w p .«writes_n») (txnAt w p .number) (w .tables .buckets)
-      ≡ freeAll (w .tables .buckets) (txnAt w p .number) freedList
+      ≡ clearHolders (w .tables .buckets) (txnAt w p .number) freedList
   unfolding freedIn neededIn
-  freed-buckets z = ap (λ (bs : List ℕ). freeAll (w .tables .buckets) (txnAt w p .number) bs) (listed-all 49 freedList (omega (arith, listed-few z)))
+  freed-buckets z = ap (λ (bs : List ℕ). clearHolders (w .tables .buckets) (txnAt w p .number) bs) (listed-all 49 freedList (omega (arith, listed-few z)))
 
 pub count-pos : (w : Words) → Shaped w → 1 ≤ w .sizes .buckets
 count-pos w g = good-sized (view w .sizes) (g .sizes) .buckets-pos
@@ -160,25 +160,34 @@ module _ (w : Words) (z : Sized w) (g : Good (view w)) (p : ℕ) (l : 1 ≤ txnA
 
   -- the words after freeing, as the model has them
   abort-held : rank (phaseView (txnAt w p .phase)) < phaseInstalled
-      → heldView (rowsPart (sizesView (w .sizes)) (unclaimAll (w .tables .rows) (txnAt w p .number) (rowsWritten (w .tables .lists) (txnAt w p .slot) (txnAt w p .«writes_n»))))
-      (bucketsPart (sizesView (w .sizes)) (freeAll (w .tables .buckets) (txnAt w p .number) (freedList w p)))
+      → heldView (rowsPart (sizesView (w .sizes))
+      (clearClaims (w .tables .rows) (txnAt w p .number) (rowsWritten (w .tables .lists) (txnAt w p .slot) (txnAt w p .«writes_n»))))
+      (bucketsPart (sizesView (w .sizes)) (clearHolders (w .tables .buckets) (txnAt w p .number) (freedList w p)))
       ≡ freed (view w .held) (txnAt w p .number)
   abort-held r =
       let n = txnAt w p .number in
       let rs = rowsWritten (w .tables .lists) (txnAt w p .slot) (txnAt w p .«writes_n») in
       rw (
-        unclaim-all (w .sizes .rows) n (w .tables .rows) rs (λ q m. row-in w z sh p l q m) (z .rows),
+        clear-all 4 1 (omega arith) (w .sizes .rows) n (w .tables .rows) rs (λ q m. row-in w z sh p l q m) (z .rows),
         freed-release n (view w .held .claim) rs own-rows,
-        free-all (w .sizes .buckets) n (w .tables .buckets) (freedList w p) (freed-in w z sh p l) (z .buckets),
+        clear-all 2 1 (omega arith) (w .sizes .buckets) n (w .tables .buckets) (freedList w p) (freed-in w z sh p l) (z .buckets),
         freed-release n (view w .held .holder) (freedList w p) (own-listed r),
       )
 
 module _ (w : Words) where
-  pub abort-chains : (n : ℕ) (rs : List ℕ) → chainsView (rowsPart (sizesView (w .sizes)) (unclaimAll (w .tables .rows) n rs)) (versionsPart (sizesView (w .sizes)) (w .tables .versions)) (w .used) ≡ view w .chains
-  abort-chains n rs = rw (unclaim-all-other (w .sizes .rows) n (w .tables .rows) rs 0 (omega arith) (omega arith))
+  pub abort-chains : (n : ℕ) (rs : List ℕ)
+      → chainsView (rowsPart (sizesView (w .sizes)) (clearClaims (w .tables .rows) n rs)) (versionsPart (sizesView (w .sizes)) (w .tables .versions))
+      (w .used) ≡ view w .chains
+  abort-chains n rs = rw (clear-other 4 1 (omega arith) (w .sizes .rows) n (w .tables .rows) rs 0 (omega arith) (omega arith))
 
-  pub abort-index : (n : ℕ) (rs bs : List ℕ) → indexView (rowsPart (sizesView (w .sizes)) (unclaimAll (w .tables .rows) n rs)) (bucketsPart (sizesView (w .sizes)) (freeAll (w .tables .buckets) n bs)) ≡ view w .index
-  abort-index n rs bs = rw (unclaim-all-other (w .sizes .rows) n (w .tables .rows) rs 2 (omega arith) (omega arith), unclaim-all-other (w .sizes .rows) n (w .tables .rows) rs 3 (omega arith) (omega arith), free-all-other (w .sizes .buckets) n (w .tables .buckets) bs)
+  pub abort-index : (n : ℕ) (rs bs : List ℕ)
+      → indexView (rowsPart (sizesView (w .sizes)) (clearClaims (w .tables .rows) n rs))
+      (bucketsPart (sizesView (w .sizes)) (clearHolders (w .tables .buckets) n bs)) ≡ view w .index
+  abort-index n rs bs = rw (
+    clear-other 4 1 (omega arith) (w .sizes .rows) n (w .tables .rows) rs 2 (omega arith) (omega arith),
+    clear-other 4 1 (omega arith) (w .sizes .rows) n (w .tables .rows) rs 3 (omega arith) (omega arith),
+    clear-other 2 1 (omega arith) (w .sizes .buckets) n (w .tables .buckets) bs 0 (omega arith) (omega arith),
+  )
 
 pub sized-idle : (p : ℕ) (t : Transaction) → SizedTxn p t → SizedTxn p (idleOf (t .slot))
 sized-idle p t s = record { slot = s .slot; active = omega arith; seven = refl; reads = omega arith; writes = omega arith; records = omega arith; candidates = omega arith }
@@ -207,8 +216,9 @@ module _ (w : Words) (z : Sized w) (g : Good (view w)) (n : ℕ) where
       (cond b (record { reply = refusedOf (txnAt w (standing w n)) (refusalNumber WrongPhase); rows = w .tables .rows; buckets = w .tables .buckets })
       (record {
         reply = record { answer = tell.Done; txn = idleOf (txnAt w (standing w n) .slot) };
-        rows = unclaimAll (w .tables .rows) (txnAt w (standing w n) .number) (rowsWritten (w .tables .lists) (txnAt w (standing w n) .slot) (txnAt w (standing w n) .«writes_n»));
-        buckets = freeAll (w .tables .buckets) (txnAt w (standing w n) .number) (freedList w (standing w n));
+        rows = clearClaims (w .tables .rows) (txnAt w (standing w n) .number)
+            (rowsWritten (w .tables .lists) (txnAt w (standing w n) .slot) (txnAt w (standing w n) .«writes_n»));
+        buckets = clearHolders (w .tables .buckets) (txnAt w (standing w n) .number) (freedList w (standing w n));
       }))
       (w .clock) (w .used) (w .tables))
       (carried (view w) (asked (ask.Abort n)) (cond b (some WrongPhase) none))
@@ -218,9 +228,8 @@ module _ (w : Words) (z : Sized w) (g : Good (view w)) (n : ℕ) where
       let q = standing w n in
       let t = txnAt w q in
       let rs = rowsWritten (w .tables .lists) (t .slot) (t .«writes_n») in
-      ended-at w z q l _ _ tell.Done machine.Done (w .clock) (w .clock) _ _ _ refl (abort-chains w (t .number) rs)
-      (abort-index w (t .number) rs (freedList w q)) (abort-held w z g q a (leb-false phaseInstalled (rank (phaseView (t .phase))) e))
-      (unclaim-all-length (w .sizes .rows) (t .number) (w .tables .rows) rs) (free-all-length (w .sizes .buckets) (t .number) (w .tables .buckets) (freedList w q)) refl refl
+      ended-at w z q l _ _ tell.Done machine.Done (w .clock) (w .clock) _ _ _ refl (abort-chains w (t .number) rs) (abort-index w (t .number) rs (freedList w q)) (abort-held w z g q a (leb-false 5 (rank (phaseView (t .phase))) e))
+      (clear-length 4 1 (t .number) (w .tables .rows) rs) (clear-length 2 1 (t .number) (w .tables .buckets) (freedList w q)) refl refl
 
   -- buckets and claims are freed, and the record ends
   pub abort-same : Same w (ask.Abort n)

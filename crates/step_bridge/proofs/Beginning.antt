@@ -1,17 +1,16 @@
 -- Begin over the words is the model's.
 -- Assumes nothing.
-use Prim.Native.Nat.{ℕ, suc, _+_, _≤_, _<_}
+use Prim.Native.Nat.{ℕ, _+_, _≤_, _<_}
 use mathlib.Core.Path.{_≡_, refl, sym, ap, _∙_}
 use mathlib.Core.Bool.{Bool, true, false, cond, not, _&&_, false≢true}
 use mathlib.Core.Option.{none, some}
 use mathlib.Core.List.{List, map}
 use native.Mathlib.Nat.{zero-add}
-use native.Mathlib.Numerals.{add-one}
 use native.Mathlib.Decide.{decLt}
 use native.Mathlib.Omega.{arith}
 use lib.Dec.{eqb, ltb}
 use lib.ListN.{length, getD, length-map, List·getD-map}
-use borrow.Author.Tests.{eq-eqb, ne-eqb, lt-ltb, le-leb, lt-leb, ltb-false}
+use borrow.Author.Tests.{eq-eqb, ne-eqb, le-leb, lt-leb, ltb-false}
 use Rattle.base_limits.specs.Limits.{mostLive, mostActive, lastNumber}
 use Rattle.base_lists.specs.Table.{update}
 use Rattle.base_lists.specs.Lists.{pick}
@@ -30,12 +29,13 @@ use Rattle.txn.specs.Methods.{idleOf}
 use Rattle.txn.specs.declared.Phase.{Phase}
 use Rattle.txn.specs.declared.Phase.the-variants as phase
 use Rattle.txn.specs.declared.Transaction.{Transaction}
-use Rattle.finish_install.specs.Install.{oneMore}
+use Rattle.base_numbers.proofs.Laws.{one-up}
 use Rattle.txn_begin.specs.Begin.{keptNone, snapshotOf, spent, begunOf, refusedBegin, beginOf}
 use Rattle.txn_places.specs.Places.{activeNumber, liveIn, missesOf}
 use Rattle.step.specs.Steps.{stepOf, withBegun, stays}
 use Rattle.step.specs.Words.{Words, view, txnAt, othersIn, placeFor, movedBy, SizedTxn, Sized}
-use Rattle.step_bridge.proofs.Places.{default-any, standing, number-at, numbers-eight, there, nowhere, not-there, sized-at}
+use Rattle.txn_places.proofs.Laws.{default-any}
+use Rattle.step_bridge.proofs.Places.{standing, number-at, there, nowhere, not-there, sized-at}
 use Rattle.step_bridge.proofs.Placed.{txns-set, sized-set}
 use Rattle.step_bridge.proofs.Same.{same-store, same-from, SameAt, Same, refused-same}
 use Rattle.step_bridge.proofs.Starting.{nonzero, pick-nonzero, live-nonzero, pick-all, pick-less, keep-all}
@@ -71,15 +71,20 @@ activeOf t = activeNumber (t .number) (t .phase)
 active-at : (ts : List Transaction) (i : ℕ) → getD (map activeOf ts) i 0 ≡ activeOf (getD ts i (idleOf i))
 active-at ts i = List·getD-map activeOf ts i (idleOf i)
 
-module _ (w : Words) (z : Sized w) where
-  -- as many are live, and the same are active
-  pub live-same : liveIn (othersIn (w .txns) .numbers) ≡ liveCount (view w .txns)
-  unfolding liveCount
-  live-same =
-      let xs = othersIn (w .txns) .numbers in
-      let e = pick-nonzero (λ i. txnAt w i .number) (λ i. live (view w .txns i)) 0 xs (λ i h. rw (zero-add i, number-at (w .txns) i)) (λ i h q. rw (zero-add i, number-at (w .txns) i)) in
-      live-nonzero 0 xs ∙ (zero-add (length (nonzero xs)) ∙ (sym (ap length e) ∙ (length-map (pick (λ i. live (view w .txns i)) 0 (length xs)) (λ i. txnAt w i .number) ∙ ap (λ (m : ℕ). length (pick (λ i. live (view w .txns i)) 0 m)) (numbers-eight w z))))
+-- as many are live
+pub live-same : (w : Words) → length (w .txns) ≡ mostLive → liveIn (othersIn (w .txns) .numbers) ≡ liveCount (view w .txns)
+unfolding liveCount
+live-same w eight =
+    let xs = othersIn (w .txns) .numbers in
+    let n : length xs ≡ mostLive = length-map (w .txns) (λ (t : Transaction). t .number) ∙ eight in
+    let e = pick-nonzero (λ i. txnAt w i .number) (λ i. live (view w .txns i)) 0 xs (λ i h. rw (zero-add i, number-at (w .txns) i))
+    (λ i h q. rw (zero-add i, number-at (w .txns) i)) in
+    live-nonzero 0 xs ∙ (zero-add (length (nonzero xs))
+    ∙ (sym (ap length e) ∙ (length-map (pick (λ i. live (view w .txns i)) 0 (length xs)) (λ i. txnAt w i .number)
+    ∙ ap (λ (m : ℕ). length (pick (λ i. live (view w .txns i)) 0 m)) n)))
 
+module _ (w : Words) (z : Sized w) where
+  -- the same are active
   pub active-same : nonzero (othersIn (w .txns) .active) ≡ activeNumbers (view w .txns)
   unfolding activeNumbers
   active-same =
@@ -105,20 +110,16 @@ module _ (w : Words) (z : Sized w) where
 
   -- the snapshot
   begun-view : standing w 0 < mostLive → w .clock < lastNumber → (xs : List ℕ) (t : Transaction) → txnView xs (begunOf t (snapshotOf (othersIn (w .txns) .active) (w .clock)) (w .clock) .txn) ≡ newTxn (view w)
-  unfolding snapshotOf oneMore listOf
+  unfolding snapshotOf listOf
   begun-view l c xs t =
       let k = keep-all (othersIn (w .txns) .active) (keptNone (w .clock)) (omega (arith, few-active l, ap length active-same)) refl in
-      rw (k .kept, k .lowest, active-same, lt-ltb (w .clock) lastNumber c, add-one (w .clock))
+      rw (k .kept, k .lowest, active-same, one-up (w .clock) c)
 
   begun-sized : standing w 0 < mostLive → SizedTxn (standing w 0) (begunOf (txnAt w (standing w 0)) (snapshotOf (othersIn (w .txns) .active) (w .clock)) (w .clock) .txn)
   unfolding snapshotOf
   begun-sized l =
       let k = keep-all (othersIn (w .txns) .active) (keptNone (w .clock)) (omega (arith, few-active l, ap length active-same)) refl in
       record { slot = sized-at w z (standing w 0) .slot; active = omega (arith, k .count, few-active l, ap length active-same); seven = k .room; reads = omega arith; writes = omega arith; records = omega arith; candidates = omega arith }
-
-  one-more : w .clock < lastNumber → oneMore (w .clock) ≡ suc (w .clock)
-  unfolding oneMore
-  one-more c = rw (lt-ltb (w .clock) lastNumber c, add-one (w .clock))
 
   begun-at : standing w 0 < mostLive → (b : Bool) → ltb lastNumber (w .clock + liveCount (view w .txns) + 2) ≡ b
       → SameAt w (standing w 0) (stays (withBegun (cond b (refusedBegin (txnAt w (standing w 0)) (w .clock) 2) (begunOf (txnAt w (standing w 0)) (snapshotOf (othersIn (w .txns) .active) (w .clock)) (w .clock))) (w .used)) (w .tables))
@@ -128,7 +129,8 @@ module _ (w : Words) (z : Sized w) where
   begun-at l false e =
       let c : w .clock < lastNumber = omega (arith, ltb-false lastNumber (w .clock + liveCount (view w .txns) + 2) e) in
       record {
-        store = same-store _ _ refl (one-more c) refl refl refl (txns-set w z (standing w 0) l (w .tables .lists) _ (λ j d. refl) ∙ ap (λ (y : model.Txn). update (view w .txns) (standing w 0) y) (begun-view l c (w .tables .lists) (txnAt w (standing w 0))));
+        store = same-store _ _ refl (one-up (w .clock) c) refl refl refl (txns-set w z (standing w 0) l (w .tables .lists) _ (λ j d. refl)
+            ∙ ap (λ (y : model.Txn). update (view w .txns) (standing w 0) y) (begun-view l c (w .tables .lists) (txnAt w (standing w 0))));
         answer = refl;
         lent = refl;
         sized = sized-set w z (standing w 0) l _ _ _ _ (begun-sized l) refl refl refl refl;
@@ -136,7 +138,7 @@ module _ (w : Words) (z : Sized w) where
 
   moved-begin : (p : ℕ) → placeFor (w .txns) ask.Begin ≡ p → p < mostLive → movedBy w ask.Begin ≡ stays (withBegun (beginOf (othersIn (w .txns) .active) (liveCount (view w .txns)) (w .clock) (txnAt w p)) (w .used)) (w .tables)
   unfolding movedBy stepOf missesOf
-  moved-begin p e l = rw (e, default-any (w .txns) p (idleOf 0) (idleOf p) (omega (arith, z .eight)), live-same)
+  moved-begin p e l = rw (e, default-any (w .txns) p (idleOf 0) (idleOf p) (omega (arith, z .eight)), live-same w (z .eight))
 
   full-at : SameAt w 0 (stays (withBegun (refusedBegin (txnAt w 0) (w .clock) 3) (w .used)) (w .tables)) (carried (view w) (asked ask.Begin) (some Full))
   unfolding carried afterRefusal

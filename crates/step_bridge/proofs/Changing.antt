@@ -1,6 +1,6 @@
 -- After install: a pending row's old key stands behind its head, what changed is stamped, and all that the number holds is listed.
 -- Assumes nothing.
-use Prim.Native.Nat.{ℕ, suc, _≤_, _<_}
+use Prim.Native.Nat.{ℕ, _≤_, _<_}
 use mathlib.Core.Path.{_≡_, refl, sym, ap, _∙_}
 use mathlib.Core.Bool.{Bool, true, false, cond, not}
 use mathlib.Core.Logic.{inl, inr, ⊎-elim}
@@ -19,7 +19,6 @@ use Rattle.model.proofs.Made.{made-writes, made-head, which-made}
 use Rattle.model.proofs.Written.{posted-either}
 use Rattle.model.proofs.Good.{Good, right-shape}
 use Rattle.table.specs.Fields as fields
-use Rattle.table.proofs.Parts.{part-field}
 use Rattle.txn.specs.View.{phaseView}
 use Rattle.txn_needs.specs.Keys as words
 use Rattle.txn_needs.specs.Keys.{keyOf, oldKeyOf, newKeyOf}
@@ -30,7 +29,8 @@ use Rattle.step_bridge.proofs.Places.{sized-at}
 use Rattle.step_bridge.proofs.Judging.{reads-need, needs-length, read-in}
 use Rattle.step_bridge.proofs.Tabled.{InRange}
 use Rattle.step_bridge.proofs.Keyed.{new-key-same}
-use Rattle.step_bridge.proofs.Needing.{key-buckets, version-key, head-same, used-in, row-in, row-pending, pending-row}
+use Rattle.step_bridge.proofs.Headed.{head-same, version-field, version-key, headed-same}
+use Rattle.step_bridge.proofs.Needing.{key-buckets, headed, row-in, row-pending, pending-row}
 use Rattle.step_bridge.proofs.Aborting.{join-few, needs-few, needs-in, count-pos, writes-few}
 
 -- what the words need for a row, and what they stamp, after install
@@ -62,11 +62,9 @@ module _ (w : Words) (z : Sized w) (g : Shaped w) (p : ℕ) (l : 1 ≤ txnAt w p
   got-row r m = pending-row w z g p r (made-writes (view w .sizes) (view w .chains) (view w .txns p) r m)
 
   -- headed by a version of the transaction
-  headed-same : (r : ℕ) → r < w .sizes .rows → words.headedBy (w .tables .rows) (w .tables .versions) (txnAt w p .number) r ≡ headedBy (view w .chains) (txnAt w p .number) r
-  unfolding words.headedBy headedBy
-  headed-same r h =
-      let q = view w .chains .head r in
-      rw (head-same w z g r h, ← part-field 6 0 (suc (w .sizes .versions)) (w .tables .versions) q (omega arith) (used-in w z g q (g .heads-in r)))
+  row-headed : (r : ℕ) → r < w .sizes .rows → words.headedBy (w .tables .rows) (w .tables .versions) (txnAt w p .number) r
+      ≡ headedBy (view w .chains) (txnAt w p .number) r
+  row-headed r h = headed-same (view w .sizes) (w .tables .rows) (w .tables .versions) (w .used) (headed w z g) (txnAt w p .number) r h
 
   -- the key behind the head
   before-same : (r : ℕ) → Got w p r → keyOf (oldKeyOf (w .tables .rows) (w .tables .versions) true r) ≡ keyBefore (view w .chains) r
@@ -76,8 +74,11 @@ module _ (w : Words) (z : Sized w) (g : Shaped w) (p : ℕ) (l : 1 ≤ txnAt w p
       let c = view w .chains in
       let q = c .head r in
       let u = g .heads-in r in
-      let next : fields.nextOf (w .tables .versions) q ≡ c .next q = sym (part-field 6 2 (suc (w .sizes .versions)) (w .tables .versions) q (omega arith) (used-in w z g q u)) in
-      rw (head-same w z g r h, next) (version-key w z g (c .next q) (omega (arith, g .next-falls q (made-head (view w .sizes) c (view w .txns p) r m .0) u)))
+      let next : fields.nextOf (w .tables .versions) q ≡ c .next q =
+      sym (version-field (view w .sizes) (w .tables .rows) (w .tables .versions) (w .used) (headed w z g) 2 q (omega arith) u) in
+      rw (head-same (view w .sizes) (w .tables .rows) (w .tables .versions) (w .used) (headed w z g) r h, next)
+      (version-key (view w .sizes) (w .tables .rows) (w .tables .versions) (w .used) (headed w z g) (c .next q)
+      (omega (arith, g .next-falls q (made-head (view w .sizes) c (view w .txns p) r m .0) u)))
 
   after-needs : (r : ℕ) → Got w p r → rowNeeds w p r ≡ keyBuckets (view w .sizes) (keyBefore (view w .chains) r) ++ keyBuckets (view w .sizes) (newKey (view w .txns p) r)
   unfolding writeNeeds
@@ -92,12 +93,18 @@ module _ (w : Words) (z : Sized w) (g : Shaped w) (p : ℕ) (l : 1 ≤ txnAt w p
 
   after-changes : (r : ℕ) → Got w p r → rowChanges w p r ≡ changes w p r
   unfolding writeChanges
-  after-changes r m = rw (headed-same r (row-in w z g p l r (got-row r m)), got-headed r m, before-same r m, new-key-same (w .tables .lists) (txnAt w p) (sized-at w z p .writes) r, after-needs r m)
+  after-changes r m = rw (
+    row-headed r (row-in w z g p l r (got-row r m)),
+    got-headed r m,
+    before-same r m,
+    new-key-same (w .tables .lists) (txnAt w p) (sized-at w z p .writes) r,
+    after-needs r m,
+  )
 
   -- a row that stamps got a version
   change-got : (r b : ℕ) → Among r (rowsOf w p) → Among b (rowChanges w p r) → Got w p r
   unfolding writeChanges headedBy
-  change-got r b a m = go (headedBy (view w .chains) (txnAt w p .number) r) refl (rw (headed-same r (row-in w z g p l r a)) at m)
+  change-got r b a m = go (headedBy (view w .chains) (txnAt w p .number) r) refl (rw (row-headed r (row-in w z g p l r a)) at m)
     where
       go : (h : Bool) → headedBy (view w .chains) (txnAt w p .number) r ≡ h → Among b (cond (not h) [] (cond (sameKey (keyOf (oldKeyOf (w .tables .rows) (w .tables .versions) true r)) (keyOf (newKeyOf (w .tables .lists) (txnAt w p .slot) (txnAt w p .«writes_n») r))) [] (rowNeeds w p r))) → Got w p r
       go true e o = which-made (view w .sizes) (view w .chains) (view w .txns p) r (row-pending w z g p l r a) (leb-true 1 (view w .chains .head r) (and-l (leb 1 (view w .chains .head r)) _ e)) (eqb-true _ _ (and-r (leb 1 (view w .chains .head r)) _ e))

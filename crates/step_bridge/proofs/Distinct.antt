@@ -9,7 +9,7 @@ use mathlib.Core.List.{List, [], _∷_, map}
 use native.Mathlib.Nat.{zero-add}
 use native.Mathlib.Omega.{arith}
 use lib.Dec.{eqb}
-use lib.ListN.{length, take, drop, getD, replicate, length-replicate}
+use lib.ListN.{length, drop, getD, replicate, length-replicate}
 use lib.Seq.{take-at}
 use borrow.Author.Tests.{eqb-true, eq-eqb}
 use Rattle.base_limits.specs.Limits.{mostBuckets, mostWrites}
@@ -19,27 +19,24 @@ use Rattle.model.specs.Store as model
 use Rattle.model.specs.Store.{keyed}
 use Rattle.model.specs.Steps.{pendingRows, oldKey, getsVersion, versionRows}
 use Rattle.model.specs.Seeing.{pending}
-use Rattle.model.proofs.Ranges.{good-sized}
 use Rattle.table_buckets.specs.Buckets.{bucketsOf, laid, canonicalOf}
 use Rattle.table_buckets.specs.Upstream.{inRange}
 use Rattle.table_buckets.specs.declared.Canonical.the-variants.{Sorted}
 use Rattle.table_buckets.proofs.Checks.{fine-when}
 use Rattle.table_buckets.proofs.Sorted.{Below, Ascending, member, buckets-ascending, buckets-member, ascending-unique, buckets-no-longer}
-use Rattle.table.specs.Lists.{writesOf}
+use Rattle.table.specs.Lists.{writes, writeOf, writesOf}
+use Rattle.table.specs.declared.lists.Write.{Write}
+use Rattle.table_scans.proofs.Laws.{fields-length}
 use Rattle.txn.specs.View.{writeView, writesIn}
 use Rattle.txn.specs.declared.Transaction.{Transaction}
 use Rattle.txn_needs.specs.Keys.{keyOf, oldKeyOf, newKeyOf, getsVersionOf}
 use Rattle.txn_needs.specs.declared.Key.{Key}
 use Rattle.txn_needs.specs.Needs.{rowsWritten, front}
-use Rattle.finish_install.specs.Install.{rowsListed, pendingInto, kept, versionsInto}
-use Rattle.write_prepare.specs.Prepare.{versionsIn}
-use Rattle.step.specs.Words.{Words, view, txnAt, Sized}
-use Rattle.step_bridge.proofs.Shaped.{Shaped}
-use Rattle.step_bridge.proofs.Places.{sized-at}
+use Rattle.txn_needs.specs.Versions.{rowsListed, pendingInto, kept, versionsInto, versionsIn}
+use Rattle.step_bridge.proofs.Headed.{Headed, WritesIn, chainsIn, old-key-same}
 use Rattle.step_bridge.proofs.Listing.{listed-all, listed-count}
 use Rattle.step_bridge.proofs.Keyed.{new-key-same}
-use Rattle.step_bridge.proofs.Needing.{written-pending, pending-written, row-in, old-key-same}
-use Rattle.step_bridge.proofs.Aborting.{writes-few}
+use Rattle.step_bridge.proofs.Needing.{written-pending, pending-written}
 
 rising-below : (x : ℕ) (ys : List ℕ) → Rising (suc x) ys → Below x ys
 rising-below x [] h = tt
@@ -135,29 +132,32 @@ pub versions-fewer : (z : model.Sizes) (c : model.Chains) (ws : List model.Write
 unfolding versionRows pendingRows
 versions-fewer z c ws = pick-fewer (λ r. pending ws r && getsVersion c ws r) (pending ws) 0 (z .rows) (λ r e. and-l _ _ e)
 
-module _ (w : Words) (z : Sized w) (g : Shaped w) (p : ℕ) (l : 1 ≤ txnAt w p .number) where
-  pub rows-sorted : bucketsOf (rowsWritten (w .tables .lists) (txnAt w p .slot) (txnAt w p .«writes_n»)) ≡ pendingRows (view w .sizes) (view w .txns p .writes)
-  rows-sorted = sorted-pending (w .tables .lists) (txnAt w p .slot) (txnAt w p .«writes_n») (view w .sizes) (row-in w z g p l)
+module _ (z : model.Sizes) (rows versions : List ℕ) (used : ℕ) (g : Headed z rows used) (most : z .rows ≤ mostBuckets) (xs : List ℕ) (t : Transaction)
+    (w : WritesIn z xs t) where
+  rows-few : length (rowsWritten xs (t .slot) (t .«writes_n»)) ≤ mostWrites
+  rows-few = omega (arith, fields-length (λ (x : Write). x .row) writeOf writes xs (t .slot) (t .«writes_n»), w .few)
+
+  pending-front : front (pendingInto xs (t .slot) (t .«writes_n») (replicate mostWrites 0)) ≡ pendingRows z (writesIn xs t)
+  pending-front =
+      let ps = pendingRows z (writesIn xs t) in
+      rw (listed-pending xs (t .slot) (t .«writes_n») z (w .below) most rows-few) (take-at ps (drop (length ps) (replicate mostWrites 0)) (length ps) refl)
+
+  versions-most : length (versionRows z (chainsIn z rows versions used) (writesIn xs t)) ≤ mostWrites
+  versions-most = omega (
+    arith,
+    versions-fewer z (chainsIn z rows versions used) (writesIn xs t),
+    ap length (sorted-pending xs (t .slot) (t .«writes_n») z (w .below)),
+    buckets-no-longer (rowsWritten xs (t .slot) (t .«writes_n»)),
+    rows-few,
+  )
 
   -- the list that install goes through, and how many they are
-  pub pending-into : pendingInto (w .tables .lists) (txnAt w p .slot) (txnAt w p .«writes_n») (replicate mostWrites 0)
-      ≡ record { out = laid (pendingRows (view w .sizes) (view w .txns p .writes)) (replicate mostWrites 0); n = length (pendingRows (view w .sizes) (view w .txns p .writes)) }
-  pending-into = listed-pending (w .tables .lists) (txnAt w p .slot) (txnAt w p .«writes_n») (view w .sizes) (row-in w z g p l) (omega (arith, good-sized (view w .sizes) (g .sizes) .rows-most)) (omega (arith, writes-few w p, sized-at w z p .writes))
+  pub versions-front : front (versionsInto rows versions xs (t .slot) (t .«writes_n») (replicate mostWrites 0))
+      ≡ versionRows z (chainsIn z rows versions used) (writesIn xs t)
+  versions-front = version-front rows versions xs t z (chainsIn z rows versions used) (w .few) (old-key-same z rows versions used g) pending-front versions-most
 
-  pub pending-front : take (pendingInto (w .tables .lists) (txnAt w p .slot) (txnAt w p .«writes_n») (replicate mostWrites 0) .n) (pendingInto (w .tables .lists) (txnAt w p .slot) (txnAt w p .«writes_n») (replicate mostWrites 0) .out)
-      ≡ pendingRows (view w .sizes) (view w .txns p .writes)
-  pending-front = let ps = pendingRows (view w .sizes) (view w .txns p .writes) in rw pending-into (take-at ps (drop (length ps) (replicate mostWrites 0)) (length ps) refl)
-
-  pending-most : length (pendingRows (view w .sizes) (view w .txns p .writes)) ≤ mostWrites
-  pending-most = omega (arith, ap length rows-sorted, buckets-no-longer (rowsWritten (w .tables .lists) (txnAt w p .slot) (txnAt w p .«writes_n»)), writes-few w p, sized-at w z p .writes)
-
-  versions-most : length (versionRows (view w .sizes) (view w .chains) (view w .txns p .writes)) ≤ mostWrites
-  versions-most = omega (arith, versions-fewer (view w .sizes) (view w .chains) (view w .txns p .writes), pending-most)
-
-  -- the list that install goes through
-  pub versions-front : front (versionsInto (w .tables .rows) (w .tables .versions) (w .tables .lists) (txnAt w p .slot) (txnAt w p .«writes_n») (replicate mostWrites 0)) ≡ versionRows (view w .sizes) (view w .chains) (view w .txns p .writes)
-  versions-front = version-front (w .tables .rows) (w .tables .versions) (w .tables .lists) (txnAt w p) (view w .sizes) (view w .chains) (sized-at w z p .writes) (old-key-same w z g) pending-front versions-most
-
-  pub versions-counted : versionsIn (w .tables .rows) (w .tables .versions) (w .tables .lists) (txnAt w p .slot) (txnAt w p .«writes_n») ≡ length (versionRows (view w .sizes) (view w .chains) (view w .txns p .writes))
+  pub versions-counted : versionsIn rows versions xs (t .slot) (t .«writes_n») ≡ length (versionRows z (chainsIn z rows versions used) (writesIn xs t))
   unfolding versionsIn
-  versions-counted = rw (version-count (w .tables .rows) (w .tables .versions) (w .tables .lists) (txnAt w p) (view w .sizes) (view w .chains) (sized-at w z p .writes) (old-key-same w z g) pending-front versions-most) (omega (arith, versions-most))
+  versions-counted = rw
+      (version-count rows versions xs t z (chainsIn z rows versions used) (w .few) (old-key-same z rows versions used g) pending-front versions-most)
+      (omega (arith, versions-most))

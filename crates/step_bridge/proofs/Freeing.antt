@@ -14,10 +14,9 @@ use Rattle.base_lists.specs.Lists.{member, Among}
 use Rattle.base_lists.specs.Table.{update, update-same, update-other, cond-elim}
 use Rattle.base_lists.proofs.ListLaws.{among-member}
 use Rattle.model.specs.Steps.{release}
-use Rattle.table.specs.Words.{field, setField}
+use Rattle.table.specs.Words.{field, setField, clearFields}
 use Rattle.table.proofs.Laws.{field-length}
 use Rattle.table.proofs.Parts.{part-field}
-use Rattle.txn_needs.specs.Holders.{freeAll, unclaimAll}
 use Rattle.step_bridge.proofs.Tabled.{part, part-update, part-other, InRange}
 
 -- freed at the entries that a list names
@@ -61,53 +60,45 @@ freed-none n f = refl
 update-self : (f : ℕ → ℕ) (i v : ℕ) → v ≡ f i → f ≡ update f i v
 update-self f i v e = fun-ext λ j. elim (ℕ-discrete j i) [ yes d ↦ rw (d, update-same f i v) (sym e) | no d ↦ rw (update-other f i v j d) ]
 
-module _ (w k n : ℕ) (hk : k < w) where
-  -- one entry, where it carries the number
-  free-one : (xs : List ℕ) (i v : ℕ) → i < n → w * n ≤ length xs
-      → field w k (part w n (cond (eqb (field w k xs i) v) (setField w k xs i 0) xs)) ≡ update (field w k (part w n xs)) i (release v (field w k (part w n xs)) i)
+-- one entry, where it carries the number
+module _ (w k : ℕ) where
+  abbrev freeAt : List ℕ → ℕ → ℕ → List ℕ
+  freeAt xs i v = cond (eqb (field w k xs i) v) (setField w k xs i 0) xs
+
+  free-length : (xs : List ℕ) (i v : ℕ) → length (freeAt xs i v) ≡ length xs
+  free-length xs i v = cond-elim (λ (ys : List ℕ). length ys ≡ length xs) (eqb (field w k xs i) v) (setField w k xs i 0) xs (λ t. field-length w k xs i 0)
+      (λ t. refl)
+
+  pub clear-length : (v : ℕ) (xs is : List ℕ) → length (clearFields w k xs v is) ≡ length xs
+  unfolding clearFields
+  clear-length v xs [] = refl
+  clear-length v xs (i ∷ is) = clear-length v (freeAt xs i v) is ∙ free-length xs i v
+
+module _ (w k : ℕ) (hk : k < w) (n v : ℕ) where
+  free-one : (xs : List ℕ) (i : ℕ) → i < n → w * n ≤ length xs
+      → field w k (part w n (freeAt w k xs i v)) ≡ update (field w k (part w n xs)) i (release v (field w k (part w n xs)) i)
   unfolding release
-  free-one xs i v h l = rw (part-field w k n xs i hk h) (by (eqb (field w k xs i) v))
+  free-one xs i h l = rw (part-field w k n xs i hk h) (by (eqb (field w k xs i) v))
     where
       by : (b : Bool) → field w k (part w n (cond b (setField w k xs i 0) xs)) ≡ update (field w k (part w n xs)) i (cond b 0 (field w k xs i))
       by true = part-update w k n xs i 0 hk h l
       by false = update-self (field w k (part w n xs)) i (field w k xs i) (sym (part-field w k n xs i hk h))
 
-  free-length : (xs : List ℕ) (i v : ℕ) → length (cond (eqb (field w k xs i) v) (setField w k xs i 0) xs) ≡ length xs
-  free-length xs i v = cond-elim (λ (ys : List ℕ). length ys ≡ length xs) (eqb (field w k xs i) v) (setField w k xs i 0) xs (λ t. field-length w k xs i 0) (λ t. refl)
+  free-other : (xs : List ℕ) (i m : ℕ) → m < w → m ≢ k → field w m (part w n (freeAt w k xs i v)) ≡ field w m (part w n xs)
+  free-other xs i m hm d =
+      cond-elim (λ (ys : List ℕ). field w m (part w n ys) ≡ field w m (part w n xs)) (eqb (field w k xs i) v) (setField w k xs i 0) xs
+      (λ t. part-other w k n xs i 0 m hm hk d) (λ t. refl)
 
-  free-other : (xs : List ℕ) (i v m : ℕ) → m < w → m ≢ k → field w m (part w n (cond (eqb (field w k xs i) v) (setField w k xs i 0) xs)) ≡ field w m (part w n xs)
-  free-other xs i v m hm d = cond-elim (λ (ys : List ℕ). field w m (part w n ys) ≡ field w m (part w n xs)) (eqb (field w k xs i) v) (setField w k xs i 0) xs (λ t. part-other w k n xs i 0 m hm hk d) (λ t. refl)
+  -- every entry that a list names
+  pub clear-all : (xs is : List ℕ) → InRange n is → w * n ≤ length xs → field w k (part w n (clearFields w k xs v is)) ≡ freedAt v (field w k (part w n xs)) is
+  unfolding clearFields
+  clear-all xs [] h l = freed-none v _
+  clear-all xs (i ∷ is) h l =
+      clear-all (freeAt w k xs i v) is (λ j m. h j (inr m)) (rw (free-length w k xs i v) l)
+      ∙ (ap (λ (f : ℕ → ℕ). freedAt v f is) (free-one xs i (h i (inl refl)) l) ∙ freed-one v _ i is)
 
-module _ (n v : ℕ) where
-  pub free-all : (xs bs : List ℕ) → InRange n bs → 2 * n ≤ length xs → field 2 1 (part 2 n (freeAll xs v bs)) ≡ freedAt v (field 2 1 (part 2 n xs)) bs
-  unfolding freeAll
-  free-all xs [] h l = freed-none v _
-  free-all xs (b ∷ bs) h l = free-all (cond (eqb (field 2 1 xs b) v) (setField 2 1 xs b 0) xs) bs (λ i m. h i (inr m)) (rw (free-length 2 1 n (omega arith) xs b v) l)
-      ∙ (ap (λ (f : ℕ → ℕ). freedAt v f bs) (free-one 2 1 n (omega arith) xs b v (h b (inl refl)) l) ∙ freed-one v _ b bs)
-
-  pub unclaim-all : (xs rs : List ℕ) → InRange n rs → 4 * n ≤ length xs → field 4 1 (part 4 n (unclaimAll xs v rs)) ≡ freedAt v (field 4 1 (part 4 n xs)) rs
-  unfolding unclaimAll
-  unclaim-all xs [] h l = freed-none v _
-  unclaim-all xs (b ∷ bs) h l = unclaim-all (cond (eqb (field 4 1 xs b) v) (setField 4 1 xs b 0) xs) bs (λ i m. h i (inr m)) (rw (free-length 4 1 n (omega arith) xs b v) l)
-      ∙ (ap (λ (f : ℕ → ℕ). freedAt v f bs) (free-one 4 1 n (omega arith) xs b v (h b (inl refl)) l) ∙ freed-one v _ b bs)
-
-  -- the other fields stay, and so does the length
-  pub free-all-other : (xs bs : List ℕ) → field 2 0 (part 2 n (freeAll xs v bs)) ≡ field 2 0 (part 2 n xs)
-  unfolding freeAll
-  free-all-other xs [] = refl
-  free-all-other xs (b ∷ bs) = free-all-other (cond (eqb (field 2 1 xs b) v) (setField 2 1 xs b 0) xs) bs ∙ free-other 2 1 n (omega arith) xs b v 0 (omega arith) (omega arith)
-
-  pub unclaim-all-other : (xs rs : List ℕ) (m : ℕ) → m < 4 → m ≢ 1 → field 4 m (part 4 n (unclaimAll xs v rs)) ≡ field 4 m (part 4 n xs)
-  unfolding unclaimAll
-  unclaim-all-other xs [] m h d = refl
-  unclaim-all-other xs (b ∷ bs) m h d = unclaim-all-other (cond (eqb (field 4 1 xs b) v) (setField 4 1 xs b 0) xs) bs m h d ∙ free-other 4 1 n (omega arith) xs b v m h d
-
-  pub free-all-length : (xs bs : List ℕ) → length (freeAll xs v bs) ≡ length xs
-  unfolding freeAll
-  free-all-length xs [] = refl
-  free-all-length xs (b ∷ bs) = free-all-length (cond (eqb (field 2 1 xs b) v) (setField 2 1 xs b 0) xs) bs ∙ free-length 2 1 n (omega arith) xs b v
-
-  pub unclaim-all-length : (xs rs : List ℕ) → length (unclaimAll xs v rs) ≡ length xs
-  unfolding unclaimAll
-  unclaim-all-length xs [] = refl
-  unclaim-all-length xs (b ∷ bs) = unclaim-all-length (cond (eqb (field 4 1 xs b) v) (setField 4 1 xs b 0) xs) bs ∙ free-length 4 1 n (omega arith) xs b v
+  -- the other fields stay
+  pub clear-other : (xs is : List ℕ) (m : ℕ) → m < w → m ≢ k → field w m (part w n (clearFields w k xs v is)) ≡ field w m (part w n xs)
+  unfolding clearFields
+  clear-other xs [] m hm d = refl
+  clear-other xs (i ∷ is) m hm d = clear-other (freeAt w k xs i v) is m hm d ∙ free-other xs i m hm d

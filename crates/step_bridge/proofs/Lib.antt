@@ -15,9 +15,11 @@ pub mod Running
 pub mod Opening
 pub mod Freeing
 pub mod Keyed
+pub mod Headed
 pub mod Needing
 pub mod Aborting
 pub mod Distinct
+pub mod Reserving
 pub mod Preparing
 pub mod Installing
 pub mod Pushing

@@ -1,6 +1,6 @@
 -- The buckets that a transaction needs and the rows that it writes: the words list the same as the model names.
 -- Assumes nothing.
-use Prim.Native.Nat.{ℕ, suc, _%_, _≤_, _<_}
+use Prim.Native.Nat.{ℕ, _%_, _≤_, _<_}
 use mathlib.Core.Path.{_≡_, refl, sym, ap, _∙_, fun-ext}
 use mathlib.Core.Bool.{Bool, true, false, cond}
 use mathlib.Core.Logic.{inl, inr, ⊎-elim}
@@ -9,25 +9,27 @@ use mathlib.Core.List.{List, [], _∷_, _++_, map}
 use native.Mathlib.Omega.{arith}
 use lib.Dec.{eqb}
 use borrow.Author.Tests.{eq-eqb}
+use Rattle.base_limits.specs.Limits.{mostBuckets}
 use Rattle.base_lists.specs.Lists.{member, join, Among}
 use Rattle.base_lists.specs.Table.{updateAll}
 use Rattle.base_lists.proofs.ListLaws.{among-left, among-right, among-cases, among-map, map-among, join-which, which-join, member-among, among-member, same-test, or-left, or-right, pick-which}
 use Rattle.model.specs.Store as model
 use Rattle.model.specs.Store.{bucketOf}
-use Rattle.model.specs.Seeing.{keyAt, pending}
+use Rattle.model.specs.Seeing.{pending}
 use Rattle.model.specs.Steps.{pendingRows, oldKey, newKey, keyBuckets, readBuckets, neededBuckets}
+use Rattle.model.proofs.Ranges.{good-sized}
 use Rattle.model.proofs.SeeingLaws.{which-pendingRows, pending-which}
-use Rattle.table.specs.Fields as fields
 use Rattle.table.specs.Lists as lists
 use Rattle.table.specs.declared.lists.Write.{Write}
 use Rattle.table.proofs.Parts.{part-field}
-use Rattle.txn.specs.View.{keyView, writeView}
+use Rattle.txn.specs.View.{writeView}
 use Rattle.txn_needs.specs.declared.Key.{Key}
-use Rattle.txn_needs.specs.Keys.{keyOf, versionKey, oldKeyOf, newKeyOf}
+use Rattle.txn_needs.specs.Keys.{keyOf, oldKeyOf, newKeyOf}
 use Rattle.txn_needs.specs.Needs.{bucketsFor, readsNeed, rowsWritten, writeNeeds, writesNeed}
 use Rattle.step.specs.Words.{Words, view, txnAt, Sized}
 use Rattle.step_bridge.proofs.Shaped.{Shaped}
 use Rattle.step_bridge.proofs.Places.{sized-at}
+use Rattle.step_bridge.proofs.Headed.{Headed, WritesIn, old-key-same}
 use Rattle.step_bridge.proofs.Judging.{reads-need}
 use Rattle.step_bridge.proofs.Keyed.{new-key-same}
 
@@ -73,28 +75,16 @@ abbrev pub listedNeeds : Words → ℕ → List ℕ
 listedNeeds w p = readsNeed (w .tables .lists) (txnAt w p .slot) (txnAt w p .«reads_n») ++ writesNeed (w .tables .rows) (w .tables .versions) (w .tables .lists) (w .sizes .buckets) false (txnAt w p .slot) (txnAt w p .«writes_n»)
 
 module _ (w : Words) (z : Sized w) (g : Shaped w) where
-  pub used-in : (p : ℕ) → p ≤ w .used → p < suc (w .sizes .versions)
-  used-in p h = omega (arith, g .versions-left)
+  -- heads and pointers are in the parts that the sizes name
+  pub headed : Headed (view w .sizes) (w .tables .rows) (w .used)
+  headed = record {
+    room = omega (arith, g .versions-left);
+    heads = λ r h. rw (part-field 4 0 (w .sizes .rows) (w .tables .rows) r (omega arith) h) at
+        (g .heads-in r);
+  }
 
-  -- the key at a pointer that was given
-  pub version-key : (p : ℕ) → p ≤ w .used → keyOf (versionKey (w .tables .versions) p) ≡ keyAt (view w .chains) p
-  unfolding versionKey keyAt
-  version-key p h =
-      rw (part-field 6 3 (suc (w .sizes .versions)) (w .tables .versions) p (omega arith) (used-in p h), part-field 6 4 (suc (w .sizes .versions)) (w .tables .versions) p (omega arith) (used-in p h))
-      (by (eqb p 0))
-    where
-      by : (b : Bool) → keyOf (cond b (record { keyed = 0; key = 0 }) (record { keyed = fields.keyedOf (w .tables .versions) p; key = fields.keyOf (w .tables .versions) p }))
-          ≡ cond b none (keyView (fields.keyedOf (w .tables .versions) p) (fields.keyOf (w .tables .versions) p))
-      by true = refl
-      by false = refl
-
-  pub head-same : (r : ℕ) → r < w .sizes .rows → fields.headOf (w .tables .rows) r ≡ view w .chains .head r
-  head-same r h = sym (part-field 4 0 (w .sizes .rows) (w .tables .rows) r (omega arith) h)
-
-  -- the head version's key
-  pub old-key-same : (r : ℕ) → r < w .sizes .rows → keyOf (oldKeyOf (w .tables .rows) (w .tables .versions) false r) ≡ oldKey (view w .chains) r
-  unfolding oldKeyOf
-  old-key-same r h = rw (head-same r h) (version-key (view w .chains .head r) (g .heads-in r))
+  pub rows-most : w .sizes .rows ≤ mostBuckets
+  rows-most = omega (arith, good-sized (view w .sizes) (g .sizes) .rows-most)
 
   -- what is needed for one pending row
   pub row-needs : (p r : ℕ) → r < w .sizes .rows → writeNeeds (w .tables .rows) (w .tables .versions) (w .tables .lists) (w .sizes .buckets) false (txnAt w p .slot) (txnAt w p .«writes_n») r
@@ -103,7 +93,12 @@ module _ (w : Words) (z : Sized w) (g : Shaped w) where
   row-needs p r h =
       let a = key-buckets (view w .sizes) (oldKeyOf (w .tables .rows) (w .tables .versions) false r) in
       let b = key-buckets (view w .sizes) (newKeyOf (w .tables .lists) (txnAt w p .slot) (txnAt w p .«writes_n») r) in
-      rw (← a, ← b, old-key-same r h, new-key-same (w .tables .lists) (txnAt w p) (sized-at w z p .writes) r)
+      rw (
+        ← a,
+        ← b,
+        old-key-same (view w .sizes) (w .tables .rows) (w .tables .versions) (w .used) headed r h,
+        new-key-same (w .tables .lists) (txnAt w p) (sized-at w z p .writes) r,
+      )
 
   -- the rows of the pending writes are the pending rows
   pub row-in : (p : ℕ) → 1 ≤ txnAt w p .number → (r : ℕ) → Among r (rowsWritten (w .tables .lists) (txnAt w p .slot) (txnAt w p .«writes_n»)) → r < w .sizes .rows
@@ -111,6 +106,9 @@ module _ (w : Words) (z : Sized w) (g : Shaped w) where
       let ws = lists.writesOf (w .tables .lists) (txnAt w p .slot) (txnAt w p .«writes_n») in
       let a = map-among (λ (x : Write). x .row) ws r m in
       rw (a .2) (g .in-store p l .writes-in (writeView (a .0)) (among-map writeView ws (a .0) (a .1)))
+
+  pub writes-in : (p : ℕ) → 1 ≤ txnAt w p .number → WritesIn (view w .sizes) (w .tables .lists) (txnAt w p)
+  writes-in p l = record { few = sized-at w z p .writes; below = row-in p l }
 
   pub row-pending : (p : ℕ) → 1 ≤ txnAt w p .number → (r : ℕ) → Among r (rowsWritten (w .tables .lists) (txnAt w p .slot) (txnAt w p .«writes_n»)) → Among r (pendingRows (view w .sizes) (view w .txns p .writes))
   row-pending p l r m = written-pending (w .tables .lists) (txnAt w p .slot) (txnAt w p .«writes_n») (view w .sizes) r (row-in p l r m) m

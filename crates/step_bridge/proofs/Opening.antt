@@ -1,12 +1,13 @@
 -- Words in which nothing stands are the fresh store.
 -- Assumes nothing.
 use Prim.Native.Nat.{ℕ, zero, suc, _+_, _*_, _≤_}
-use mathlib.Core.Path.{_≡_, refl, sym, subst, fun-ext}
+use mathlib.Core.Path.{_≡_, refl, sym, ap, subst, fun-ext}
 use mathlib.Core.Bool.{true}
 use mathlib.Core.List.{List, []}
+use native.Mathlib.Nat.{add-zero, zero-add}
 use native.Mathlib.Omega.{arith}
 use lib.ListN.{length, getD}
-use Rattle.base_limits.specs.Limits.{lastNumber}
+use Rattle.base_limits.specs.Limits.{mostLive, lastNumber}
 use Rattle.model.specs.Store as model
 use Rattle.model.specs.Store.{fresh}
 use Rattle.model.specs.Machine.{run, canOpen}
@@ -17,7 +18,8 @@ use Rattle.table.specs.Fields.{rowWords, versionWords, bucketWords}
 use Rattle.table.specs.Lists.{listsWords}
 use Rattle.txn.specs.View.{rowsPart, versionsPart, bucketsPart}
 use Rattle.txn.specs.Methods.{idleOf}
-use Rattle.step.specs.Words.{Words, view, txnAt, freePlaces, Sized}
+use Rattle.txn_places.specs.Places.{freePlaces, freeFrom}
+use Rattle.step.specs.Words.{Words, view, txnAt, Sized}
 use Rattle.step_bridge.proofs.Placed.{idle-view}
 use Rattle.step_bridge.proofs.Same.{same-store}
 use Rattle.step_bridge.proofs.Running.{Stands}
@@ -44,6 +46,12 @@ zero-field : (stride k : ℕ) (xs : List ℕ) → Zero xs → field stride k xs 
 unfolding field
 zero-field stride k xs h = fun-ext λ i. h (stride * i + k)
 
+-- every place is free, and so is what stands past the last
+free-idle : (k n i : ℕ) → getD (freeFrom k n) i (idleOf (k + i)) ≡ idleOf (k + i)
+free-idle k zero i = refl
+free-idle k (suc n) zero = sym (ap idleOf (add-zero k))
+free-idle k (suc n) (suc i) = let e : k + suc i ≡ suc k + i = omega arith in rw e (free-idle (suc k) n i)
+
 module _ (w : Words) (o : Opened w) where
   abbrev rowsOf : List ℕ
   rowsOf = rowsPart (sizesView (w .sizes)) (w .tables .rows)
@@ -55,18 +63,7 @@ module _ (w : Words) (o : Opened w) where
   bucketsOf = bucketsPart (sizesView (w .sizes)) (w .tables .buckets)
 
   place-idle : (i : ℕ) → txnAt w i ≡ idleOf i
-  place-idle i = rw (o .free) (by i)
-    where
-      by : (i : ℕ) → getD freePlaces i (idleOf i) ≡ idleOf i
-      by zero = refl
-      by (suc zero) = refl
-      by (suc (suc zero)) = refl
-      by (suc (suc (suc zero))) = refl
-      by (suc (suc (suc (suc zero)))) = refl
-      by (suc (suc (suc (suc (suc zero))))) = refl
-      by (suc (suc (suc (suc (suc (suc zero)))))) = refl
-      by (suc (suc (suc (suc (suc (suc (suc zero))))))) = refl
-      by (suc (suc (suc (suc (suc (suc (suc (suc i)))))))) = refl
+  place-idle i = rw (o .free) (rw (zero-add i) at (free-idle 0 mostLive i))
 
   opened-sized : Sized w
   opened-sized = record {

@@ -50,12 +50,6 @@ unfolding placeFrom
 place-none k n [] h = refl
 place-none k n (x ∷ xs) h = rw (h 0 (omega arith)) (place-none (suc k) n xs (λ i l. h (suc i) (omega arith)))
 
--- below the length the default does not matter
-pub default-any : {A : Type 0} (l : List A) (i : ℕ) (d e : A) → i < length l → getD l i d ≡ getD l i e
-default-any [] i d e h = absurd (omega arith)
-default-any (x ∷ l) zero d e h = refl
-default-any (x ∷ l) (suc i) d e h = default-any l i d e (omega arith)
-
 -- where a number stands
 abbrev pub standing : Words → ℕ → ℕ
 standing w n = placeOf (view w .txns) n

@@ -1,38 +1,35 @@
 -- Prepare over the words is the model's.
 -- Assumes nothing.
-use Prim.Native.Nat.{ℕ, _≤_, _<_}
+use Prim.Native.Nat.{ℕ, _≤_, _<_, _+_}
 use mathlib.Core.Path.{_≡_, refl, sym, ap, _∙_}
 use mathlib.Core.Bool.{Bool, true, false, cond, not, _&&_, _||_}
 use mathlib.Core.Option.{none, some}
 use mathlib.Core.List.{List}
 use native.Mathlib.Omega.{arith}
 use lib.Dec.{eqb, ltb}
-use lib.ListN.{length, take, getD, replicate, List·getD-map}
+use lib.ListN.{length, take, replicate}
 use borrow.Author.Tests.{eqb-false}
 use Rattle.base_limits.specs.Limits.{mostLive}
-use Rattle.base_lists.specs.Lists.{some-of, Among, join}
+use Rattle.base_lists.specs.Lists.{some-of, Among}
 use Rattle.base_lists.proofs.ListLaws.{same-test, some-which, which-some}
 use Rattle.model.specs.Store.{rank, phaseOpen, phasePrepared}
 use Rattle.model.specs.Verdict as judged
 use Rattle.model.specs.Steps.{pendingRows, neededBuckets, preparedHeld, versionRows}
-use Rattle.model.specs.Refusals.{refusalNumber, WrongPhase, Taken, Conflict, NoVersions, byAnother, reservedBy, reserved, versionsAfter, refusal}
+use Rattle.model.specs.Refusals.{refusalNumber, WrongPhase, Taken, Conflict, NoVersions, byAnother, reservedBy, reserved, versionsAfter, refusal, Refusal, bucketsTaken, rowsClaimed, checks, inPhase, txnOf}
 use Rattle.model.specs.Machine.{accepted, afterRefusal, carried}
 use Rattle.base_protocol.specs.declared.Step.the-variants as ask
 use Rattle.base_protocol.specs.declared.Answer.the-variants as tell
 use Rattle.base_protocol.specs.View.{asked, verdictTold, sizesView}
 use Rattle.table.specs.Fields as fields
 use Rattle.table.proofs.Parts.{part-field}
-use Rattle.table.specs.Regions.{listOf}
-use Rattle.table_buckets.specs.Buckets.{canonicalOf}
 use Rattle.txn.specs.View.{phaseView, rowsPart, versionsPart, bucketsPart, chainsView, indexView, heldView}
-use Rattle.txn.specs.Methods.{withPhase, takenBy, refusedOf, idleOf}
+use Rattle.txn.specs.Methods.{withPhase, takenBy, refusedOf}
 use Rattle.txn.specs.declared.Phase.the-variants as phase
-use Rattle.txn.specs.declared.Transaction.{Transaction}
-use Rattle.txn_needs.specs.Needs.{pushAll, rowsWritten}
-use Rattle.txn_needs.specs.Holders.{anyTaken, anyClaimed, holdAll, claimAll}
-use Rattle.write_prepare.specs.Prepare.{isClear, versionsIn, reservedIn, lacks, neededInto, left, prepareWith, prepareOf}
-use Rattle.finish_install.specs.Install.{rowsListed, pendingInto, versionsInto}
-use Rattle.txn_places.specs.Places.{preparedCount}
+use Rattle.txn_needs.specs.Needs.{rowsWritten}
+use Rattle.table.specs.Fields.{setHolders, setClaims}
+use Rattle.txn_needs.specs.Holders.{anyTaken, anyClaimed}
+use Rattle.txn_needs.specs.Versions.{versionsIn, reservedIn}
+use Rattle.write_prepare.specs.Prepare.{isClear, lacks, neededInto, left, prepareWith, prepareOf}
 use Rattle.step.specs.Steps.{inPrepared}
 use Rattle.step.specs.Words.{Words, view, txnAt, othersIn, Sized}
 use Rattle.step_bridge.proofs.Shaped.{Shaped}
@@ -40,12 +37,14 @@ use Rattle.step_bridge.proofs.Places.{standing, live-at, sized-at}
 use Rattle.step_bridge.proofs.Placed.{txns-set, sized-set}
 use Rattle.step_bridge.proofs.Same.{same-store, SameAt, Same, refused-same, later-tests, by-place}
 use Rattle.step_bridge.proofs.Listing.{listed-all, some-same}
-use Rattle.step_bridge.proofs.Tabled.{hold-all, hold-other, hold-length, claim-all, claim-other, claim-length}
+use Rattle.step_bridge.proofs.Tabled.{set-all, set-other, set-length}
 use Rattle.step_bridge.proofs.Writing.{sized-phase}
 use Rattle.step_bridge.proofs.Judging.{taken-same, verdict-same}
-use Rattle.step_bridge.proofs.Needing.{all-same, listedNeeds, row-in, row-pending, pending-row, needed-listed, listed-needed}
+use Rattle.step_bridge.proofs.Needing.{all-same, headed, rows-most, writes-in, listedNeeds, row-in}
+use Rattle.step_bridge.proofs.Needing.{row-pending, pending-row, needed-listed, listed-needed}
 use Rattle.step_bridge.proofs.Aborting.{listed-few, listed-in}
 use Rattle.step_bridge.proofs.Distinct.{versions-counted}
+use Rattle.step_bridge.proofs.Reserving.{reserved-same}
 
 -- a test of some entry sees only which entries there are
 some-both : (test : ℕ → Bool) (xs ys : List ℕ) → ((x : ℕ) → Among x xs → Among x ys) → ((x : ℕ) → Among x ys → Among x xs) → some-of test xs ≡ some-of test ys
@@ -59,13 +58,6 @@ clear-same (judged.Bucket b captured present) = refl
 clear-same (judged.Row r p) = refl
 clear-same judged.Mark = refl
 
-abbrev preparedOf : Transaction → ℕ
-preparedOf t = preparedCount (t .number) (t .phase) (t .«writes_n»)
-
--- no writes reserve nothing
-pub none-reserved : (rows versions xs : List ℕ) (s : ℕ) → versionsIn rows versions xs s 0 ≡ 0
-unfolding versionsIn versionsInto pendingInto rowsListed pushAll listOf canonicalOf join
-none-reserved rows versions xs s = refl
 
 module _ (w : Words) (z : Sized w) (g : Shaped w) where
   taken-needs : (p : ℕ) → 1 ≤ txnAt w p .number → anyTaken (w .tables .buckets) (txnAt w p .number) (listedNeeds w p) ≡ some-of (byAnother (view w .held .holder) (txnAt w p .number)) (neededBuckets (view w) (view w .txns p))
@@ -83,19 +75,12 @@ module _ (w : Words) (z : Sized w) (g : Shaped w) where
       some-same (λ r. takenBy (fields.claimOf (w .tables .rows) r) (txnAt w p .number)) (byAnother (view w .held .claim) (txnAt w p .number)) (rowsWritten (w .tables .lists) (txnAt w p .slot) (txnAt w p .«writes_n»)) (λ r m. claim-same (txnAt w p .number) r (row-in w z g p l r m))
       ∙ some-both _ _ _ (λ r m. row-pending w z g p l r m) (λ r m. pending-row w z g p r m)
 
-  reserved-one : (i : ℕ) → versionsIn (w .tables .rows) (w .tables .versions) (w .tables .lists) i (getD (othersIn (w .txns) .prepared) i 0) ≡ reservedBy (view w .sizes) (view w .chains) (view w .txns i)
-  unfolding reservedBy
-  reserved-one i = rw (List·getD-map preparedOf (w .txns) i (idleOf i))
-      (by (eqb (txnAt w i .number) 0) refl (eqb (rank (phaseView (txnAt w i .phase))) phasePrepared))
-    where
-      by : (b : Bool) → eqb (txnAt w i .number) 0 ≡ b → (c : Bool) → versionsIn (w .tables .rows) (w .tables .versions) (w .tables .lists) i (cond b 0 (cond c (txnAt w i .«writes_n») 0)) ≡ cond (not b && c) (length (versionRows (view w .sizes) (view w .chains) (view w .txns i .writes))) 0
-      by true e c = none-reserved (w .tables .rows) (w .tables .versions) (w .tables .lists) i
-      by false e false = none-reserved (w .tables .rows) (w .tables .versions) (w .tables .lists) i
-      by false e true = ap (λ (j : ℕ). versionsIn (w .tables .rows) (w .tables .versions) (w .tables .lists) j (txnAt w i .«writes_n»)) (sym (sized-at w z i .slot)) ∙ versions-counted w z g i (let d = eqb-false (txnAt w i .number) 0 e in omega (arith, d))
 
-  reserved-same : reservedIn (w .tables .rows) (w .tables .versions) (w .tables .lists) (othersIn (w .txns) .prepared) ≡ reserved (view w .sizes) (view w .chains) (view w .txns) mostLive
-  unfolding reservedIn reserved
-  reserved-same = omega (arith, reserved-one 0, reserved-one 1, reserved-one 2, reserved-one 3, reserved-one 4, reserved-one 5, reserved-one 6, reserved-one 7)
+  own-same : (p : ℕ) → 1 ≤ txnAt w p .number
+      → versionsIn (w .tables .rows) (w .tables .versions) (w .tables .lists) (txnAt w p .slot) (txnAt w p .«writes_n»)
+      ≡ length (versionRows (view w .sizes) (view w .chains) (view w .txns p .writes))
+  own-same p l = versions-counted (view w .sizes) (w .tables .rows) (w .tables .versions) (w .used) (headed w z g) (rows-most w z g) (w .tables .lists)
+      (txnAt w p) (writes-in w z g p l)
 
   needed-front : (p : ℕ) → take (neededInto (w .tables .rows) (w .tables .versions) (w .tables .lists) (w .sizes .buckets) (txnAt w p .slot) (txnAt w p .«reads_n») (txnAt w p .«writes_n») (replicate 48 0) .n)
       (neededInto (w .tables .rows) (w .tables .versions) (w .tables .lists) (w .sizes .buckets) (txnAt w p .slot) (txnAt w p .«reads_n») (txnAt w p .«writes_n») (replicate 48 0) .out) ≡ listedNeeds w p
@@ -103,24 +88,34 @@ module _ (w : Words) (z : Sized w) (g : Shaped w) where
   needed-front p = listed-all 48 (listedNeeds w p) (listed-few w p z)
 
   -- all that is needed is taken
-  prepare-held : (p : ℕ) → 1 ≤ txnAt w p .number → heldView (rowsPart (sizesView (w .sizes)) (claimAll (w .tables .rows) (txnAt w p .number) (rowsWritten (w .tables .lists) (txnAt w p .slot) (txnAt w p .«writes_n»))))
-      (bucketsPart (sizesView (w .sizes)) (holdAll (w .tables .buckets) (txnAt w p .number) (listedNeeds w p)))
+  prepare-held : (p : ℕ) → 1 ≤ txnAt w p .number
+      → heldView (rowsPart (sizesView (w .sizes))
+      (setClaims (w .tables .rows) (txnAt w p .number) (rowsWritten (w .tables .lists) (txnAt w p .slot) (txnAt w p .«writes_n»))))
+      (bucketsPart (sizesView (w .sizes)) (setHolders (w .tables .buckets) (txnAt w p .number) (listedNeeds w p)))
       ≡ preparedHeld (view w) (view w .txns p)
   prepare-held p l =
       let n = txnAt w p .number in
       let rs = rowsWritten (w .tables .lists) (txnAt w p .slot) (txnAt w p .«writes_n») in
       rw (
-        hold-all (w .sizes .buckets) n (w .tables .buckets) (listedNeeds w p) (listed-in w z g p l) (z .buckets),
-        claim-all (w .sizes .rows) n (w .tables .rows) rs (λ r m. row-in w z g p l r m) (z .rows),
+        set-all 2 1 (omega arith) (w .sizes .buckets) n (w .tables .buckets) (listedNeeds w p) (listed-in w z g p l) (z .buckets),
+        set-all 4 1 (omega arith) (w .sizes .rows) n (w .tables .rows) rs (λ r m. row-in w z g p l r m) (z .rows),
         all-same (view w .held .holder) (listedNeeds w p) (neededBuckets (view w) (view w .txns p)) n (λ b m. listed-needed w z g p l b m) (λ b m. needed-listed w z g p l b m),
         all-same (view w .held .claim) rs (pendingRows (view w .sizes) (view w .txns p .writes)) n (λ r m. row-pending w z g p l r m) (λ r m. pending-row w z g p r m),
       )
 
-  prepare-chains : (n : ℕ) (rs : List ℕ) → chainsView (rowsPart (sizesView (w .sizes)) (claimAll (w .tables .rows) n rs)) (versionsPart (sizesView (w .sizes)) (w .tables .versions)) (w .used) ≡ view w .chains
-  prepare-chains n rs = rw (claim-other (w .sizes .rows) n (w .tables .rows) rs 0 (omega arith) (omega arith))
+  prepare-chains : (n : ℕ) (rs : List ℕ)
+      → chainsView (rowsPart (sizesView (w .sizes)) (setClaims (w .tables .rows) n rs)) (versionsPart (sizesView (w .sizes)) (w .tables .versions))
+      (w .used) ≡ view w .chains
+  prepare-chains n rs = rw (set-other 4 1 (omega arith) (w .sizes .rows) n (w .tables .rows) rs 0 (omega arith) (omega arith))
 
-  prepare-index : (n : ℕ) (rs bs : List ℕ) → indexView (rowsPart (sizesView (w .sizes)) (claimAll (w .tables .rows) n rs)) (bucketsPart (sizesView (w .sizes)) (holdAll (w .tables .buckets) n bs)) ≡ view w .index
-  prepare-index n rs bs = rw (claim-other (w .sizes .rows) n (w .tables .rows) rs 2 (omega arith) (omega arith), claim-other (w .sizes .rows) n (w .tables .rows) rs 3 (omega arith) (omega arith), hold-other (w .sizes .buckets) n (w .tables .buckets) bs)
+  prepare-index : (n : ℕ) (rs bs : List ℕ)
+      → indexView (rowsPart (sizesView (w .sizes)) (setClaims (w .tables .rows) n rs))
+      (bucketsPart (sizesView (w .sizes)) (setHolders (w .tables .buckets) n bs)) ≡ view w .index
+  prepare-index n rs bs = rw (
+    set-other 4 1 (omega arith) (w .sizes .rows) n (w .tables .rows) rs 2 (omega arith) (omega arith),
+    set-other 4 1 (omega arith) (w .sizes .rows) n (w .tables .rows) rs 3 (omega arith) (omega arith),
+    set-other 2 1 (omega arith) (w .sizes .buckets) n (w .tables .buckets) bs 0 (omega arith) (omega arith),
+  )
 
   prepared-at : (n : ℕ) → standing w n < mostLive → 1 ≤ txnAt w (standing w n) .number → (a b c d e : Bool)
       → SameAt w (standing w n)
@@ -131,8 +126,9 @@ module _ (w : Words) (z : Sized w) (g : Shaped w) where
       (cond d (left (refusedOf (txnAt w (standing w n)) (refusalNumber Conflict)) (w .tables .rows) (w .tables .buckets))
       (cond e (left (refusedOf (txnAt w (standing w n)) (refusalNumber NoVersions)) (w .tables .rows) (w .tables .buckets))
       (left (record { answer = tell.Done; txn = withPhase (txnAt w (standing w n)) phase.Prepared })
-      (claimAll (w .tables .rows) (txnAt w (standing w n) .number) (rowsWritten (w .tables .lists) (txnAt w (standing w n) .slot) (txnAt w (standing w n) .«writes_n»)))
-      (holdAll (w .tables .buckets) (txnAt w (standing w n) .number) (listedNeeds w (standing w n)))))))))
+      (setClaims (w .tables .rows) (txnAt w (standing w n) .number)
+      (rowsWritten (w .tables .lists) (txnAt w (standing w n) .slot) (txnAt w (standing w n) .«writes_n»)))
+      (setHolders (w .tables .buckets) (txnAt w (standing w n) .number) (listedNeeds w (standing w n)))))))))
       (w .clock) (w .used) (w .tables))
       (carried (view w) (asked (ask.Prepare n)) (cond a (some WrongPhase) (cond (b || c) (some Taken) (cond d (some Conflict) (cond e (some NoVersions) none)))))
   unfolding carried accepted afterRefusal
@@ -149,7 +145,8 @@ module _ (w : Words) (z : Sized w) (g : Shaped w) where
         store = same-store _ _ refl refl (prepare-chains (t .number) rs) (prepare-index (t .number) rs (listedNeeds w q)) (prepare-held q o) (txns-set w z q l (w .tables .lists) (withPhase t phase.Prepared) (λ j d. refl));
         answer = refl;
         lent = refl;
-        sized = sized-set w z q l _ _ _ _ (sized-phase q t phase.Prepared (sized-at w z q)) (claim-length (t .number) (w .tables .rows) rs) refl (hold-length (t .number) (w .tables .buckets) (listedNeeds w q)) refl;
+        sized = sized-set w z q l _ _ _ _ (sized-phase q t phase.Prepared (sized-at w z q)) (set-length 4 1 (t .number) (w .tables .rows) rs) refl
+            (set-length 2 1 (t .number) (w .tables .buckets) (listedNeeds w q)) refl;
       }
 
   -- the tests after the phase
@@ -160,7 +157,15 @@ module _ (w : Words) (z : Sized w) (g : Shaped w) where
   prepare-place n l o =
       let q = standing w n in
       let t = txnAt w q in
-      rw (needed-front q, taken-needs q o, claimed-rows q o, verdict-same w z g q o, clear-same (judged.verdict (view w .chains) (view w .index) (view w .txns q)), reserved-same, versions-counted w z g q o)
+      rw (
+        needed-front q,
+        taken-needs q o,
+        claimed-rows q o,
+        verdict-same w z g q o,
+        clear-same (judged.verdict (view w .chains) (view w .index) (view w .txns q)),
+        others-same,
+        own-same q o,
+      )
       (prepared-at n l o (not (eqb (rank (phaseView (t .phase))) phaseOpen))
       (some-of (byAnother (view w .held .holder) (t .number)) (neededBuckets (view w) (view w .txns q)))
       (some-of (byAnother (view w .held .claim) (t .number)) (pendingRows (view w .sizes) (view w .txns q .writes)))

@@ -29,8 +29,9 @@ use Rattle.base_protocol.specs.View.{asked, sizesView}
 use Rattle.table.specs.Words.{field}
 use Rattle.txn.specs.View.{phaseView, rowsPart, versionsPart, bucketsPart, chainsView, indexView, heldView}
 use Rattle.txn.specs.Methods.{idleOf, refusedOf}
-use Rattle.finish_install.specs.Install.{oneMore}
-use Rattle.txn_needs.specs.Holders.{stampAll, freeAll, unclaimAll}
+use Rattle.base_numbers.specs.Numbers.{oneMore}
+use Rattle.base_numbers.proofs.Laws.{one-up}
+use Rattle.table.specs.Fields.{setStamps, clearHolders, clearClaims}
 use Rattle.finish_publish.specs.Publish.{postedAll, stampedIn, neededIn, freedIn, publishOf}
 use Rattle.step.specs.Steps.{publishStep, publishedFrom, inPublished}
 use Rattle.step.specs.Words.{Words, view, txnAt, Sized}
@@ -38,12 +39,11 @@ use Rattle.step_bridge.proofs.Shaped.{Shaped, shaped}
 use Rattle.step_bridge.proofs.Places.{standing, sized-at, live-at}
 use Rattle.step_bridge.proofs.Same.{two-held, SameAt, Same, refused-same, later-tests, by-place}
 use Rattle.step_bridge.proofs.Listing.{listed-all}
-use Rattle.step_bridge.proofs.Tabled.{part, InRange, stamp-all, stamp-other, stamp-length}
-use Rattle.step_bridge.proofs.Freeing.{freedAt, freed-release, free-all, unclaim-all, free-all-other, unclaim-all-other, free-all-length, unclaim-all-length}
+use Rattle.step_bridge.proofs.Tabled.{part, InRange, set-all, set-other, set-length}
+use Rattle.step_bridge.proofs.Freeing.{freedAt, freed-release, clear-all, clear-other, clear-length}
 use Rattle.step_bridge.proofs.Keyed.{new-key-same}
 use Rattle.step_bridge.proofs.Needing.{all-same, row-in, row-pending, pending-row}
 use Rattle.step_bridge.proofs.Aborting.{own-rows, ended-at}
-use Rattle.step_bridge.proofs.Pushing.{one-up}
 use Rattle.step_bridge.proofs.Reposting.{keys-by, postings, posted-all, posted-length, posted-other}
 use Rattle.step_bridge.proofs.Changing.{rowChanges, rowsOf, listedAfter, changed-to, changed-back, held-listed, after-few, after-in, changes-few, changes-in}
 
@@ -52,7 +52,7 @@ abbrev rowsPosted : Words → ℕ → List ℕ
 rowsPosted w p = postedAll (w .tables .lists) (txnAt w p .slot) (txnAt w p .«writes_n») (w .tables .rows) (rowsOf w p)
 
 abbrev pub rowsAfter : Words → ℕ → List ℕ
-rowsAfter w p = unclaimAll (rowsPosted w p) (txnAt w p .number) (rowsOf w p)
+rowsAfter w p = clearClaims (rowsPosted w p) (txnAt w p .number) (rowsOf w p)
 
 abbrev changesOf : Words → ℕ → List ℕ
 changesOf w p = join (rowChanges w p) (rowsOf w p)
@@ -61,36 +61,40 @@ abbrev heldOf : Words → ℕ → List ℕ
 heldOf w p = bucketIn (phaseView (txnAt w p .phase)) ∷ listedAfter w p
 
 abbrev pub stamped : Words → ℕ → List ℕ
-stamped w p = stampAll (w .tables .buckets) (w .clock) (changesOf w p)
+stamped w p = setStamps (w .tables .buckets) (w .clock) (changesOf w p)
 
 abbrev pub bucketsAfter : Words → ℕ → List ℕ
-bucketsAfter w p = freeAll (stamped w p) (txnAt w p .number) (heldOf w p)
+bucketsAfter w p = clearHolders (stamped w p) (txnAt w p .number) (heldOf w p)
 
 module _ (w : Words) (z : Sized w) (p : ℕ) where
   -- the words list what they stamp and what they free
   pub stamped-is : stampedIn (w .tables .rows) (w .tables .versions) (w .tables .lists) (w .sizes .buckets) (txnAt w p .number) (txnAt w p .slot) (txnAt w p .«writes_n») (w .clock) (w .tables .buckets) ≡ stamped w p
   unfolding stampedIn
-  stamped-is = ap (λ (bs : List ℕ). stampAll (w .tables .buckets) (w .clock) bs) (listed-all 49 (changesOf w p) (omega (arith, changes-few w z p)))
+  stamped-is = ap (λ (bs : List ℕ). setStamps (w .tables .buckets) (w .clock) bs) (listed-all 49 (changesOf w p) (omega (arith, changes-few w z p)))
 
   pub freed-is : (bs : List ℕ) → freedIn (w .tables .rows) (w .tables .versions) (w .tables .lists) (w .sizes .buckets) true (bucketIn (phaseView (txnAt w p .phase))) (txnAt w p .slot) (txnAt w p .«reads_n») (txnAt w p .«writes_n») (txnAt w p .number) bs
-      ≡ freeAll bs (txnAt w p .number) (heldOf w p)
+      ≡ clearHolders bs (txnAt w p .number) (heldOf w p)
   unfolding freedIn neededIn
-  freed-is bs = ap (λ (hs : List ℕ). freeAll bs (txnAt w p .number) hs) (listed-all 49 (heldOf w p) (omega (arith, after-few w z p)))
+  freed-is bs = ap (λ (hs : List ℕ). clearHolders bs (txnAt w p .number) hs) (listed-all 49 (heldOf w p) (omega (arith, after-few w z p)))
 
   posted-room : 4 * w .sizes .rows ≤ length (rowsPosted w p)
   posted-room = rw (posted-length (w .tables .lists) (txnAt w p .slot) (txnAt w p .«writes_n») (w .sizes .rows) (rowsOf w p) (w .tables .rows)) (z .rows)
 
   stamped-room : 2 * w .sizes .buckets ≤ length (stamped w p)
-  stamped-room = rw (stamp-length (w .clock) (w .tables .buckets) (changesOf w p)) (z .buckets)
+  stamped-room = rw (set-length 2 0 (w .clock) (w .tables .buckets) (changesOf w p)) (z .buckets)
 
   pub rows-long : length (rowsAfter w p) ≡ length (w .tables .rows)
-  rows-long = unclaim-all-length (w .sizes .rows) (txnAt w p .number) (rowsPosted w p) (rowsOf w p) ∙ posted-length (w .tables .lists) (txnAt w p .slot) (txnAt w p .«writes_n») (w .sizes .rows) (rowsOf w p) (w .tables .rows)
+  rows-long = clear-length 4 1 (txnAt w p .number) (rowsPosted w p) (rowsOf w p)
+      ∙ posted-length (w .tables .lists) (txnAt w p .slot) (txnAt w p .«writes_n») (w .sizes .rows) (rowsOf w p) (w .tables .rows)
 
   pub buckets-long : length (bucketsAfter w p) ≡ length (w .tables .buckets)
-  buckets-long = free-all-length (w .sizes .buckets) (txnAt w p .number) (stamped w p) (heldOf w p) ∙ stamp-length (w .clock) (w .tables .buckets) (changesOf w p)
+  buckets-long = clear-length 2 1 (txnAt w p .number) (stamped w p) (heldOf w p) ∙ set-length 2 0 (w .clock) (w .tables .buckets) (changesOf w p)
 
   pub publish-chains : chainsView (rowsPart (sizesView (w .sizes)) (rowsAfter w p)) (versionsPart (sizesView (w .sizes)) (w .tables .versions)) (w .used) ≡ view w .chains
-  publish-chains = rw (unclaim-all-other (w .sizes .rows) (txnAt w p .number) (rowsPosted w p) (rowsOf w p) 0 (omega arith) (omega arith), posted-other (w .tables .lists) (txnAt w p .slot) (txnAt w p .«writes_n») (w .sizes .rows) (rowsOf w p) (w .tables .rows) 0 (omega arith))
+  publish-chains = rw (
+    clear-other 4 1 (omega arith) (w .sizes .rows) (txnAt w p .number) (rowsPosted w p) (rowsOf w p) 0 (omega arith) (omega arith),
+    posted-other (w .tables .lists) (txnAt w p .slot) (txnAt w p .«writes_n») (w .sizes .rows) (rowsOf w p) (w .tables .rows) 0 (omega arith),
+  )
 
 module _ (w : Words) (z : Sized w) (g : Shaped w) (p : ℕ) (l : 1 ≤ txnAt w p .number) where
   held-in : InRange (w .sizes .buckets) (heldOf w p)
@@ -103,7 +107,8 @@ module _ (w : Words) (z : Sized w) (g : Shaped w) (p : ℕ) (l : 1 ≤ txnAt w p
   publish-posted =
       let n = txnAt w p .number in
       let ps = pendingRows (view w .sizes) (view w .txns p .writes) in
-      keys-by _ _ _ _ (unclaim-all-other (w .sizes .rows) n (rowsPosted w p) (rowsOf w p) 2 (omega arith) (omega arith)) (unclaim-all-other (w .sizes .rows) n (rowsPosted w p) (rowsOf w p) 3 (omega arith) (omega arith))
+      keys-by _ _ _ _ (clear-other 4 1 (omega arith) (w .sizes .rows) n (rowsPosted w p) (rowsOf w p) 2 (omega arith) (omega arith))
+      (clear-other 4 1 (omega arith) (w .sizes .rows) n (rowsPosted w p) (rowsOf w p) 3 (omega arith) (omega arith))
       ∙ (fun-ext λ q. posted-all (w .tables .lists) (txnAt w p .slot) (txnAt w p .«writes_n») (w .sizes .rows) (rowsOf w p) (w .tables .rows) (λ r m. row-in w z g p l r m) (z .rows) q
       ∙ rw (
         new-key-same (w .tables .lists) (txnAt w p) (sized-at w z p .writes) q,
@@ -111,8 +116,8 @@ module _ (w : Words) (z : Sized w) (g : Shaped w) (p : ℕ) (l : 1 ≤ txnAt w p
       ))
 
   publish-stamps : field 2 0 (part 2 (w .sizes .buckets) (bucketsAfter w p)) ≡ updateAll (view w .index .stamp) (changedBuckets (view w) (view w .txns p)) (w .clock)
-  publish-stamps = free-all-other (w .sizes .buckets) (txnAt w p .number) (stamped w p) (heldOf w p)
-      ∙ (stamp-all (w .sizes .buckets) (w .clock) (w .tables .buckets) (changesOf w p) (changes-in w z g p) (z .buckets)
+  publish-stamps = clear-other 2 1 (omega arith) (w .sizes .buckets) (txnAt w p .number) (stamped w p) (heldOf w p) 0 (omega arith) (omega arith)
+      ∙ (set-all 2 0 (omega arith) (w .sizes .buckets) (w .clock) (w .tables .buckets) (changesOf w p) (changes-in w z g p) (z .buckets)
       ∙ all-same (view w .index .stamp) (changesOf w p) (changedBuckets (view w) (view w .txns p)) (w .clock) (λ b m. changed-to w z g p l b m) (λ b m. changed-back w z g p l b m))
 
   pub publish-index : indexView (rowsPart (sizesView (w .sizes)) (rowsAfter w p)) (bucketsPart (sizesView (w .sizes)) (bucketsAfter w p)) ≡ publishedIndex (view w) (view w .txns p)
@@ -124,12 +129,13 @@ module _ (w : Words) (z : Sized w) (g : Shaped w) (p : ℕ) (l : 1 ≤ txnAt w p
   -- what is listed is freed
   pub holders-freed : field 2 1 (part 2 (w .sizes .buckets) (bucketsAfter w p)) ≡ freedAt (txnAt w p .number) (view w .held .holder) (heldOf w p)
   holders-freed =
-      free-all (w .sizes .buckets) (txnAt w p .number) (stamped w p) (heldOf w p) held-in (stamped-room w z p)
-      ∙ ap (λ (f : ℕ → ℕ). freedAt (txnAt w p .number) f (heldOf w p)) (stamp-other (w .sizes .buckets) (w .clock) (w .tables .buckets) (changesOf w p))
+      clear-all 2 1 (omega arith) (w .sizes .buckets) (txnAt w p .number) (stamped w p) (heldOf w p) held-in (stamped-room w z p)
+      ∙ ap (λ (f : ℕ → ℕ). freedAt (txnAt w p .number) f (heldOf w p))
+      (set-other 2 0 (omega arith) (w .sizes .buckets) (w .clock) (w .tables .buckets) (changesOf w p) 1 (omega arith) (omega arith))
 
   pub claims-freed : field 4 1 (part 4 (w .sizes .rows) (rowsAfter w p)) ≡ freedAt (txnAt w p .number) (view w .held .claim) (rowsOf w p)
   claims-freed =
-      unclaim-all (w .sizes .rows) (txnAt w p .number) (rowsPosted w p) (rowsOf w p) (λ r m. row-in w z g p l r m) (posted-room w z p)
+      clear-all 4 1 (omega arith) (w .sizes .rows) (txnAt w p .number) (rowsPosted w p) (rowsOf w p) (λ r m. row-in w z g p l r m) (posted-room w z p)
       ∙ ap (λ (f : ℕ → ℕ). freedAt (txnAt w p .number) f (rowsOf w p)) (posted-other (w .tables .lists) (txnAt w p .slot) (txnAt w p .«writes_n») (w .sizes .rows) (rowsOf w p) (w .tables .rows) 1 (omega arith))
 
 -- who is live keeps the clock below the last number

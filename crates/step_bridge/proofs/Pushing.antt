@@ -6,13 +6,14 @@ use mathlib.Core.Bool.{Bool, true, false, cond, not}
 use mathlib.Core.Logic.{_≢_, inl, inr}
 use mathlib.Core.Option.{Option, none, some}
 use mathlib.Core.List.{List, [], _∷_}
-use native.Mathlib.Numerals.{add-one}
 use native.Mathlib.Decide.{ℕ-discrete}
 use native.Mathlib.Omega.{arith}
 use lib.Dec.{eqb}
 use lib.ListN.{length}
-use borrow.Author.Tests.{lt-ltb, eqb-true, not-false}
-use Rattle.base_limits.specs.Limits.{mostLive, mostWrites, mostVersions, lastNumber}
+use borrow.Author.Tests.{eqb-true, not-false}
+use Rattle.base_limits.specs.Limits.{mostLive, mostWrites, mostVersions}
+use Rattle.base_numbers.specs.Numbers.{oneMore}
+use Rattle.base_numbers.proofs.Laws.{one-up}
 use Rattle.base_lists.specs.Table.{update, update-elim}
 use Rattle.model.specs.Store as model
 use Rattle.model.specs.Store.{rank, phasePrepared}
@@ -34,7 +35,7 @@ use Rattle.txn.specs.Methods.{withPhase}
 use Rattle.txn.specs.declared.Phase.the-variants as phase
 use Rattle.txn.specs.declared.Transaction.{Transaction}
 use Rattle.finish_install.specs.Install as install
-use Rattle.finish_install.specs.Install.{oneMore, lastWriteOf, versionStored, pushedRow, pushedRows, toInstall, installOf}
+use Rattle.finish_install.specs.Install.{lastWriteOf, versionStored, pushedRow, pushedRows, toInstall, installOf}
 use Rattle.step.specs.Steps.{inInstalled}
 use Rattle.step.specs.Words.{Words, view, txnAt, Sized}
 use Rattle.step_bridge.proofs.Shaped.{Shaped}
@@ -43,7 +44,7 @@ use Rattle.step_bridge.proofs.Placed.{txns-set, sized-set}
 use Rattle.step_bridge.proofs.Same.{same-store, SameAt, Same, refused-same, later-tests, by-place}
 use Rattle.step_bridge.proofs.Tabled.{part, part-update, part-other, InRange}
 use Rattle.step_bridge.proofs.Writing.{sized-phase}
-use Rattle.step_bridge.proofs.Needing.{row-in, pending-row}
+use Rattle.step_bridge.proofs.Needing.{headed, rows-most, writes-in, row-in, pending-row}
 use Rattle.step_bridge.proofs.Distinct.{versions-front}
 use Rattle.step_bridge.proofs.Installing.{last-key, last-payload, stored-xmin, stored-xmax, stored-next, stored-keys, stored-payload}
 
@@ -64,10 +65,6 @@ pub record Fit (z : model.Sizes) (c : install.Chains) : Type 0 where
   pub rows : 4 * z .rows ≤ length (c .rows)
   pub versions : 6 * suc (z .versions) ≤ length (c .versions)
   pub heads : (r : ℕ) → chainsOf z c .head r ≤ c .used
-
-pub one-up : (u : ℕ) → u < lastNumber → oneMore u ≡ suc u
-unfolding oneMore
-one-up u h = rw (lt-ltb u lastNumber h, add-one u)
 
 -- lengths stay, and so do the other fields of the rows
 module _ (xs : List ℕ) (s n number : ℕ) where
@@ -214,7 +211,11 @@ module _ (w : Words) (z : Sized w) (g : Shaped w) (n : ℕ) (l : standing w n < 
   installed-place : SameAt w (standing w n) (inInstalled (installOf (w .tables .lists) (txnAt w (standing w n)) (chainsIn w)) (w .clock) (w .tables))
       (carried (view w) (asked (ask.Install n)) (refusal (later-tests (view w) (asked (ask.Install n)))))
   unfolding installOf toInstall refusal
-  installed-place = rw (versions-front w z g (standing w n) a) (installed-at (not (eqb (rank (phaseView (txnAt w (standing w n) .phase))) phasePrepared)) refl)
+  installed-place =
+      let q = standing w n in
+      rw (versions-front (view w .sizes) (w .tables .rows) (w .tables .versions) (w .used) (headed w z g) (rows-most w z g) (w .tables .lists) (txnAt w q)
+      (writes-in w z g q a))
+      (installed-at (not (eqb (rank (phaseView (txnAt w q .phase))) phasePrepared)) refl)
 
 -- each distinct pending row that gets a version has it
 pub install-same : (w : Words) → Sized w → Shaped w → (n : ℕ) → Same w (ask.Install n)

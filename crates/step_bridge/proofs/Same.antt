@@ -25,7 +25,8 @@ use Rattle.txn.specs.Methods.{idleOf}
 use Rattle.txn_places.specs.Places.{wantedOf, isBegin, missesOf}
 use Rattle.step.specs.Steps.{Moved, doneBy, stepOf}
 use Rattle.step.specs.Words.{Words, view, txnAt, othersIn, placeFor, movedBy, Sized}
-use Rattle.step_bridge.proofs.Places.{default-any, standing, there, nowhere, place-in, not-there}
+use Rattle.txn_places.proofs.Laws.{default-any}
+use Rattle.step_bridge.proofs.Places.{standing, there, nowhere, place-in, not-there}
 use Rattle.step_bridge.proofs.Placed.{after, unmoved, unmoved-same}
 
 -- a store is its parts

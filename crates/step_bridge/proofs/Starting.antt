@@ -1,6 +1,6 @@
 -- Who is live and who is active, over the words and in the model; begin.
 -- Assumes nothing.
-use Prim.Native.Nat.{ℕ, zero, suc, _+_, _≤_, _<_}
+use Prim.Native.Nat.{ℕ, zero, suc, _+_, _≤_, _<_, min}
 use mathlib.Core.Path.{_≡_, refl, sym, ap, _∙_}
 use mathlib.Core.Bool.{Bool, true, false, cond, not}
 use mathlib.Core.List.{List, [], _∷_, _++_, map, append-assoc, append-nil}
@@ -13,11 +13,12 @@ use lib.ListN.{length, take, getD, set, length-set}
 use lib.Seq.{take-suc-set}
 use borrow.Author.Tests.{lt-leb}
 use Rattle.base_limits.specs.Limits.{mostActive}
+use Rattle.base_numbers.proofs.Laws.{lesser-by}
 use Rattle.base_lists.specs.Lists.{pick, least}
 use Rattle.base_lists.specs.Table.{cond-elim}
 use Rattle.base_lists.proofs.ListLaws.{pick-few}
 use Rattle.model.specs.Seeing.{active}
-use Rattle.txn_begin.specs.Begin.{lower, keepActive, keepAll}
+use Rattle.txn_begin.specs.Begin.{keepActive, keepAll}
 use Rattle.txn_begin.specs.declared.Kept.{Kept}
 use Rattle.txn_places.specs.Places.{liveFrom}
 
@@ -86,10 +87,12 @@ nonzero-more x xs e = rw e
 
 keep-zero : (x : ℕ) (xs : List ℕ) (k : Kept) → eqb x 0 ≡ true → keepAll k (x ∷ xs) ≡ keepAll k xs
 unfolding keepAll keepActive
-keep-zero x xs k e = ap (λ (b : Bool). keepAll (cond b k (cond (leb mostActive (k .n)) k (record { active = set (k .active) (k .n) x; n = k .n + 1; least = lower x (k .least) }))) xs) e
+keep-zero x xs k e = ap
+    (λ (b : Bool). keepAll
+    (cond b k (cond (leb mostActive (k .n)) k (record { active = set (k .active) (k .n) x; n = k .n + 1; least = min x (k .least) }))) xs) e
 
 abbrev more : ℕ → Kept → Kept
-more x k = record { active = set (k .active) (k .n) x; n = k .n + 1; least = lower x (k .least) }
+more x k = record { active = set (k .active) (k .n) x; n = k .n + 1; least = min x (k .least) }
 
 keep-more : (x : ℕ) (xs : List ℕ) (k : Kept) → eqb x 0 ≡ false → k .n < mostActive → keepAll k (x ∷ xs) ≡ keepAll (more x k) xs
 unfolding keepAll keepActive
@@ -99,9 +102,9 @@ keep-none : (k : Kept) → Keeps k [] (keepAll k [])
 unfolding keepAll nonzero least
 keep-none k = record { kept = sym (append-nil (take (k .n) (k .active))); lowest = refl; count = sym (add-zero (k .n)); room = refl }
 
-least-more : (n x : ℕ) (xs : List ℕ) → least n (x ∷ xs) ≡ least (lower x n) xs
+least-more : (n x : ℕ) (xs : List ℕ) → least n (x ∷ xs) ≡ least (min x n) xs
 unfolding least
-least-more n x xs = refl
+least-more n x xs = ap (λ (m : ℕ). least m xs) (lesser-by x n)
 
 pub keep-all : (xs : List ℕ) (k : Kept) → k .n + length (nonzero xs) ≤ mostActive → length (k .active) ≡ mostActive → Keeps k xs (keepAll k xs)
 keep-all [] k h l = keep-none k

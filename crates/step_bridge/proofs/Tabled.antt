@@ -11,10 +11,9 @@ use lib.Dec.{eqb}
 use lib.ListN.{length, take, length-take}
 use Rattle.base_lists.specs.Lists.{member, Among}
 use Rattle.base_lists.specs.Table.{update, updateAll}
-use Rattle.table.specs.Words.{field, setField}
+use Rattle.table.specs.Words.{field, setField, setFields}
 use Rattle.table.proofs.Laws.{below, field-update, field-kept, field-length}
 use Rattle.table.proofs.Parts.{part-set, part-kept}
-use Rattle.txn_needs.specs.Holders.{holdAll, stampAll, claimAll}
 
 -- the first n entries of a table, w words each
 abbrev pub part : ℕ → ℕ → List ℕ → List ℕ
@@ -46,52 +45,21 @@ update-none f v = refl
 abbrev pub InRange : ℕ → List ℕ → Type 0
 InRange n is = (i : ℕ) → Among i is → i < n
 
-module _ (n : ℕ) (v : ℕ) where
-  pub hold-all : (xs bs : List ℕ) → InRange n bs → 2 * n ≤ length xs → field 2 1 (part 2 n (holdAll xs v bs)) ≡ updateAll (field 2 1 (part 2 n xs)) bs v
-  unfolding holdAll
-  hold-all xs [] h l = update-none _ v
-  hold-all xs (b ∷ bs) h l = hold-all (setField 2 1 xs b v) bs (λ i m. h i (inr m)) (rw (field-length 2 1 xs b v) l)
-      ∙ (ap (λ (f : ℕ → ℕ). updateAll f bs v) (part-update 2 1 n xs b v (omega arith) (h b (inl refl)) l) ∙ update-all _ b v bs)
+-- every entry that a list names: the field is updated there, the other fields stay, and so does the length
+module _ (w k : ℕ) (hk : k < w) (n v : ℕ) where
+  pub set-all : (xs is : List ℕ) → InRange n is → w * n ≤ length xs → field w k (part w n (setFields w k xs v is)) ≡ updateAll (field w k (part w n xs)) is v
+  unfolding setFields
+  set-all xs [] h l = update-none _ v
+  set-all xs (i ∷ is) h l =
+      set-all (setField w k xs i v) is (λ j m. h j (inr m)) (rw (field-length w k xs i v) l)
+      ∙ (ap (λ (f : ℕ → ℕ). updateAll f is v) (part-update w k n xs i v hk (h i (inl refl)) l) ∙ update-all _ i v is)
 
-  pub stamp-all : (xs bs : List ℕ) → InRange n bs → 2 * n ≤ length xs → field 2 0 (part 2 n (stampAll xs v bs)) ≡ updateAll (field 2 0 (part 2 n xs)) bs v
-  unfolding stampAll
-  stamp-all xs [] h l = update-none _ v
-  stamp-all xs (b ∷ bs) h l = stamp-all (setField 2 0 xs b v) bs (λ i m. h i (inr m)) (rw (field-length 2 0 xs b v) l)
-      ∙ (ap (λ (f : ℕ → ℕ). updateAll f bs v) (part-update 2 0 n xs b v (omega arith) (h b (inl refl)) l) ∙ update-all _ b v bs)
+  pub set-other : (xs is : List ℕ) (m : ℕ) → m < w → m ≢ k → field w m (part w n (setFields w k xs v is)) ≡ field w m (part w n xs)
+  unfolding setFields
+  set-other xs [] m hm d = refl
+  set-other xs (i ∷ is) m hm d = set-other (setField w k xs i v) is m hm d ∙ part-other w k n xs i v m hm hk d
 
-  pub claim-all : (xs rs : List ℕ) → InRange n rs → 4 * n ≤ length xs → field 4 1 (part 4 n (claimAll xs v rs)) ≡ updateAll (field 4 1 (part 4 n xs)) rs v
-  unfolding claimAll
-  claim-all xs [] h l = update-none _ v
-  claim-all xs (b ∷ bs) h l = claim-all (setField 4 1 xs b v) bs (λ i m. h i (inr m)) (rw (field-length 4 1 xs b v) l)
-      ∙ (ap (λ (f : ℕ → ℕ). updateAll f bs v) (part-update 4 1 n xs b v (omega arith) (h b (inl refl)) l) ∙ update-all _ b v bs)
-
-  -- the other fields stay, and so does the length
-  pub hold-other : (xs bs : List ℕ) → field 2 0 (part 2 n (holdAll xs v bs)) ≡ field 2 0 (part 2 n xs)
-  unfolding holdAll
-  hold-other xs [] = refl
-  hold-other xs (b ∷ bs) = hold-other (setField 2 1 xs b v) bs ∙ part-other 2 1 n xs b v 0 (omega arith) (omega arith) (omega arith)
-
-  pub stamp-other : (xs bs : List ℕ) → field 2 1 (part 2 n (stampAll xs v bs)) ≡ field 2 1 (part 2 n xs)
-  unfolding stampAll
-  stamp-other xs [] = refl
-  stamp-other xs (b ∷ bs) = stamp-other (setField 2 0 xs b v) bs ∙ part-other 2 0 n xs b v 1 (omega arith) (omega arith) (omega arith)
-
-  pub claim-other : (xs rs : List ℕ) (m : ℕ) → m < 4 → m ≢ 1 → field 4 m (part 4 n (claimAll xs v rs)) ≡ field 4 m (part 4 n xs)
-  unfolding claimAll
-  claim-other xs [] m h d = refl
-  claim-other xs (b ∷ bs) m h d = claim-other (setField 4 1 xs b v) bs m h d ∙ part-other 4 1 n xs b v m h (omega arith) d
-
-pub hold-length : (v : ℕ) (xs bs : List ℕ) → length (holdAll xs v bs) ≡ length xs
-unfolding holdAll
-hold-length v xs [] = refl
-hold-length v xs (b ∷ bs) = hold-length v (setField 2 1 xs b v) bs ∙ field-length 2 1 xs b v
-
-pub stamp-length : (v : ℕ) (xs bs : List ℕ) → length (stampAll xs v bs) ≡ length xs
-unfolding stampAll
-stamp-length v xs [] = refl
-stamp-length v xs (b ∷ bs) = stamp-length v (setField 2 0 xs b v) bs ∙ field-length 2 0 xs b v
-
-pub claim-length : (v : ℕ) (xs rs : List ℕ) → length (claimAll xs v rs) ≡ length xs
-unfolding claimAll
-claim-length v xs [] = refl
-claim-length v xs (b ∷ bs) = claim-length v (setField 4 1 xs b v) bs ∙ field-length 4 1 xs b v
+pub set-length : (w k v : ℕ) (xs is : List ℕ) → length (setFields w k xs v is) ≡ length xs
+unfolding setFields
+set-length w k v xs [] = refl
+set-length w k v xs (i ∷ is) = set-length w k v (setField w k xs i v) is ∙ field-length w k xs i v

@@ -3,3 +3,4 @@ pub mod Parts
 pub mod Spans
 pub mod Stored
 pub mod Runs
+pub mod Each

@@ -1,7 +1,7 @@
 -- The fields of the three tables: what stands at which word of an entry.
 use Prim.Native.Nat.{ℕ}
 use mathlib.Core.List.{List}
-use Rattle.table.specs.Words.{field, setField}
+use Rattle.table.specs.Words.{field, setField, setFields, clearFields}
 
 -- a row, from 0 up
 abbrev pub rowWords : ℕ
@@ -20,6 +20,13 @@ claimOf = field rowWords 1
 
 abbrev pub setClaim : List ℕ → ℕ → ℕ → List ℕ
 setClaim = setField rowWords 1
+
+-- of every row of a list; 0 where it was this number
+abbrev pub setClaims : List ℕ → ℕ → List ℕ → List ℕ
+setClaims = setFields rowWords 1
+
+abbrev pub clearClaims : List ℕ → ℕ → List ℕ → List ℕ
+clearClaims = clearFields rowWords 1
 
 -- 0 where the row has no posting
 abbrev pub postedOf : List ℕ → ℕ → ℕ
@@ -92,9 +99,20 @@ stampOf = field bucketWords 0
 abbrev pub setStamp : List ℕ → ℕ → ℕ → List ℕ
 setStamp = setField bucketWords 0
 
+-- of every bucket of a list
+abbrev pub setStamps : List ℕ → ℕ → List ℕ → List ℕ
+setStamps = setFields bucketWords 0
+
 -- 0 or the number of the transaction that holds the bucket
 abbrev pub holderOf : List ℕ → ℕ → ℕ
 holderOf = field bucketWords 1
 
 abbrev pub setHolder : List ℕ → ℕ → ℕ → List ℕ
 setHolder = setField bucketWords 1
+
+-- of every bucket of a list; 0 where it was this number
+abbrev pub setHolders : List ℕ → ℕ → List ℕ → List ℕ
+setHolders = setFields bucketWords 1
+
+abbrev pub clearHolders : List ℕ → ℕ → List ℕ → List ℕ
+clearHolders = clearFields bucketWords 1

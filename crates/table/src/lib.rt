@@ -1,9 +1,11 @@
 // The lent tables: entries of a few words each, read and written by total functions.
 ghost use mathlib.Core.Path.{_≡_};
 ghost use Prim.Native.Nat.{_≤_};
-ghost use lib.ListN.{getD, set};
-ghost use Rattle.table.specs.Words.{field, setField};
-ghost use Rattle.table.specs.Fields.{headOf, setHead, claimOf, setClaim, postedOf, setPosted, postedKeyOf, setPostedKey, xminOf, setXmin, xmaxOf, setXmax, nextOf, setNext, keyedOf, setKeyed, keyOf, setKey, payloadOf, setPayload, stampOf, setStamp, holderOf, setHolder};
+ghost use lib.ListN.{getD, set, take};
+ghost use Rattle.table.specs.Words.{field, setField, setFields};
+ghost use Rattle.table.specs.Fields.{xminOf, setXmin, xmaxOf, setXmax, nextOf, setNext, keyedOf, setKeyed, keyOf, setKey, payloadOf, setPayload};
+ghost use Rattle.table.specs.Fields.{headOf, setHead, claimOf, setClaim, postedOf, setPosted, postedKeyOf, setPostedKey};
+ghost use Rattle.table.specs.Fields.{stampOf, setStamp, setStamps, holderOf, setHolder, setHolders};
 
 pub mod lists; // lists.rt: the lists of a transaction, in its slot
 
@@ -50,6 +52,21 @@ fn set_field(xs: &mut [u64], w: usize, k: usize, i: usize, v: u64)
 {
     if i < xs.len() {
         set_word(xs, w * i + k, v);
+    }
+}
+
+// The same at each entry that the first n words of a list name.
+fn set_fields(xs: &mut [u64], w: usize, k: usize, list: &[u64], n: usize, v: u64)
+    requires { ⌜ (1 ≤ w) × (w ≤ 8) × (k ≤ 8) ⌝ }
+    ensures { λ _. ⌜ now (xs .exit) ≡ setFields w k (now (xs .entry)) v (take n (now (list .entry))) ⌝ }
+{
+    let mut i = 0;
+    while i < list.len() {
+        if n <= i {
+            return;
+        }
+        set_field(xs, w, k, list[i] as usize, v);
+        i += 1;
     }
 }
 
@@ -188,6 +205,13 @@ pub fn set_stamp(buckets: &mut [u64], b: usize, x: u64)
     set_field(buckets, BUCKET_WORDS, 0, b, x);
 }
 
+// The first n buckets of a list get a stamp.
+pub fn set_stamps(buckets: &mut [u64], list: &[u64], n: usize, x: u64)
+    ensures { λ _. ⌜ now (buckets .exit) ≡ setStamps (now (buckets .entry)) x (take n (now (list .entry))) ⌝ }
+{
+    set_fields(buckets, BUCKET_WORDS, 0, list, n, x);
+}
+
 pub fn holder_at(buckets: &[u64], b: usize) -> u64
     ensures { λ x. ⌜ x ≡ holderOf (now (buckets .entry)) b ⌝ }
 {
@@ -198,4 +222,11 @@ pub fn set_holder(buckets: &mut [u64], b: usize, x: u64)
     ensures { λ _. ⌜ now (buckets .exit) ≡ setHolder (now (buckets .entry)) b x ⌝ }
 {
     set_field(buckets, BUCKET_WORDS, 1, b, x);
+}
+
+// The first n buckets of a list get a holder.
+pub fn set_holders(buckets: &mut [u64], list: &[u64], n: usize, x: u64)
+    ensures { λ _. ⌜ now (buckets .exit) ≡ setHolders (now (buckets .entry)) x (take n (now (list .entry))) ⌝ }
+{
+    set_fields(buckets, BUCKET_WORDS, 1, list, n, x);
 }

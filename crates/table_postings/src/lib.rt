@@ -1,24 +1,13 @@
 // The rows posted with a key: whether a row is, and a collect's list of them.
 use base_limits::MOST_ROWS;
+use base_numbers::lesser_u64;
 use table::lists::put_candidate;
 use table::posted_at;
 use table::posted_key_at;
 ghost use mathlib.Core.Path.{_≡_};
-ghost use Prim.Native.Nat.{_<_, min};
+ghost use Prim.Native.Nat.{_<_};
 ghost use lib.ListN.{length};
-ghost use Rattle.base_limits.specs.Limits.{mostRows};
 ghost use Rattle.table_postings.specs.Postings.{postedWith, postedUpTo, keptIn, keepOne};
-
-// The row count, or the candidates' room where that is less.
-fn clipped(row_count: u64) -> u32
-    ensures { λ r. ⌜ r ≡ min «row_count» mostRows ⌝ }
-{
-    if row_count < MOST_ROWS as u64 {
-        row_count as u32
-    } else {
-        MOST_ROWS as u32
-    }
-}
 
 // Whether a row is posted with the key.
 fn posted_with(rows: &[u64], row: u32, key: u64) -> bool
@@ -35,7 +24,7 @@ fn posted_with(rows: &[u64], row: u32, key: u64) -> bool
 pub fn keep_posted(rows: &[u64], lists: &mut [u64], slot: u32, row_count: u64, key: u64) -> u32
     ensures { λ r. ⌜ (r ≡ length (postedUpTo (now (rows .entry)) key «row_count»)) × (now (lists .exit) ≡ keptIn (now (lists .entry)) slot (postedUpTo (now (rows .entry)) key «row_count»)) ⌝ }
 {
-    let most = clipped(row_count);
+    let most = lesser_u64(row_count, MOST_ROWS as u64) as u32;
     let mut n: u32 = 0;
     let mut row: u32 = 0;
     while row < most {

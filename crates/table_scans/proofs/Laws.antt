@@ -3,7 +3,7 @@
 use Prim.Native.Nat.{ℕ, _+_, _<_, _≤_, min}
 use mathlib.Core.Path.{_≡_, refl, sym, _∙_}
 use mathlib.Core.List.{List, map}
-use mathlib.Core.Bool.{false, cond, _&&_, _||_}
+use mathlib.Core.Bool.{false, cond, _||_}
 use native.Mathlib.Numerals.{add-one}
 use native.Mathlib.Decide.{ℕ-discrete, decLt}
 use native.Mathlib.Omega.{arith}
@@ -12,6 +12,7 @@ use lib.Dec.{eqb, ltb}
 use lib.ListN.{length, drop, take, getD, length-take, drop-of-length-le}
 use lib.Seq.{drop-cons, getD-take}
 use Rattle.base_lists.specs.Lists.{member, least}
+use Rattle.base_numbers.proofs.Laws.{lesser-by}
 use Rattle.table.specs.Lists.{Kind, startOf, entryAt, listAt}
 use Rattle.table.proofs.Spans.{list-at, list-length, list-map}
 use Rattle.table_scans.specs.declared.Found.the-variants.{At, Nothing}
@@ -54,10 +55,11 @@ module _ (a : List ℕ) (n i x : ℕ) where
   active-end h = member-end (take n a) i x (rw length-take h)
 
   -- a place past the count takes no part in the least
-  pub least-next : i < length a → least x (drop i (take n a)) ≡ least (cond (ltb i n && ltb (getD a i 0) x) (getD a i 0) x) (drop (i + 1) (take n a))
+  pub least-next : i < length a → least x (drop i (take n a)) ≡ least (cond (ltb i n) (min (getD a i 0) x) x) (drop (i + 1) (take n a))
   unfolding least
   least-next k = elim (decLt i n) [
-    | yes h ↦ let m : i < length (take n a) = rw length-take (omega arith) in rw (lt-ltb i n h, add-one, drop-cons (take n a) i 0, getD-take n a i 0 h)
+    | yes h ↦ let m : i < length (take n a) = rw length-take (omega arith) in
+        rw (lt-ltb i n h, add-one, drop-cons (take n a) i 0, getD-take n a i 0 h, ← lesser-by (getD a i 0) x)
     | no h ↦
         let m : length (take n a) ≤ i = rw length-take (omega (arith, h)) in
         let m′ : length (take n a) ≤ i + 1 = omega arith in

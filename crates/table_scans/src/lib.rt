@@ -1,6 +1,6 @@
 // Scans of a snapshot's active numbers and of a transaction's lists.
 ghost use mathlib.Core.Path.{_≡_};
-ghost use mathlib.Core.Bool.{cond, _&&_};
+ghost use mathlib.Core.Bool.{cond};
 ghost use Prim.Native.Nat.{min};
 ghost use lib.Dec.{ltb};
 ghost use lib.ListN.{take};
@@ -10,6 +10,8 @@ use base_limits::MOST_ACTIVE;
 use base_limits::MOST_INDEX_READS;
 use base_limits::MOST_RECORDS;
 use base_limits::MOST_WRITES;
+use base_numbers::lesser_u32;
+use base_numbers::lesser_u64;
 use table::lists::read_bucket_at;
 use table::lists::record_ptr_at;
 use table::lists::write_row_at;
@@ -39,12 +41,10 @@ pub fn active_contains(active: &[u64], count: usize, id: u64) -> bool
 
 // The lesser of x and n, where x stands at a place below the count; else n.
 fn lower(x: u64, n: u64, i: usize, count: usize) -> u64
-    ensures { λ r. ⌜ r ≡ cond (ltb i count && ltb x n) x n ⌝ }
+    ensures { λ r. ⌜ r ≡ cond (ltb i count) (min x n) n ⌝ }
 {
     if i < count {
-        if x < n {
-            return x;
-        }
+        return lesser_u64(x, n);
     }
     n
 }
@@ -62,18 +62,11 @@ pub fn least_of(number: u64, active: [u64; MOST_ACTIVE], count: usize) -> u64
     lowest
 }
 
-// A count, or the room of its list where that is less.
-pub fn clip(count: u32, room: u32) -> u32
-    ensures { λ r. ⌜ r ≡ min count room ⌝ }
-{
-    if count < room { count } else { room }
-}
-
 // The place of the last of the first `count` pending writes with this row.
 pub fn latest_pending(lists: &[u64], slot: u32, count: u32, row: u64) -> Found
     ensures { λ r. ⌜ r ≡ latestPending (now (lists .entry)) slot count row ⌝ }
 {
-    let mut i = clip(count, MOST_WRITES);
+    let mut i = lesser_u32(count, MOST_WRITES);
     while i > 0 {
         i -= 1;
         if write_row_at(lists, slot, i) == row {
@@ -87,7 +80,7 @@ pub fn latest_pending(lists: &[u64], slot: u32, count: u32, row: u64) -> Found
 fn record_place(lists: &[u64], slot: u32, count: u32, ptr: u64) -> Found
     ensures { λ r. ⌜ r ≡ recordPlace (now (lists .entry)) slot count ptr ⌝ }
 {
-    let n = clip(count, MOST_RECORDS);
+    let n = lesser_u32(count, MOST_RECORDS);
     let mut i = 0;
     while i < n {
         if record_ptr_at(lists, slot, i) == ptr {
@@ -113,7 +106,7 @@ pub fn read_already_recorded(lists: &[u64], slot: u32, count: u32, ptr: u64) -> 
 pub fn find_read_prefix(lists: &[u64], slot: u32, prior_len: u32, bucket: u64) -> Found
     ensures { λ r. ⌜ r ≡ readPrefix (now (lists .entry)) slot «prior_len» bucket ⌝ }
 {
-    let n = clip(prior_len, MOST_INDEX_READS);
+    let n = lesser_u32(prior_len, MOST_INDEX_READS);
     let mut i = 0;
     while i < n {
         if read_bucket_at(lists, slot, i) == bucket {

@@ -8,9 +8,9 @@ use lib.ListN.{length, getD}
 use Rattle.base_limits.specs.Limits.{mostBuckets}
 use Rattle.table_buckets.specs.declared.Canonical.{Canonical}
 use Rattle.table_buckets.specs.declared.Canonical.the-variants.{Sorted, Bad, NoRoom}
-use Rattle.table_buckets.specs.Buckets.{precedes, counted, bucketsOf, checkOf, Made, answered, canonicalOf}
+use Rattle.table_buckets.specs.Buckets.{precedes, counted, bucketsOf, checkOf, sortedCount, Made, answered, canonicalOf}
 use Rattle.tightness.specs.Wrong.{Excludes}
-use Rattle.tightness.proofs.Apart.{apart, bit}
+use Rattle.tightness.proofs.Apart.{apart, itself, bit}
 use Rattle.tightness.proofs.Computes.{computes}
 
 -- `stamp_precedes_snapshot`: a stamp equal to the number too
@@ -21,15 +21,23 @@ stamp-precedes-snapshot-equal = apart (5, 5) bit refl
 pub stamp-precedes-snapshot-reversed : Excludes {A = ℕ × ℕ} (λ (stamp, number). precedes stamp number) (λ (stamp, number). precedes number stamp)
 stamp-precedes-snapshot-reversed = apart (4, 5) bit refl
 
--- what the contracts of `canonical_buckets_sort` and `canonical_buckets_bitmap` ask for: each theorem below is of both
-abbrev canonical : List ℕ × ℕ × List ℕ → Made
-canonical (input, count, old) = canonicalOf input count old
-
 -- the number in an answer
 abbrev numberOf : Canonical → ℕ
 numberOf (Sorted n) = n
 numberOf (Bad b) = b
 numberOf NoRoom = 0
+
+-- `sorted_count`: a bad bucket counts as many
+pub sorted-count-bad : Excludes (λ (a : Canonical). sortedCount a) (λ a. numberOf a)
+sorted-count-bad = apart (Bad 7) itself refl
+
+-- `sorted_count`: none, whatever was listed
+pub sorted-count-none : Excludes (λ (a : Canonical). sortedCount a) (λ a. 0)
+sorted-count-none = apart (Sorted 2) itself refl
+
+-- what the contracts of `canonical_buckets_sort` and `canonical_buckets_bitmap` ask for: each theorem below is of both
+abbrev canonical : List ℕ × ℕ × List ℕ → Made
+canonical (input, count, old) = canonicalOf input count old
 
 -- the buckets as they stand, unsorted and repeated
 pub canonical-buckets-unsorted : Excludes canonical (λ (input, count, old). answered (checkOf (counted count) (length old) input) input old)

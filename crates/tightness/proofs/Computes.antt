@@ -4,7 +4,8 @@ use Rattle.model.proofs.Computes as model
 use Rattle.model.specs.Log as log
 use Rattle.model.specs.Report.{digitsStep, digitsFor, decimal, spaced, line}
 use Rattle.model.specs.Replay.{writeThen, turn, replayFor, replayFrom, replay}
-use Rattle.table.specs.Words.{field, setField}
+use Rattle.base_numbers.specs.Numbers.{oneMore}
+use Rattle.table.specs.Words.{field, setField, setFields, clearFields}
 use Rattle.table.specs.Regions.{words, listOf}
 use Rattle.table_buckets.specs.Buckets.{canonicalOf}
 use Rattle.table_scans.specs.Scans.{firstFrom, lastBelow}
@@ -13,10 +14,10 @@ use Rattle.txn.specs.Methods.{holdOf, captureAt, writeOf, collectOf}
 use Rattle.txn_places.specs.Places.{missesOf, placeFrom, liveFrom}
 use Rattle.txn_needs.specs.Keys.{versionKey, oldKeyOf, newKeyOf, getsVersionOf, headedBy}
 use Rattle.txn_needs.specs.Needs.{pushOne, pushAll, bucketsFor, writeNeeds, writeChanges}
-use Rattle.txn_needs.specs.Holders.{holdAll, stampAll, freeAll, claimAll, unclaimAll}
+use Rattle.txn_needs.specs.Versions.{rowsListed, pendingInto, kept, versionsInto, versionsIn, reservedIn}
 use Rattle.write_verdict.specs.Judged.{firstWhere}
-use Rattle.finish_install.specs.Install.{oneMore, rowsListed, pendingInto, kept, versionsInto, lastWriteOf, versionStored, pushedRow, pushedRows, toInstall, installOf}
-use Rattle.write_prepare.specs.Prepare.{readsTakenIn, validateOf, versionsIn, reservedIn, lacks, neededInto, prepareWith, prepareOf}
+use Rattle.finish_install.specs.Install.{lastWriteOf, versionStored, pushedRow, pushedRows, toInstall, installOf}
+use Rattle.write_prepare.specs.Prepare.{readsTakenIn, validateOf, lacks, neededInto, prepareWith, prepareOf}
 use Rattle.finish_publish.specs.Publish.{endOf, postedOne, postedAll, stampedIn, neededIn, freedIn, publishOf, abortOf}
 use Rattle.txn_begin.specs.Begin.{keepActive, keepAll, snapshotOf, spent, beginOf}
 use Rattle.read_match.specs.Matching.{matchOf}
@@ -34,5 +35,5 @@ use Rattle.report_lines.specs.Lines.{writtenAt}
 
 -- all but `shapeOf` and `callOf`: what tests the shape of a whole store is opened where it is spoken of
 unfoldable pub computes : Unit {0}
-unfolding model.computes log.number log.widths log.total log.whole log.readRecord digitsStep digitsFor decimal spaced line writeThen turn replayFor replayFrom replay field setField words listOf canonicalOf firstFrom lastBelow stepFrom walkFor walkFrom firstVisible holdOf captureAt writeOf collectOf missesOf placeFrom liveFrom versionKey oldKeyOf newKeyOf getsVersionOf headedBy pushOne pushAll bucketsFor writeNeeds writeChanges holdAll stampAll freeAll claimAll unclaimAll firstWhere oneMore rowsListed pendingInto kept versionsInto lastWriteOf versionStored pushedRow pushedRows toInstall installOf readsTakenIn validateOf versionsIn reservedIn lacks neededInto prepareWith prepareOf endOf postedOne postedAll stampedIn neededIn freedIn publishOf abortOf keepActive keepAll snapshotOf spent beginOf matchOf only planned recordsFor putRecords recordedOf matchedRows newRecords readingOf rowsOf releaseEvery unclaimEvery publishStep stepOf placeFor movedBy rangesFit headsFit txnFits placeFits tablesFit sweptFor cleared openOf decodedOf writtenAt
+unfolding model.computes log.number log.widths log.total log.whole log.readRecord digitsStep digitsFor decimal spaced line writeThen turn replayFor replayFrom replay field setField setFields clearFields words listOf canonicalOf firstFrom lastBelow stepFrom walkFor walkFrom firstVisible holdOf captureAt writeOf collectOf missesOf placeFrom liveFrom versionKey oldKeyOf newKeyOf getsVersionOf headedBy pushOne pushAll bucketsFor writeNeeds writeChanges firstWhere oneMore rowsListed pendingInto kept versionsInto lastWriteOf versionStored pushedRow pushedRows toInstall installOf readsTakenIn validateOf versionsIn reservedIn lacks neededInto prepareWith prepareOf endOf postedOne postedAll stampedIn neededIn freedIn publishOf abortOf keepActive keepAll snapshotOf spent beginOf matchOf only planned recordsFor putRecords recordedOf matchedRows newRecords readingOf rowsOf releaseEvery unclaimEvery publishStep stepOf placeFor movedBy rangesFit headsFit txnFits placeFits tablesFit sweptFor cleared openOf decodedOf writtenAt
 computes = tt

@@ -20,8 +20,9 @@ use Rattle.txn_needs.specs.Keys.{keyOf, noKey, versionKey, oldKeyOf, writtenAt,
 use Rattle.txn_needs.specs.Needs.{Listed, pushOne, pushAll, bucketsFor, readsNeed, rowsWritten, writeNeeds, writesNeed, writesChange}
 use Rattle.txn_needs.specs.Holders as spec
 use Rattle.tightness.specs.Wrong.{Excludes}
-use Rattle.tightness.proofs.Apart.{apart, either-way, bit, count}
+use Rattle.tightness.proofs.Apart.{apart, bit, count}
 use Rattle.tightness.proofs.Computes.{computes}
+use Rattle.tightness.proofs.Tables.{two}
 use Rattle.tightness.proofs.Small.{starting, erases, headed, keyedBy, erasedBy, twice}
 
 -- row 0 of head 2 and claim 6, whose chain is version 2, of key 7, over version 1, of this key
@@ -216,25 +217,10 @@ push-changes-unmade-too = apart (row, chain 6, erases, 4, 5, 0, 1, room, 0) coun
 abbrev anyTaken : List ℕ × List ℕ × ℕ × ℕ → Bool
 anyTaken (buckets, list, n, number) = spec.anyTaken buckets number (take n list)
 
-abbrev holdAll : List ℕ × List ℕ × ℕ × ℕ → List ℕ
-holdAll (buckets, list, n, number) = spec.holdAll buckets number (take n list)
-
 abbrev releaseAll : List ℕ × List ℕ × ℕ × ℕ → List ℕ
-releaseAll (buckets, list, n, number) = spec.freeAll buckets number (take n list)
+releaseAll (buckets, list, n, number) = fields.clearHolders buckets number (take n list)
 
-abbrev stampAll : List ℕ × List ℕ × ℕ × ℕ → List ℕ
-stampAll (buckets, list, n, stamp) = spec.stampAll buckets stamp (take n list)
-
--- two buckets, 0 free and 1 held by 5, and what stands in them
-abbrev two : List ℕ
-two = 0 ∷ 0 ∷ 0 ∷ 5 ∷ []
-
-abbrev stamp₀ : List ℕ → ℕ
-stamp₀ xs = getD xs 0 0
-
-abbrev holder₀ : List ℕ → ℕ
-holder₀ xs = getD xs 1 0
-
+-- who holds the second bucket
 abbrev holder₁ : List ℕ → ℕ
 holder₁ xs = getD xs 3 0
 
@@ -248,18 +234,8 @@ pub any-taken-behind : Excludes anyTaken (λ (buckets, list, n, number). spec.an
 unfolding computes
 any-taken-behind = apart (two, 0 ∷ 1 ∷ [], 1, 6) bit refl
 
--- `hold_all`: the number becomes the stamp
-pub hold-all-stamps : Excludes holdAll stampAll
-unfolding computes
-hold-all-stamps = apart (two, 0 ∷ [], 1, 6) holder₀ refl
-
--- `hold_all`: buckets behind the first n too
-pub hold-all-behind : Excludes holdAll (λ (buckets, list, n, number). spec.holdAll buckets number list)
-unfolding computes
-hold-all-behind = apart (two, 0 ∷ [], 0, 6) holder₀ refl
-
 -- `release_all`: freed whoever holds them
-pub release-all-of-others : Excludes releaseAll (λ (buckets, list, n, number). holdAll (buckets, list, n, 0))
+pub release-all-of-others : Excludes releaseAll (λ (buckets, list, n, number). fields.setHolders buckets 0 (take n list))
 unfolding computes
 release-all-of-others = apart (two, 1 ∷ [], 1, 6) holder₁ refl
 
@@ -268,24 +244,15 @@ pub release-all-nothing : Excludes releaseAll (λ (buckets, list, n, number). bu
 unfolding computes
 release-all-nothing = apart (two, 1 ∷ [], 1, 5) holder₁ refl
 
--- `stamp_all`: the stamp becomes the holder
-pub stamp-all-holds : Excludes stampAll holdAll
-stamp-all-holds = either-way hold-all-stamps
-
--- `stamp_all`: only the first bucket
-pub stamp-all-first : Excludes stampAll (λ (buckets, list, n, stamp). stampAll (buckets, list, min n 1, stamp))
-unfolding computes
-stamp-all-first = apart (two, 1 ∷ 0 ∷ [], 2, 6) stamp₀ refl
-
 -- what the contracts of the functions over the pending rows ask for
 abbrev anyClaimed : List ℕ × List ℕ × ℕ × ℕ × ℕ → Bool
 anyClaimed (rows, lists, slot, writes, number) = spec.anyClaimed rows number (rowsWritten lists slot writes)
 
 abbrev claimAll : List ℕ × List ℕ × ℕ × ℕ × ℕ → List ℕ
-claimAll (rows, lists, slot, writes, number) = spec.claimAll rows number (rowsWritten lists slot writes)
+claimAll (rows, lists, slot, writes, number) = fields.setClaims rows number (rowsWritten lists slot writes)
 
 abbrev unclaimAll : List ℕ × List ℕ × ℕ × ℕ × ℕ → List ℕ
-unclaimAll (rows, lists, slot, writes, number) = spec.unclaimAll rows number (rowsWritten lists slot writes)
+unclaimAll (rows, lists, slot, writes, number) = fields.clearClaims rows number (rowsWritten lists slot writes)
 
 abbrev claim₀ : List ℕ → ℕ
 claim₀ xs = getD xs 1 0

@@ -1,6 +1,7 @@
 pub mod Computes
 pub mod Apart
 pub mod Small
+pub mod Numbers
 pub mod Tables
 pub mod Buckets
 pub mod Scans
@@ -12,6 +13,7 @@ pub mod Places
 pub mod Links
 pub mod Fits
 pub mod Holders
+pub mod Versions
 pub mod Verdict
 pub mod Install
 pub mod Prepare

@@ -1,24 +1,14 @@
 -- Wrong bodies of the crate `lines`.
 -- Assumes nothing.
-use Prim.Native.Nat.{ℕ, min}
+use Prim.Native.Nat.{ℕ}
 use mathlib.Core.Path.{refl}
-use mathlib.Core.Bool.{cond}
 use mathlib.Core.List.{List, [], _∷_, _++_}
-use lib.Dec.{ltb}
 use lib.ListN.{getD, replicate}
 use Rattle.model.specs.Report.{line}
 use Rattle.report_lines.specs.Lines.{Written, writtenAt}
 use Rattle.tightness.specs.Wrong.{Excludes}
-use Rattle.tightness.proofs.Apart.{apart, itself}
+use Rattle.tightness.proofs.Apart.{apart}
 use Rattle.tightness.proofs.Computes.{computes}
-
--- `least`: the greater of the two
-pub least-greater : Excludes {A = ℕ × ℕ} (λ (a, b). min a b) (λ (a, b). cond (ltb a b) b a)
-least-greater = apart (0, 1) itself refl
-
--- `least`: always the first
-pub least-first : Excludes {A = ℕ × ℕ} (λ (a, b). min a b) (λ (a, b). a)
-least-first = apart (1, 0) itself refl
 
 -- what a line is written from: the report, the place, the word, the numbers and the rows
 abbrev Given : Type 0

@@ -4,22 +4,14 @@ use Prim.Native.Nat.{ℕ}
 use mathlib.Core.Path.{refl}
 use mathlib.Core.Bool.{Bool, _&&_}
 use mathlib.Core.List.{List, [], _∷_}
-use lib.Dec.{ltb, leb}
 use Rattle.model.specs.Shape as model
+use lib.Dec.{leb}
 use Rattle.base_protocol.specs.declared.Sizes.{Sizes}
 use Rattle.shape_chains.specs.Links.{headsIn, nextsFall, chainsFit}
 use Rattle.tightness.specs.Wrong.{Excludes}
 use Rattle.tightness.proofs.Apart.{apart, bit}
 use Rattle.tightness.proofs.Computes.{computes}
 use Rattle.tightness.proofs.Small.{sizes}
-
--- `within`: 0 is let in
-pub within-zero : Excludes {A = ℕ × ℕ} (λ (n, most). model.within n most) (λ (n, most). leb n most)
-within-zero = apart (0, 1) bit refl
-
--- `within`: the most itself is kept out
-pub within-below-most : Excludes {A = ℕ × ℕ} (λ (n, most). model.within n most) (λ (n, most). leb 1 n && ltb n most)
-within-below-most = apart (1, 1) bit refl
 
 -- what chains_fit is given: rows, versions, the sizes and the last used pointer
 abbrev Given : Type 0

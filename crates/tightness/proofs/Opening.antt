@@ -3,17 +3,12 @@
 use Prim.Native.Nat.{ℕ, suc}
 use mathlib.Core.Path.{refl}
 use mathlib.Core.Bool.{_&&_}
-use mathlib.Core.List.{List, map}
 use lib.Dec.{leb}
-use lib.ListN.{getD, replicate}
-use Rattle.base_limits.specs.Limits.{mostRows, mostVersions, mostBuckets, mostLive}
+use Rattle.base_limits.specs.Limits.{mostRows, mostVersions, mostBuckets}
 use Rattle.model.specs.Shape as model
 use Rattle.model.specs.Machine.{canOpen}
 use Rattle.base_protocol.specs.declared.Sizes.{Sizes}
 use Rattle.base_protocol.specs.View.{sizesView}
-use Rattle.txn.specs.Methods.{idleOf}
-use Rattle.txn.specs.declared.Transaction.{Transaction}
-use Rattle.step.specs.Words.{freePlaces}
 use Rattle.tightness.specs.Wrong.{Excludes}
 use Rattle.tightness.proofs.Apart.{apart, bit}
 use Rattle.tightness.proofs.Computes.{computes}
@@ -37,15 +32,3 @@ can-open-clock-untested = apart (record { rows = 1; versions = 1; buckets = 1 },
 pub can-open-sizes-untested : Excludes {A = Sizes × ℕ} (λ (z, clock). canOpen (sizesView z) clock) (λ (z, clock). leb 1 clock)
 unfolding computes
 can-open-sizes-untested = apart (record { rows = 0; versions = 1; buckets = 1 }, 1) bit refl
-
--- the slot of the record at place 1
-abbrev slotOfSecond : List Transaction → ℕ
-slotOfSecond ts = getD ts 1 (idleOf 0) .slot
-
--- `free_places`: every place has slot 0
-pub free-places-one-slot : Excludes (λ (u : Unit {0}). freePlaces) (λ u. replicate mostLive (idleOf 0))
-free-places-one-slot = apart tt slotOfSecond refl
-
--- `free_places`: the slots are counted from 1
-pub free-places-from-one : Excludes (λ (u : Unit {0}). freePlaces) (λ u. map (λ (t : Transaction). idleOf (suc (t .slot))) freePlaces)
-free-places-from-one = apart tt slotOfSecond refl

@@ -1,9 +1,9 @@
 -- Wrong bodies of the crate `places`.
 -- Assumes nothing.
-use Prim.Native.Nat.{ℕ}
+use Prim.Native.Nat.{ℕ, suc}
 use mathlib.Core.Path.{refl}
 use mathlib.Core.Bool.{Bool, cond, not, _&&_, _||_}
-use mathlib.Core.List.{List}
+use mathlib.Core.List.{List, map}
 use lib.Dec.{eqb}
 use lib.ListN.{length, getD, set, replicate}
 use Rattle.base_limits.specs.Limits.{mostLive}
@@ -12,9 +12,11 @@ use Rattle.model.specs.Store.{rank, phasePrepared, phaseInstalled}
 use Rattle.base_protocol.specs.declared.Step.{Step}
 use Rattle.base_protocol.specs.declared.Step.the-variants as ask
 use Rattle.txn.specs.View.{phaseView}
+use Rattle.txn.specs.Methods.{idleOf}
 use Rattle.txn.specs.declared.Phase.{Phase}
 use Rattle.txn.specs.declared.Phase.the-variants as phase
-use Rattle.txn_places.specs.Places.{wantedOf, isBegin, missesOf, placeFrom, placeIn, activeNumber, preparedCount, liveIn}
+use Rattle.txn.specs.declared.Transaction.{Transaction}
+use Rattle.txn_places.specs.Places.{freePlaces, wantedOf, isBegin, missesOf, placeFrom, placeIn, activeNumber, preparedCount, liveIn}
 use Rattle.tightness.specs.Wrong.{Excludes}
 use Rattle.tightness.proofs.Apart.{apart, itself, bit}
 use Rattle.tightness.proofs.Computes.{computes}
@@ -81,3 +83,15 @@ misses-begin = apart (1, ask.Begin) bit refl
 pub misses-zero : Excludes misses (λ (n, s). not (isBegin s) && not (eqb n (wantedOf s)))
 unfolding computes
 misses-zero = apart (0, ask.End 0) bit refl
+
+-- the slot of the record at place 1
+abbrev slotOfSecond : List Transaction → ℕ
+slotOfSecond ts = getD ts 1 (idleOf 0) .slot
+
+-- `free_places`: every place has slot 0
+pub free-places-one-slot : Excludes (λ (u : Unit {0}). freePlaces) (λ u. replicate mostLive (idleOf 0))
+free-places-one-slot = apart tt slotOfSecond refl
+
+-- `free_places`: the slots are counted from 1
+pub free-places-from-one : Excludes (λ (u : Unit {0}). freePlaces) (λ u. map (λ (t : Transaction). idleOf (suc (t .slot))) freePlaces)
+free-places-from-one = apart tt slotOfSecond refl

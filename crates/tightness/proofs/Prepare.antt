@@ -5,26 +5,24 @@ use mathlib.Core.Path.{refl}
 use mathlib.Core.Bool.{cond, not}
 use mathlib.Core.List.{List, [], _∷_}
 use lib.Dec.{eqb, ltb}
-use lib.ListN.{getD, set, replicate}
+use lib.ListN.{getD, replicate}
 use Rattle.base_limits.specs.Limits.{mostLive, mostWrites}
-use Rattle.model.specs.Log.{total}
 use Rattle.model.specs.Store.{rank, phaseOpen}
 use Rattle.base_protocol.specs.declared.Answer.the-variants as tell
-use Rattle.table.specs.Fields.{rowWords}
+use Rattle.table.specs.Fields.{rowWords, setClaims}
 use Rattle.txn.specs.View.{phaseView}
 use Rattle.txn.specs.Methods.{withReads, refusedOf}
 use Rattle.txn.specs.declared.Phase.the-variants as phase
 use Rattle.txn.specs.declared.Transaction.{Transaction}
 use Rattle.txn.specs.declared.Answered.{Answered}
-use Rattle.txn_needs.specs.Holders.{claimAll}
 use Rattle.txn_needs.specs.Needs.{front}
-use Rattle.finish_install.specs.Install.{pendingInto, versionsInto}
+use Rattle.txn_needs.specs.Versions.{pendingInto, versionsInto}
 use Rattle.write_verdict.specs.Judged.{verdictOf}
-use Rattle.write_prepare.specs.Prepare.{readsTakenIn, validateOf, versionsIn, reservedIn, neededInto, Left, left, mostNeeded, prepareWith, prepareOf}
+use Rattle.write_prepare.specs.Prepare.{readsTakenIn, validateOf, neededInto, Left, left, mostNeeded, prepareWith, prepareOf}
 use Rattle.tightness.specs.Wrong.{Excludes}
-use Rattle.tightness.proofs.Apart.{apart, itself, numberIn}
+use Rattle.tightness.proofs.Apart.{apart, numberIn}
 use Rattle.tightness.proofs.Computes.{computes}
-use Rattle.tightness.proofs.Small.{live, writer, erases, puts, headed, keyedBy, twice}
+use Rattle.tightness.proofs.Small.{live, writer, erases, puts}
 
 -- an Open transaction 1 that has captured bucket 0 at stamp 0: its words in lists, and the bucket's words with a holder
 abbrev reader : Transaction
@@ -56,25 +54,6 @@ pub validate-held-read : Excludes validates (λ (versions, buckets, lists, t).
     (record { answer = tell.Judged (verdictOf versions buckets lists t); txn = t }))
 unfolding computes
 validate-held-read = apart ([], heldBy 2, captured, reader) (λ (a : Answered). numberIn (a .answer)) refl
-
--- what the contract of `reserved` asks for
-abbrev reserves : List ℕ × List ℕ × List ℕ × List ℕ → ℕ
-reserves (rows, versions, lists, prepared) = reservedIn rows versions lists prepared
-
--- `reserved`: two writes of one row are two versions
-pub reserved-each-write : Excludes reserves (λ (rows, versions, lists, prepared). total prepared)
-unfolding computes
-reserved-each-write = apart ([], [], twice, set (replicate mostLive 0) 0 2) itself refl
-
--- `reserved`: only the first slot counts
-pub reserved-first-slot : Excludes reserves (λ (rows, versions, lists, prepared). versionsIn rows versions lists 0 (getD prepared 0 0))
-unfolding computes
-reserved-first-slot = apart (headed, keyedBy 3, [], set (replicate mostLive 0) 1 1) itself refl
-
--- `reserved`: an erase of nothing reserves a version
-pub reserved-of-nothing : Excludes reserves (λ (rows, versions, lists, prepared). pendingInto lists 0 (getD prepared 0 0) (replicate mostWrites 0) .n)
-unfolding computes
-reserved-of-nothing = apart ([], [], erases, set (replicate mostLive 0) 0 1) itself refl
 
 -- what prepare is given: versions, lists, the bucket count, the version count, the last used pointer, what is reserved, the record, rows and buckets
 abbrev Given : Type 0
@@ -110,6 +89,6 @@ prepare-13-of-nothing = apart ([], erases, 1, 0, 0, replicate mostLive 0, writer
 
 -- `prepare`: the row of an erase of nothing is not claimed
 pub prepare-nothing-unclaimed : Excludes prepares (λ (versions, lists, bucketCount, versionCount, used, prepared, t, rows, buckets). let l = prepares (versions, lists, bucketCount, versionCount, used, prepared, t, rows, buckets) in
-    left (l .reply) (claimAll rows (t .number) (front (versionsInto rows versions lists (t .slot) (t .«writes_n») (replicate mostWrites 0)))) (l .buckets))
+    left (l .reply) (setClaims rows (t .number) (front (versionsInto rows versions lists (t .slot) (t .«writes_n») (replicate mostWrites 0)))) (l .buckets))
 unfolding computes
 prepare-nothing-unclaimed = apart (given erases (writer phase.Open) (replicate rowWords 0) []) (λ (l : Left). getD (l .rows) 1 0) refl

@@ -88,15 +88,3 @@ find-read-prefix-last = apart (captured, 0, 2, 1) placeFound refl
 pub find-read-prefix-stamp : Excludes findReadPrefix (λ (lists, slot, n, bucket). spec.firstPlace (map (λ r. r .stamp) (readsOf lists slot (min n mostIndexReads))) bucket)
 unfolding computes
 find-read-prefix-stamp = apart (captured, 0, 2, 1) placeFound refl
-
--- what the contract of `clip` asks for
-abbrev clip : ℕ × ℕ → ℕ
-clip (n, room) = min n room
-
--- `clip`: the room, whatever the count
-pub clip-room : Excludes clip (λ (n, room). room)
-clip-room = apart (0, 1) itself refl
-
--- `clip`: the count, whatever the room
-pub clip-count : Excludes clip (λ (n, room). n)
-clip-count = apart (1, 0) itself refl

@@ -13,7 +13,8 @@ use Rattle.table.specs.Lists.{listsWords}
 use Rattle.txn.specs.declared.Phase.the-variants as phase
 use Rattle.txn.specs.declared.Transaction.{Transaction}
 use Rattle.txn_places.specs.declared.Others.{Others}
-use Rattle.step.specs.Words.{view, freePlaces, othersIn}
+use Rattle.txn_places.specs.Places.{freePlaces}
+use Rattle.step.specs.Words.{view, othersIn}
 use Rattle.shape.specs.Shape.{tablesLent, tablesFit, shapeOf}
 use Rattle.shape.specs.declared.Machine.{Machine}
 use Rattle.call.specs.Calls.{freshOf, closedOf}

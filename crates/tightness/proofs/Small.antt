@@ -18,7 +18,8 @@ use Rattle.txn.specs.Methods.{withWrites}
 use Rattle.txn.specs.declared.Phase.{Phase}
 use Rattle.txn.specs.declared.Phase.the-variants as phase
 use Rattle.txn.specs.declared.Transaction.{Transaction}
-use Rattle.step.specs.Words.{Words, freePlaces}
+use Rattle.txn_places.specs.Places.{freePlaces}
+use Rattle.step.specs.Words.{Words}
 use Rattle.shape.specs.Shape.{shapeOf, wordsOf}
 use Rattle.shape.specs.declared.Machine.{Machine}
 use Rattle.tightness.proofs.Computes.{computes}

@@ -10,7 +10,8 @@ use Rattle.txn.specs.declared.Phase.the-variants as phase
 use Rattle.txn.specs.declared.Transaction.{Transaction}
 use Rattle.txn_places.specs.declared.Others.{Others}
 use Rattle.step.specs.Steps.{Tables, Moved, doneBy, stepOf}
-use Rattle.step.specs.Words.{othersIn, freePlaces}
+use Rattle.txn_places.specs.Places.{freePlaces}
+use Rattle.step.specs.Words.{othersIn}
 use Rattle.tightness.specs.Wrong.{Excludes}
 use Rattle.tightness.proofs.Apart.{apart, numberIn}
 use Rattle.tightness.proofs.Computes.{computes}

@@ -1,13 +1,14 @@
 -- `tables`: wrong bodies of its accessors and setters, by laws over the words of an entry, the field and the place.
 -- Assumes nothing.
-use Prim.Native.Nat.{ℕ, zero, suc, _+_, _*_, _≤_, _<_}
+use Prim.Native.Nat.{ℕ, zero, suc, _+_, _*_, _≤_, _<_, min}
 use mathlib.Core.Path.{_≡_, refl, ap}
 use mathlib.Core.Logic.{_≢_}
 use mathlib.Core.List.{List, [], _∷_}
 use native.Mathlib.Omega.{arith}
-use lib.ListN.{length, getD, set}
+use lib.ListN.{length, take, getD, set}
 use lib.Seq.{getD-set-same, getD-set-other}
 use Rattle.table.specs.Words.{field, setField}
+use Rattle.table.specs.Fields.{setStamps, setHolders}
 use Rattle.table.specs.Regions.{words}
 use Rattle.table.specs.Lists.{Kind, reads, writes, records, candidates, placeOf, readAt, writeAt, recordAt, stored}
 use Rattle.table.specs.declared.lists.IndexRead.{IndexRead}
@@ -15,7 +16,7 @@ use Rattle.table.specs.declared.lists.Write.{Write}
 use Rattle.table.specs.declared.lists.ReadRecord.{ReadRecord}
 use Rattle.table.proofs.Spans.{words-at}
 use Rattle.tightness.specs.Wrong.{Excludes}
-use Rattle.tightness.proofs.Apart.{apart, itself}
+use Rattle.tightness.proofs.Apart.{apart, either-way, itself}
 use Rattle.tightness.proofs.Computes.{computes}
 use Rattle.tightness.proofs.Small.{starting, roomFor}
 
@@ -201,3 +202,39 @@ put-candidate-nothing = apart (roomFor candidates, 0, 0, 1) (firstWord candidate
 -- `put_candidate`: its place is stored, not the row
 pub put-candidate-place : Excludes putCandidate (λ (xs, s, i, row). putCandidate (xs, s, i, i))
 put-candidate-place = apart (roomFor candidates, 0, 0, 1) (firstWord candidates) refl
+
+-- what the contracts of `set_stamps` and `set_holders` ask for
+abbrev setsStamps : List ℕ × List ℕ × ℕ × ℕ → List ℕ
+setsStamps (buckets, list, n, stamp) = setStamps buckets stamp (take n list)
+
+abbrev setsHolders : List ℕ × List ℕ × ℕ × ℕ → List ℕ
+setsHolders (buckets, list, n, number) = setHolders buckets number (take n list)
+
+-- two buckets, 0 free and 1 held by 5, and what stands in the first
+abbrev pub two : List ℕ
+two = 0 ∷ 0 ∷ 0 ∷ 5 ∷ []
+
+abbrev stamp₀ : List ℕ → ℕ
+stamp₀ xs = getD xs 0 0
+
+abbrev holder₀ : List ℕ → ℕ
+holder₀ xs = getD xs 1 0
+
+-- `set_holders`: the number becomes the stamp
+pub set-holders-stamps : Excludes setsHolders setsStamps
+unfolding computes
+set-holders-stamps = apart (two, 0 ∷ [], 1, 6) holder₀ refl
+
+-- `set_holders`: buckets behind the first n too
+pub set-holders-behind : Excludes setsHolders (λ (buckets, list, n, number). setHolders buckets number list)
+unfolding computes
+set-holders-behind = apart (two, 0 ∷ [], 0, 6) holder₀ refl
+
+-- `set_stamps`: the stamp becomes the holder
+pub set-stamps-holds : Excludes setsStamps setsHolders
+set-stamps-holds = either-way set-holders-stamps
+
+-- `set_stamps`: only the first bucket
+pub set-stamps-first : Excludes setsStamps (λ (buckets, list, n, stamp). setsStamps (buckets, list, min n 1, stamp))
+unfolding computes
+set-stamps-first = apart (two, 1 ∷ 0 ∷ [], 2, 6) stamp₀ refl

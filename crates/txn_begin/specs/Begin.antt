@@ -1,5 +1,5 @@
 -- What begin answers and leaves.
-use Prim.Native.Nat.{ℕ, _+_}
+use Prim.Native.Nat.{ℕ, _+_, min}
 use mathlib.Core.Bool.{Bool, false, cond, not}
 use mathlib.Core.List.{List, [], _∷_}
 use lib.Dec.{eqb, ltb, leb}
@@ -10,20 +10,16 @@ use Rattle.base_protocol.specs.declared.Answer.the-variants as tell
 use Rattle.table_chain.specs.declared.Snapshot.{Snapshot}
 use Rattle.txn.specs.declared.Phase.the-variants as phase
 use Rattle.txn.specs.declared.Transaction.{Transaction}
-use Rattle.finish_install.specs.Install.{oneMore}
+use Rattle.base_numbers.specs.Numbers.{oneMore}
 use Rattle.txn_begin.specs.declared.Kept.{Kept}
 use Rattle.txn_begin.specs.declared.Begun.{Begun}
-
--- the lesser of two numbers
-abbrev pub lower : ℕ → ℕ → ℕ
-lower x n = cond (ltb x n) x n
 
 -- one place more: its number is kept where it is not 0 and fewer than seven are kept
 unfoldable pub keepActive : Kept → ℕ → Kept
 keepActive k x =
     cond (eqb x 0) k
     (cond (leb mostActive (k .n)) k
-    (record { active = set (k .active) (k .n) x; n = k .n + 1; least = lower x (k .least) }))
+    (record { active = set (k .active) (k .n) x; n = k .n + 1; least = min x (k .least) }))
 
 unfoldable pub keepAll : Kept → List ℕ → Kept
 keepAll k [] = k

@@ -1,11 +1,14 @@
 // Begin: a number from the clock, and the snapshot that is kept with it.
-use table_chain::Snapshot;
-use finish_install::one_more;
+use base_limits::LAST_NUMBER;
 use base_limits::MOST_ACTIVE;
 use base_limits::MOST_LIVE;
+use base_numbers::lesser_u64;
+use base_numbers::one_more;
+use base_numbers::sum_within;
 use base_protocol::Answer;
 use base_protocol::FULL;
 use base_protocol::NO_NUMBERS;
+use table_chain::Snapshot;
 use txn::Phase;
 use txn::Transaction;
 ghost use mathlib.Core.Path.{_≡_};
@@ -39,9 +42,7 @@ fn keep_active(k: Kept, number: u64) -> Kept
     let mut kept = k;
     kept.active[n] = number;
     kept.n = n + 1;
-    if number < kept.least {
-        kept.least = number;
-    }
+    kept.least = lesser_u64(number, k.least);
     kept
 }
 
@@ -72,10 +73,10 @@ fn snapshot(active: [u64; MOST_LIVE], clock: u64) -> Snapshot
 fn no_numbers(clock: u64, live: u64) -> bool
     ensures { λ r. ⌜ r ≡ spent clock live ⌝ }
 {
-    if live >= 18446744073709551614 {
+    if !sum_within(live, 2, LAST_NUMBER) {
         return true;
     }
-    18446744073709551613 - live < clock
+    !sum_within(clock, live + 2, LAST_NUMBER)
 }
 
 // Begin, at a free place: the record that comes in has number 0.

@@ -1,6 +1,6 @@
 -- How lists in lent words and runs over a list go on by one.
 -- Assumes nothing.
-use Prim.Native.Nat.{ℕ, _+_, _<_, _≤_, min}
+use Prim.Native.Nat.{ℕ, _+_, _<_, _≤_}
 use mathlib.Core.Path.{_≡_, refl}
 use mathlib.Core.Bool.{Bool, true, false}
 use mathlib.Core.Option.{none}
@@ -9,8 +9,8 @@ use native.Mathlib.Numerals.{add-one}
 use native.Mathlib.Omega.{arith}
 use lib.Dec.{eqb, ltb}
 use borrow.Author.Tests.{ltb-true}
-use lib.ListN.{length, take, drop, getD, length-take, length-set, drop-of-length-le}
-use lib.Seq.{getD-take, drop-cons}
+use lib.ListN.{length, drop, length-set, drop-of-length-le}
+use lib.Seq.{drop-cons}
 use Rattle.base_lists.specs.Lists.{join}
 use Rattle.model.specs.Store.{sameKey}
 use Rattle.txn.specs.View.{keyView}
@@ -29,18 +29,6 @@ pub none-same : (keyed key : ℕ) (b : Bool) → eqb keyed 0 ≡ b → sameKey n
 unfolding sameKey
 none-same keyed key true e = rw e
 none-same keyed key false e = rw e
-
--- ---- what is left of the first n of a list, from i on
-module _ (l : List ℕ) (n i : ℕ) where
-  pub left-next : i < n → i < length l → drop i (take n l) ≡ getD l i 0 ∷ drop (i + 1) (take n l)
-  left-next h k =
-      let m : i < length (take n l) = rw length-take (omega arith) in
-      rw (add-one, drop-cons (take n l) i 0, getD-take n l i 0)
-
-  pub left-end : min n (length l) ≤ i → drop i (take n l) ≡ []
-  left-end h =
-      let m : length (take n l) ≤ i = rw length-take h in
-      drop-of-length-le (take n l) m
 
 -- ---- what is left of a field of a slot's list, from i on
 module _ {A : Type 0} (g : A → ℕ) (f : List ℕ → A) (k : Kind) (xs : List ℕ) (s n i : ℕ) where

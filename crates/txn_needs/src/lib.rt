@@ -1,8 +1,4 @@
 // Holders of buckets and claims of rows: what a transaction needs, whether another has it, taking it and freeing it.
-use txn::bucket_of;
-use txn::by_another;
-use table_scans::Found;
-use table_scans::latest_pending;
 use table::claim_at;
 use table::head_at;
 use table::holder_at;
@@ -15,15 +11,21 @@ use table::lists::write_row_at;
 use table::next_at;
 use table::set_claim;
 use table::set_holder;
-use table::set_stamp;
 use table::xmin_at;
+use table_scans::Found;
+use table_scans::latest_pending;
+use txn::bucket_of;
+use txn::by_another;
 ghost use mathlib.Core.Path.{_≡_};
 ghost use mathlib.Core.List.{[], _∷_};
 ghost use lib.ListN.{take};
 ghost use Rattle.model.specs.Store.{sameKey};
 ghost use Rattle.txn_needs.specs.Keys.{getsVersionOf, headedBy, keyOf, versionKey, oldKeyOf, newKeyOf};
 ghost use Rattle.txn_needs.specs.Needs.{pushOne, pushAll, bucketsFor, readsNeed, writeNeeds, writesNeed, rowsWritten, writeChanges, writesChange};
-ghost use Rattle.txn_needs.specs.Holders.{anyTaken, anyClaimed, holdAll, freeAll, claimAll, unclaimAll, stampAll};
+ghost use Rattle.table.specs.Fields.{setClaims, clearClaims, clearHolders};
+ghost use Rattle.txn_needs.specs.Holders.{anyTaken, anyClaimed};
+
+pub mod versions; // versions.rt: the rows that get a version
 
 // A key, or none where `keyed` is 0.
 pub struct Key {
@@ -302,23 +304,9 @@ pub fn any_claimed(rows: &[u64], lists: &[u64], slot: u32, count: u32, number: u
     false
 }
 
-// The first n buckets of a list get a holder.
-pub fn hold_all(buckets: &mut [u64], list: &[u64], n: usize, number: u64)
-    ensures { λ _. ⌜ now (buckets .exit) ≡ holdAll (now (buckets .entry)) number (take n (now (list .entry))) ⌝ }
-{
-    let mut i = 0;
-    while i < list.len() {
-        if n <= i {
-            return;
-        }
-        set_holder(buckets, list[i] as usize, number);
-        i += 1;
-    }
-}
-
 // One bucket is freed where it carries the number.
 fn free(buckets: &mut [u64], bucket: u64, number: u64)
-    ensures { λ _. ⌜ now (buckets .exit) ≡ freeAll (now (buckets .entry)) number (bucket ∷ []) ⌝ }
+    ensures { λ _. ⌜ now (buckets .exit) ≡ clearHolders (now (buckets .entry)) number (bucket ∷ []) ⌝ }
 {
     if holder_at(buckets, bucket as usize) == number {
         set_holder(buckets, bucket as usize, 0);
@@ -327,7 +315,7 @@ fn free(buckets: &mut [u64], bucket: u64, number: u64)
 
 // Frees those of the first n buckets of a list that carry the number.
 pub fn release_all(buckets: &mut [u64], list: &[u64], n: usize, number: u64)
-    ensures { λ _. ⌜ now (buckets .exit) ≡ freeAll (now (buckets .entry)) number (take n (now (list .entry))) ⌝ }
+    ensures { λ _. ⌜ now (buckets .exit) ≡ clearHolders (now (buckets .entry)) number (take n (now (list .entry))) ⌝ }
 {
     let mut i = 0;
     while i < list.len() {
@@ -339,23 +327,9 @@ pub fn release_all(buckets: &mut [u64], list: &[u64], n: usize, number: u64)
     }
 }
 
-// The first n buckets of a list get a stamp.
-pub fn stamp_all(buckets: &mut [u64], list: &[u64], n: usize, stamp: u64)
-    ensures { λ _. ⌜ now (buckets .exit) ≡ stampAll (now (buckets .entry)) stamp (take n (now (list .entry))) ⌝ }
-{
-    let mut i = 0;
-    while i < list.len() {
-        if n <= i {
-            return;
-        }
-        set_stamp(buckets, list[i] as usize, stamp);
-        i += 1;
-    }
-}
-
 // Every pending row gets a claim.
 pub fn claim_all(rows: &mut [u64], lists: &[u64], slot: u32, count: u32, number: u64)
-    ensures { λ _. ⌜ now (rows .exit) ≡ claimAll (now (rows .entry)) number (rowsWritten (now (lists .entry)) slot count) ⌝ }
+    ensures { λ _. ⌜ now (rows .exit) ≡ setClaims (now (rows .entry)) number (rowsWritten (now (lists .entry)) slot count) ⌝ }
 {
     let mut i: u32 = 0;
     while i < count {
@@ -366,7 +340,7 @@ pub fn claim_all(rows: &mut [u64], lists: &[u64], slot: u32, count: u32, number:
 
 // One row's claim is freed where it carries the number.
 fn unclaim(rows: &mut [u64], row: u64, number: u64)
-    ensures { λ _. ⌜ now (rows .exit) ≡ unclaimAll (now (rows .entry)) number (row ∷ []) ⌝ }
+    ensures { λ _. ⌜ now (rows .exit) ≡ clearClaims (now (rows .entry)) number (row ∷ []) ⌝ }
 {
     if claim_at(rows, row as usize) == number {
         set_claim(rows, row as usize, 0);
@@ -375,7 +349,7 @@ fn unclaim(rows: &mut [u64], row: u64, number: u64)
 
 // Frees the claims of those pending rows that carry the number.
 pub fn unclaim_all(rows: &mut [u64], lists: &[u64], slot: u32, count: u32, number: u64)
-    ensures { λ _. ⌜ now (rows .exit) ≡ unclaimAll (now (rows .entry)) number (rowsWritten (now (lists .entry)) slot count) ⌝ }
+    ensures { λ _. ⌜ now (rows .exit) ≡ clearClaims (now (rows .entry)) number (rowsWritten (now (lists .entry)) slot count) ⌝ }
 {
     let mut i: u32 = 0;
     while i < count {

@@ -1,15 +1,18 @@
 -- The eight places of the live transactions: which one a step goes to, and what a step needs to know of the others.
-use Prim.Native.Nat.{ℕ, suc, _+_}
+use Prim.Native.Nat.{ℕ, zero, suc, _+_}
 use mathlib.Core.Bool.{Bool, true, false, cond, not, _&&_, _||_}
 use mathlib.Core.List.{List, [], _∷_}
 use lib.Dec.{eqb}
 use Rattle.model.specs.Store.{rank, phasePrepared, phaseEnded}
 use Rattle.model.specs.Machine.{actor}
+use Rattle.base_limits.specs.Limits.{mostLive}
 use Rattle.base_protocol.specs.declared.Step.{Step}
 use Rattle.base_protocol.specs.declared.Step.the-variants as ask
 use Rattle.base_protocol.specs.View.{asked}
 use Rattle.txn.specs.View.{phaseView}
+use Rattle.txn.specs.Methods.{idleOf}
 use Rattle.txn.specs.declared.Phase.{Phase}
+use Rattle.txn.specs.declared.Transaction.{Transaction}
 
 -- the number that a step names; 0, a free place's, for begin
 abbrev pub wantedOf : Step → ℕ
@@ -59,3 +62,11 @@ liveFrom n (x ∷ xs) = liveFrom (oneLive n x) xs
 
 abbrev pub liveIn : List ℕ → ℕ
 liveIn numbers = liveFrom 0 numbers
+
+-- eight free places, each with its own slot
+abbrev pub freeFrom : ℕ → ℕ → List Transaction
+freeFrom k zero = []
+freeFrom k (suc n) = idleOf k ∷ freeFrom (suc k) n
+
+abbrev pub freePlaces : List Transaction
+freePlaces = freeFrom 0 mostLive

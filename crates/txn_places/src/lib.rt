@@ -4,11 +4,13 @@ use base_protocol::Step;
 use txn::ENDED;
 use txn::PREPARED;
 use txn::Phase;
+use txn::Transaction;
+use txn::idle;
 use txn::phase_rank;
 ghost use mathlib.Core.Path.{_≡_};
 ghost use Prim.Native.Nat.{_<_};
 ghost use Rattle.base_limits.specs.Limits.{lastNumber, mostLive};
-ghost use Rattle.txn_places.specs.Places.{wantedOf, isBegin, missesOf, placeIn, activeNumber, preparedCount, oneLive, liveIn};
+ghost use Rattle.txn_places.specs.Places.{wantedOf, isBegin, missesOf, placeIn, activeNumber, preparedCount, oneLive, liveIn, freePlaces};
 
 // Of each place: its number, 0 where it is free; its number while it is active; how many pending writes it has reserved versions for.
 pub struct Others {
@@ -140,4 +142,18 @@ pub fn misses(number: u64, s: Step) -> bool
         return true;
     }
     number != asked
+}
+
+// Eight free places, each with its own slot.
+pub fn free_places() -> [Transaction; MOST_LIVE]
+    ensures { λ r. ⌜ r ≡ freePlaces ⌝ }
+{
+    let first = idle(0);
+    let mut places = [first; MOST_LIVE];
+    let mut slot: u32 = 0;
+    while slot < MOST_LIVE as u32 {
+        places[slot as usize] = idle(slot);
+        slot += 1;
+    }
+    places
 }

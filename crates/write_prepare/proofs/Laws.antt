@@ -1,13 +1,10 @@
 -- Each way out of prepare, over plain values.
 -- Assumes nothing.
-use Prim.Native.Nat.{ℕ, _+_, _-_, _≤_}
+use Prim.Native.Nat.{ℕ}
 use mathlib.Core.Path.{_≡_, sym, _∙_}
 use mathlib.Core.Bool.{Bool, true, false}
 use mathlib.Core.List.{List}
-use lib.Dec.{eqb, ltb}
-use borrow.Author.Tests.{lt-ltb, ltb-true}
-use native.Mathlib.Omega.{arith}
-use Rattle.base_lists.proofs.ListLaws.{same-test}
+use lib.Dec.{eqb}
 use lib.ListN.{replicate}
 use Rattle.model.specs.Store.{rank}
 use Rattle.base_protocol.specs.declared.Answer.the-variants as tell
@@ -16,7 +13,8 @@ use Rattle.txn.specs.Methods.{withPhase, refusedOf}
 use Rattle.txn.specs.declared.Phase.the-variants as phase
 use Rattle.txn.specs.declared.Transaction.{Transaction}
 use Rattle.txn_needs.specs.Needs.{Listed, pushAll, front, readsNeed, rowsWritten, writesNeed}
-use Rattle.txn_needs.specs.Holders.{anyTaken, anyClaimed, holdAll, claimAll}
+use Rattle.table.specs.Fields.{setHolders, setClaims}
+use Rattle.txn_needs.specs.Holders.{anyTaken, anyClaimed}
 use Rattle.txn_needs.proofs.Laws.{push-append}
 use Rattle.write_verdict.specs.Judged.{verdictOf}
 use Rattle.write_prepare.specs.Prepare.{mostNeeded, readsTakenIn, isClear, lacks, neededInto, left, prepareWith, prepareOf}
@@ -58,13 +56,8 @@ module _ (versions lists : List ℕ) (count limit used : ℕ) (prepared : List �
         prepare-lacks f = sym (on ∙ rw (a, b, d, f))
 
         pub prepare-done : lacks rows versions lists prepared (t .slot) (t .«writes_n») used limit ≡ false
-            → left (record { answer = tell.Done; txn = withPhase t phase.Prepared }) (claimAll rows (t .number) (rowsWritten lists (t .slot) (t .«writes_n»))) (holdAll buckets (t .number) (front st)) ≡ prepareOf versions lists count limit used prepared t rows buckets
+            → left (record { answer = tell.Done; txn = withPhase t phase.Prepared })
+            (setClaims rows (t .number) (rowsWritten lists (t .slot) (t .«writes_n»))) (setHolders buckets (t .number) (front st))
+            ≡ prepareOf versions lists count limit used prepared t rows buckets
         unfolding prepareWith
         prepare-done f = sym (on ∙ rw (a, b, d, f))
-
--- a difference against a sum
-pub exceeds-left : (used reserved own limit : ℕ) → used ≤ limit → reserved ≤ limit - used → ltb (limit - used - reserved) own ≡ ltb limit (used + reserved + own)
-exceeds-left used reserved own limit h k =
-    same-test (ltb (limit - used - reserved) own) (ltb limit (used + reserved + own))
-    (λ t. lt-ltb limit (used + reserved + own) (omega (arith, ltb-true (limit - used - reserved) own t)))
-    (λ t. lt-ltb (limit - used - reserved) own (omega (arith, ltb-true limit (used + reserved + own) t)))

@@ -1,10 +1,10 @@
 -- What validate and prepare answer and leave.
-use Prim.Native.Nat.{ℕ, _+_, min}
+use Prim.Native.Nat.{ℕ, _+_}
 use mathlib.Core.Bool.{Bool, true, false, cond, not}
 use mathlib.Core.List.{List, _++_}
 use lib.Dec.{eqb, ltb}
 use lib.ListN.{getD, replicate}
-use Rattle.base_limits.specs.Limits.{mostIndexReads, mostWrites}
+use Rattle.base_limits.specs.Limits.{mostIndexReads, mostWrites, mostLive}
 use Rattle.model.specs.Store.{rank, phaseOpen}
 use Rattle.model.specs.Refusals.{WrongPhase, Taken, NoVersions, Conflict, refusalNumber}
 use Rattle.base_protocol.specs.declared.Answer.the-variants as tell
@@ -16,8 +16,9 @@ use Rattle.txn.specs.declared.Phase.the-variants as phase
 use Rattle.txn.specs.declared.Transaction.{Transaction}
 use Rattle.txn.specs.declared.Answered.{Answered}
 use Rattle.txn_needs.specs.Needs.{Listed, pushAll, listedIn, front, readsNeed, rowsWritten, writesNeed}
-use Rattle.txn_needs.specs.Holders.{anyTaken, anyClaimed, holdAll, claimAll}
-use Rattle.finish_install.specs.Install.{versionsInto}
+use Rattle.table.specs.Fields.{setHolders, setClaims}
+use Rattle.txn_needs.specs.Holders.{anyTaken, anyClaimed}
+use Rattle.txn_needs.specs.Versions.{versionsIn, reservedIn}
 use Rattle.write_verdict.specs.Judged.{verdictOf}
 
 -- words for the buckets of all index reads and of the old and the new keys of all pending writes
@@ -42,28 +43,10 @@ isClear (verdict.Bucket b captured present) = false
 isClear (verdict.Row r p) = false
 isClear verdict.Mark = false
 
--- how many distinct rows of the pending writes of a slot get a version; at most sixteen
-unfoldable pub versionsIn : List ℕ → List ℕ → List ℕ → ℕ → ℕ → ℕ
-versionsIn rows versions lists slot n = min (versionsInto rows versions lists slot n (replicate mostWrites 0) .n) mostWrites
-
--- of each slot, of its first pending writes, as many as are said
-unfoldable pub reservedIn : List ℕ → List ℕ → List ℕ → List ℕ → ℕ
-reservedIn rows versions lists prepared =
-    versionsIn rows versions lists 0 (getD prepared 0 0)
-    + versionsIn rows versions lists 1 (getD prepared 1 0)
-    + versionsIn rows versions lists 2 (getD prepared 2 0)
-    + versionsIn rows versions lists 3 (getD prepared 3 0)
-    + versionsIn rows versions lists 4 (getD prepared 4 0)
-    + versionsIn rows versions lists 5 (getD prepared 5 0)
-    + versionsIn rows versions lists 6 (getD prepared 6 0)
-    + versionsIn rows versions lists 7 (getD prepared 7 0)
-
--- three numbers together are above a limit
-abbrev pub exceeds : ℕ → ℕ → ℕ → ℕ → Bool
-exceeds used reserved own limit = ltb limit (used + reserved + own)
-
+-- used, reserved by others, and the own rows that get a version are above the limit
 unfoldable pub lacks : List ℕ → List ℕ → List ℕ → List ℕ → ℕ → ℕ → ℕ → ℕ → Bool
-lacks rows versions lists prepared slot n used limit = exceeds used (reservedIn rows versions lists prepared) (versionsIn rows versions lists slot n) limit
+lacks rows versions lists prepared slot n used limit =
+    ltb limit (used + reservedIn rows versions lists prepared mostLive + versionsIn rows versions lists slot n)
 
 -- the buckets that prepare needs, listed
 unfoldable pub neededInto : List ℕ → List ℕ → List ℕ → ℕ → ℕ → ℕ → ℕ → List ℕ → Listed
@@ -85,7 +68,8 @@ prepareWith versions lists limit used prepared t rows buckets needed =
     (cond (anyClaimed rows (t .number) (rowsWritten lists (t .slot) (t .«writes_n»))) (left (refusedOf t (refusalNumber Taken)) rows buckets)
     (cond (not (isClear (verdictOf versions buckets lists t))) (left (refusedOf t (refusalNumber Conflict)) rows buckets)
     (cond (lacks rows versions lists prepared (t .slot) (t .«writes_n») used limit) (left (refusedOf t (refusalNumber NoVersions)) rows buckets)
-    (left (record { answer = tell.Done; txn = withPhase t phase.Prepared }) (claimAll rows (t .number) (rowsWritten lists (t .slot) (t .«writes_n»))) (holdAll buckets (t .number) (front needed))))))
+    (left (record { answer = tell.Done; txn = withPhase t phase.Prepared }) (setClaims rows (t .number) (rowsWritten lists (t .slot) (t .«writes_n»)))
+    (setHolders buckets (t .number) (front needed))))))
 
 unfoldable pub prepareOf : List ℕ → List ℕ → ℕ → ℕ → ℕ → List ℕ → Transaction → List ℕ → List ℕ → Left
 prepareOf versions lists count limit used prepared t rows buckets =

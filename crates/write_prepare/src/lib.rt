@@ -1,32 +1,31 @@
 // Validate and prepare: the verdict once nobody else has what the transaction needs; then it takes it all.
-use txn_needs::any_claimed;
-use txn_needs::any_taken;
-use txn_needs::claim_all;
-use txn_needs::hold_all;
-use txn_needs::push_reads;
-use txn_needs::push_writes;
-use finish_install::MOST_PENDING;
-use finish_install::version_rows;
 use base_limits::MOST_INDEX_READS;
 use base_limits::MOST_LIVE;
 use base_limits::MOST_WRITES;
+use base_numbers::sum_within;
 use base_protocol::Answer;
 use base_protocol::CONFLICT;
 use base_protocol::NO_VERSIONS;
 use base_protocol::TAKEN;
 use base_protocol::Verdict;
 use base_protocol::WRONG_PHASE;
+use table::set_holders;
 use txn::Answered;
 use txn::OPEN;
 use txn::Phase;
 use txn::Transaction;
 use txn::phase_rank;
 use txn::refused;
+use txn_needs::any_claimed;
+use txn_needs::any_taken;
+use txn_needs::claim_all;
+use txn_needs::push_reads;
+use txn_needs::push_writes;
+use txn_needs::versions::count_versions;
+use txn_needs::versions::reserved;
 use write_verdict::verdict;
 ghost use mathlib.Core.Path.{_≡_};
-ghost use Prim.Native.Nat.{_≤_};
-ghost use Rattle.base_limits.specs.Limits.{mostWrites};
-ghost use Rattle.write_prepare.specs.Prepare.{readsTakenIn, validateOf, isClear, versionsIn, reservedIn, exceeds, lacks, neededInto, prepareOf};
+ghost use Rattle.write_prepare.specs.Prepare.{readsTakenIn, validateOf, isClear, lacks, neededInto, prepareOf};
 
 // Words for the buckets of all index reads and of the old and the new keys of all pending writes.
 pub const MOST_NEEDED: usize = (MOST_INDEX_READS + MOST_WRITES + MOST_WRITES) as usize;
@@ -73,45 +72,6 @@ fn is_clear(v: Verdict) -> bool
     }
 }
 
-// How many distinct rows of the pending writes of a slot get a version.
-fn count_versions(rows: &[u64], versions: &[u64], lists: &[u64], slot: u32, count: u32) -> u64
-    ensures { λ r. ⌜ (r ≡ versionsIn (now (rows .entry)) (now (versions .entry)) (now (lists .entry)) slot count) × (r ≤ mostWrites) ⌝ }
-{
-    let mut list = [0u64; MOST_PENDING];
-    let n = version_rows(rows, versions, lists, slot, count, &mut list);
-    if n < MOST_PENDING {
-        return n as u64;
-    }
-    MOST_PENDING as u64
-}
-
-// The versions that Prepared transactions have reserved: of each slot the distinct rows that get one, of its first pending writes, as many as `prepared` says.
-pub fn reserved(rows: &[u64], versions: &[u64], lists: &[u64], prepared: [u32; MOST_LIVE]) -> u64
-    ensures { λ r. ⌜ r ≡ reservedIn (now (rows .entry)) (now (versions .entry)) (now (lists .entry)) prepared ⌝ }
-{
-    count_versions(rows, versions, lists, 0, prepared[0])
-        + count_versions(rows, versions, lists, 1, prepared[1])
-        + count_versions(rows, versions, lists, 2, prepared[2])
-        + count_versions(rows, versions, lists, 3, prepared[3])
-        + count_versions(rows, versions, lists, 4, prepared[4])
-        + count_versions(rows, versions, lists, 5, prepared[5])
-        + count_versions(rows, versions, lists, 6, prepared[6])
-        + count_versions(rows, versions, lists, 7, prepared[7])
-}
-
-// Whether three numbers together are above a limit.
-fn exceed(used: u64, reserved: u64, own: u64, limit: u64) -> bool
-    ensures { λ r. ⌜ r ≡ exceeds used reserved own limit ⌝ }
-{
-    if limit < used {
-        return true;
-    }
-    if limit - used < reserved {
-        return true;
-    }
-    limit - used - reserved < own
-}
-
 // Whether there are too few versions: used, reserved by others, and the own rows that get one are above the limit.
 fn no_versions(
     rows: &[u64],
@@ -127,7 +87,7 @@ fn no_versions(
 {
     let others = reserved(rows, versions, lists, prepared);
     let own = count_versions(rows, versions, lists, slot, count);
-    exceed(used, others, own, version_count)
+    !sum_within(used, others + own, version_count)
 }
 
 // The buckets that prepare needs: of the index reads, and of the old and the new key of every pending row.
@@ -207,7 +167,7 @@ pub fn prepare(
     ) {
         return refused(t, NO_VERSIONS);
     }
-    hold_all(buckets, &list, n, t.number);
+    set_holders(buckets, &list, n, t.number);
     claim_all(rows, lists, t.slot, t.writes_n, t.number);
     Answered {
         answer: Answer::Done,

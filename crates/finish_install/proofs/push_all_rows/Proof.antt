@@ -5,7 +5,7 @@ use mathlib.Core.Path.{_≡_, refl, sym, _∙_}
 use Prim.Native.Nat.{_≤_, _-_}
 use native.Mathlib.Omega.{arith}
 use lib.ListN.{length, take, drop}
-use Rattle.txn_needs.proofs.Laws.{left-next, left-end}
+use Rattle.table.proofs.Each.{left-next, left-end}
 use Rattle.finish_install.specs.Install.{pushedRows}
 use Rattle.finish_install.proofs.push_all_rows.Statement.{statement}
 use Rattle.finish_install.proofs.push_all_rows.Tie as tie

@@ -13,17 +13,21 @@ slice-aggregate-push-changes c = search needs
 push-changes-requires : tie.Need-push-changes-requires
 push-changes-requires c κs = search needs
 
-slice-aggregate-stamp-all : tie.Need-slice-aggregate-stamp-all
-slice-aggregate-stamp-all c = search needs
+slice-aggregate-set-stamps : tie.Need-slice-aggregate-set-stamps
+slice-aggregate-set-stamps c = search needs
 
-stamp-all-requires : tie.Need-stamp-all-requires
-stamp-all-requires c κs = search needs
+set-stamps-requires : tie.Need-set-stamps-requires
+set-stamps-requires c κs = search needs
 
 same-length : tie.Need-same-length
 same-length c = search needs
 
 returns : tie.Need-returns
-returns c = let a = c .before .before .before .before .before .before .before .before .before .before .before .before .args in c .before .before .stamp-all .ensures ∙ stamped-made (a .rows .now) (a .versions .now) (a .lists .now) (a .bucket-count) (a .number) (a .slot) (a .count) (a .stamp) (a .buckets .now) _ (c .before .before .before .before .before .before .push-changes .ensures)
+returns c =
+    let a = c .before .before .before .before .before .before .before .before .before .before .before .before .args in
+    c .before .before .set-stamps .ensures
+    ∙ stamped-made (a .rows .now) (a .versions .now) (a .lists .now) (a .bucket-count) (a .number) (a .slot) (a .count) (a .stamp) (a .buckets .now) _
+    (c .before .before .before .before .before .before .push-changes .ensures)
 
 pub stamp-changes-spec : {M : Type 1} → statement M
 stamp-changes-spec =
@@ -31,7 +35,7 @@ stamp-changes-spec =
     (tie.spec
     slice-aggregate-push-changes
     push-changes-requires
-    slice-aggregate-stamp-all
-    stamp-all-requires
+    slice-aggregate-set-stamps
+    set-stamps-requires
     same-length
     returns)

@@ -17,25 +17,25 @@ word-of-requires c κs = search needs
 numbers-of-requires : tie.Need-numbers-of-requires
 numbers-of-requires c κs = search needs
 
-least-requires : tie.Need-least-requires
-least-requires c κs = search needs
+lesser-usize-requires : tie.Need-lesser-usize-requires
+lesser-usize-requires c κs = search needs
 
 -- behind the lesser count of rows: the calls before it
-abbrev worded : tie.After-least → tie.After-word-of
+abbrev worded : tie.After-lesser-usize → tie.After-word-of
 worded c = let numbers = c .before .before in numbers .before .before
 
-abbrev begun : tie.After-least → tie.Start
+abbrev begun : tie.After-lesser-usize → tie.Start
 begun c = worded c .before .before .before
 
 -- the word is within its eight bytes, the numbers within their five, and the rows within those lent
-in-word : (c : tie.After-least) → worded c .word-of .result .long ≤ length (worded c .word-of .result .bytes)
+in-word : (c : tie.After-lesser-usize) → worded c .word-of .result .long ≤ length (worded c .word-of .result .bytes)
 in-word c = let eight : length (worded c .word-of .result .bytes) ≡ 8 = search needs in omega arith
 
-in-numbers : (c : tie.After-least) → c .before .before .numbers-of .result .count ≤ length (c .before .before .numbers-of .result .list)
+in-numbers : (c : tie.After-lesser-usize) → c .before .before .numbers-of .result .count ≤ length (c .before .before .numbers-of .result .list)
 in-numbers c = let five : length (c .before .before .numbers-of .result .list) ≡ 5 = search needs in omega arith
 
-in-rows : (c : tie.After-least) → c .least .result ≤ length (begun c .args .rows .now)
-in-rows c = let k = c .least .ensures in omega arith
+in-rows : (c : tie.After-lesser-usize) → c .lesser-usize .result ≤ length (begun c .args .rows .now)
+in-rows c = let k = c .lesser-usize .ensures in omega arith
 
 array-share-prefix-bytes : tie.Need-array-share-prefix-bytes
 array-share-prefix-bytes c = in-word (c .before)
@@ -59,7 +59,7 @@ slice-aggregate-write-line-3 : tie.Need-slice-aggregate-write-line-3
 slice-aggregate-write-line-3 c =
     let bytes = c .before .before in
     let k = bytes .before .before in
-    sym (length-take-le (k .least .result) (begun k .args .rows .now) (in-rows k))
+    sym (length-take-le (k .lesser-usize .result) (begun k .args .rows .now) (in-rows k))
 
 write-line-requires : tie.Need-write-line-requires
 write-line-requires c κs = search needs
@@ -76,7 +76,7 @@ returns c =
     let n = k .before .before .numbers-of in
     call .write-line .ensures
     ∙ ap (writtenAt (a .report .now) (a .at))
-    (line-said (a .step) (a .answer) (a .rows .now) _ (n .result) (k .least .result) (worded k .word-of .ensures .0) (n .ensures .0) (k .least .ensures))
+    (line-said (a .step) (a .answer) (a .rows .now) _ (n .result) (k .lesser-usize .result) (worded k .word-of .ensures .0) (n .ensures .0) (k .lesser-usize .ensures))
 
 pub answer-line-spec : {M : Type 1} → statement M
 answer-line-spec =
@@ -84,7 +84,7 @@ answer-line-spec =
     (tie.spec
     word-of-requires
     numbers-of-requires
-    least-requires
+    lesser-usize-requires
     array-share-prefix-bytes
     slice-aggregate-write-line
     array-share-prefix-list

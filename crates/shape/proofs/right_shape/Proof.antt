@@ -6,8 +6,8 @@ use Prim.Native.Nat.{ℕ, _+_}
 use lib.Dec.{leb}
 use lib.ListN.{length, length-map}
 use borrow.Author.Tests.{le-leb, lt-leb, not-true, not-false}
-use Rattle.base_limits.specs.Limits.{lastNumber}
-use Rattle.write_prepare.specs.Prepare.{reservedIn}
+use Rattle.base_limits.specs.Limits.{lastNumber, mostLive}
+use Rattle.txn_needs.specs.Versions.{reservedIn}
 use Rattle.txn_places.specs.declared.Others.{Others}
 use Rattle.txn_places.specs.Places.{liveIn}
 use Rattle.step.specs.Words.{othersIn}
@@ -24,14 +24,11 @@ tables-lent-requires c κs = search needs
 returns : tie.Need-returns
 unfolding tablesFit
 returns c =
-    let a = c .before .before .before .before .before .before .before .before .args in
-    let n : length (a .m .txns) ≡ 8 = simp length-map at (c .before .before .before .before .before .before .before .before .good .1 .1 .1 .1 .0 .1 .1 .1 .1 .1 .0 .1 .0 .1) in
+    let c8 = c .before .before .before .before .before .before .before .before in
+    let a = c8 .args in
+    let n : length (a .m .txns) ≡ 8 = simp length-map at (c8 .good .1 .1 .1 .1 .0 .1 .1 .1 .1 .1 .0 .1 .0 .1) in
     let w = wordsOf (a .rows-table .now) (a .versions .now) (a .buckets .now) (a .lists .now) [] (a .m) in
-    rw (
-      shape-tested w n,
-      ← c .before .tables-lent .ensures,
-      not-true (c .before .tables-lent .result) (c .if1 .taken),
-    )
+    rw (shape-tested w n, ← c .before .tables-lent .ensures, not-true (c .before .tables-lent .result) (c .if1 .taken))
 
 all-in-place-requires : tie.Need-all-in-place-requires
 all-in-place-requires c κs = search needs
@@ -39,13 +36,15 @@ all-in-place-requires c κs = search needs
 returns-2 : tie.Need-returns-2
 unfolding tablesFit
 returns-2 c =
-    let a = c .before .before .before .before .before .before .before .before .before .before .args in
-    let n : length (a .m .txns) ≡ 8 = simp length-map at (c .before .before .before .before .before .before .before .before .before .before .good .1 .1 .1 .1 .0 .1 .1 .1 .1 .1 .0 .1 .0 .1) in
+    let c3 = c .before .before .before in
+    let c10 = c3 .before .before .before .before .before .before .before in
+    let a = c10 .args in
+    let n : length (a .m .txns) ≡ 8 = simp length-map at (c10 .good .1 .1 .1 .1 .0 .1 .1 .1 .1 .1 .0 .1 .0 .1) in
     let w = wordsOf (a .rows-table .now) (a .versions .now) (a .buckets .now) (a .lists .now) [] (a .m) in
     rw (
       shape-tested w n,
-      ← c .before .before .before .tables-lent .ensures,
-      not-false (c .before .before .before .tables-lent .result) (c .before .before .if1 .left),
+      ← c3 .tables-lent .ensures,
+      not-false (c3 .tables-lent .result) (c .before .before .if1 .left),
       ← c .before .all-in-place .ensures,
       not-true (c .before .all-in-place .result) (c .if2 .taken),
     )
@@ -56,15 +55,19 @@ good-sizes-requires c κs = search needs
 returns-3 : tie.Need-returns-3
 unfolding tablesFit
 returns-3 c =
-    let a = c .before .before .before .before .before .before .before .before .before .before .before .before .args in
-    let n : length (a .m .txns) ≡ 8 = simp length-map at (c .before .before .before .before .before .before .before .before .before .before .before .before .good .1 .1 .1 .1 .0 .1 .1 .1 .1 .1 .0 .1 .0 .1) in
+    let c3 = c .before .before .before in
+    let c4 = c3 .before in
+    let c5 = c4 .before in
+    let c12 = c5 .before .before .before .before .before .before .before in
+    let a = c12 .args in
+    let n : length (a .m .txns) ≡ 8 = simp length-map at (c12 .good .1 .1 .1 .1 .0 .1 .1 .1 .1 .1 .0 .1 .0 .1) in
     let w = wordsOf (a .rows-table .now) (a .versions .now) (a .buckets .now) (a .lists .now) [] (a .m) in
     rw (
       shape-tested w n,
-      ← c .before .before .before .before .before .tables-lent .ensures,
-      not-false (c .before .before .before .before .before .tables-lent .result) (c .before .before .before .before .if1 .left),
-      ← c .before .before .before .all-in-place .ensures,
-      not-false (c .before .before .before .all-in-place .result) (c .before .before .if2 .left),
+      ← c5 .tables-lent .ensures,
+      not-false (c5 .tables-lent .result) (c4 .if1 .left),
+      ← c3 .all-in-place .ensures,
+      not-false (c3 .all-in-place .result) (c .before .before .if2 .left),
       ← c .before .good-sizes .ensures,
       not-true (c .before .good-sizes .result) (c .if3 .taken),
     )
@@ -72,17 +75,23 @@ returns-3 c =
 returns-4 : tie.Need-returns-4
 unfolding tablesFit
 returns-4 c =
-    let a = c .before .before .before .before .before .before .before .before .before .before .before .before .before .before .args in
-    let n : length (a .m .txns) ≡ 8 = simp length-map at (c .before .before .before .before .before .before .before .before .before .before .before .before .before .before .good .1 .1 .1 .1 .0 .1 .1 .1 .1 .1 .0 .1 .0 .1) in
+    let c3 = c .before .before .before in
+    let c4 = c3 .before in
+    let c5 = c4 .before in
+    let c6 = c5 .before in
+    let c7 = c6 .before in
+    let c14 = c7 .before .before .before .before .before .before .before in
+    let a = c14 .args in
+    let n : length (a .m .txns) ≡ 8 = simp length-map at (c14 .good .1 .1 .1 .1 .0 .1 .1 .1 .1 .1 .0 .1 .0 .1) in
     let w = wordsOf (a .rows-table .now) (a .versions .now) (a .buckets .now) (a .lists .now) [] (a .m) in
     rw (
       shape-tested w n,
-      ← c .before .before .before .before .before .before .before .tables-lent .ensures,
-      not-false (c .before .before .before .before .before .before .before .tables-lent .result) (c .before .before .before .before .before .before .if1 .left),
-      ← c .before .before .before .before .before .all-in-place .ensures,
-      not-false (c .before .before .before .before .before .all-in-place .result) (c .before .before .before .before .if2 .left),
-      ← c .before .before .before .good-sizes .ensures,
-      not-false (c .before .before .before .good-sizes .result) (c .before .before .if3 .left),
+      ← c7 .tables-lent .ensures,
+      not-false (c7 .tables-lent .result) (c6 .if1 .left),
+      ← c5 .all-in-place .ensures,
+      not-false (c5 .all-in-place .result) (c4 .if2 .left),
+      ← c3 .good-sizes .ensures,
+      not-false (c3 .good-sizes .result) (c .before .before .if3 .left),
       lt-leb _ _ (c .if4 .taken),
     )
 
@@ -92,17 +101,24 @@ chains-fit-requires c κs = search needs
 returns-5 : tie.Need-returns-5
 unfolding tablesFit
 returns-5 c =
-    let a = c .before .before .before .before .before .before .before .before .before .before .before .before .before .before .before .before .args in
-    let n : length (a .m .txns) ≡ 8 = simp length-map at (c .before .before .before .before .before .before .before .before .before .before .before .before .before .before .before .before .good .1 .1 .1 .1 .0 .1 .1 .1 .1 .1 .0 .1 .0 .1) in
+    let c4 = c .before .before .before .before in
+    let c5 = c4 .before in
+    let c6 = c5 .before in
+    let c7 = c6 .before in
+    let c8 = c7 .before in
+    let c9 = c8 .before in
+    let c16 = c9 .before .before .before .before .before .before .before in
+    let a = c16 .args in
+    let n : length (a .m .txns) ≡ 8 = simp length-map at (c16 .good .1 .1 .1 .1 .0 .1 .1 .1 .1 .1 .0 .1 .0 .1) in
     let w = wordsOf (a .rows-table .now) (a .versions .now) (a .buckets .now) (a .lists .now) [] (a .m) in
     rw (
       shape-tested w n,
-      ← c .before .before .before .before .before .before .before .before .before .tables-lent .ensures,
-      not-false (c .before .before .before .before .before .before .before .before .before .tables-lent .result) (c .before .before .before .before .before .before .before .before .if1 .left),
-      ← c .before .before .before .before .before .before .before .all-in-place .ensures,
-      not-false (c .before .before .before .before .before .before .before .all-in-place .result) (c .before .before .before .before .before .before .if2 .left),
-      ← c .before .before .before .before .before .good-sizes .ensures,
-      not-false (c .before .before .before .before .before .good-sizes .result) (c .before .before .before .before .if3 .left),
+      ← c9 .tables-lent .ensures,
+      not-false (c9 .tables-lent .result) (c8 .if1 .left),
+      ← c7 .all-in-place .ensures,
+      not-false (c7 .all-in-place .result) (c6 .if2 .left),
+      ← c5 .good-sizes .ensures,
+      not-false (c5 .good-sizes .result) (c4 .if3 .left),
       le-leb _ _ (c .before .before .if4 .left),
       ← c .before .chains-fit .ensures,
       not-true (c .before .chains-fit .result) (c .if5 .taken),
@@ -114,20 +130,29 @@ txns-fit-requires c κs = search needs
 returns-6 : tie.Need-returns-6
 unfolding tablesFit
 returns-6 c =
-    let a = c .before .before .before .before .before .before .before .before .before .before .before .before .before .before .before .before .before .before .args in
-    let n : length (a .m .txns) ≡ 8 = simp length-map at (c .before .before .before .before .before .before .before .before .before .before .before .before .before .before .before .before .before .before .good .1 .1 .1 .1 .0 .1 .1 .1 .1 .1 .0 .1 .0 .1) in
+    let c3 = c .before .before .before in
+    let c4 = c3 .before in
+    let c6 = c4 .before .before in
+    let c7 = c6 .before in
+    let c8 = c7 .before in
+    let c9 = c8 .before in
+    let c10 = c9 .before in
+    let c11 = c10 .before in
+    let c18 = c11 .before .before .before .before .before .before .before in
+    let a = c18 .args in
+    let n : length (a .m .txns) ≡ 8 = simp length-map at (c18 .good .1 .1 .1 .1 .0 .1 .1 .1 .1 .1 .0 .1 .0 .1) in
     let w = wordsOf (a .rows-table .now) (a .versions .now) (a .buckets .now) (a .lists .now) [] (a .m) in
     rw (
       shape-tested w n,
-      ← c .before .before .before .before .before .before .before .before .before .before .before .tables-lent .ensures,
-      not-false (c .before .before .before .before .before .before .before .before .before .before .before .tables-lent .result) (c .before .before .before .before .before .before .before .before .before .before .if1 .left),
-      ← c .before .before .before .before .before .before .before .before .before .all-in-place .ensures,
-      not-false (c .before .before .before .before .before .before .before .before .before .all-in-place .result) (c .before .before .before .before .before .before .before .before .if2 .left),
-      ← c .before .before .before .before .before .before .before .good-sizes .ensures,
-      not-false (c .before .before .before .before .before .before .before .good-sizes .result) (c .before .before .before .before .before .before .if3 .left),
-      le-leb _ _ (c .before .before .before .before .if4 .left),
-      ← c .before .before .before .chains-fit .ensures,
-      not-false (c .before .before .before .chains-fit .result) (c .before .before .if5 .left),
+      ← c11 .tables-lent .ensures,
+      not-false (c11 .tables-lent .result) (c10 .if1 .left),
+      ← c9 .all-in-place .ensures,
+      not-false (c9 .all-in-place .result) (c8 .if2 .left),
+      ← c7 .good-sizes .ensures,
+      not-false (c7 .good-sizes .result) (c6 .if3 .left),
+      le-leb _ _ (c4 .if4 .left),
+      ← c3 .chains-fit .ensures,
+      not-false (c3 .chains-fit .result) (c .before .before .if5 .left),
       ← c .before .txns-fit .ensures,
       not-true (c .before .txns-fit .result) (c .if6 .taken),
     )
@@ -141,24 +166,37 @@ distinct-numbers-requires c κs = search needs
 returns-7 : tie.Need-returns-7
 unfolding tablesFit
 returns-7 c =
-    let a = c .before .before .before .before .before .before .before .before .before .before .before .before .before .before .before .before .before .before .before .before .before .before .before .args in
-    let n : length (a .m .txns) ≡ 8 = simp length-map at (c .before .before .before .before .before .before .before .before .before .before .before .before .before .before .before .before .before .before .before .before .before .before .before .good .1 .1 .1 .1 .0 .1 .1 .1 .1 .1 .0 .1 .0 .1) in
+    let c4 = c .before .before .before .before in
+    let c5 = c4 .before in
+    let c6 = c5 .before in
+    let c7 = c6 .before in
+    let c8 = c7 .before in
+    let c9 = c8 .before in
+    let c11 = c9 .before .before in
+    let c12 = c11 .before in
+    let c13 = c12 .before in
+    let c14 = c13 .before in
+    let c15 = c14 .before in
+    let c16 = c15 .before in
+    let c23 = c16 .before .before .before .before .before .before .before in
+    let a = c23 .args in
+    let n : length (a .m .txns) ≡ 8 = simp length-map at (c23 .good .1 .1 .1 .1 .0 .1 .1 .1 .1 .1 .0 .1 .0 .1) in
     let w = wordsOf (a .rows-table .now) (a .versions .now) (a .buckets .now) (a .lists .now) [] (a .m) in
-    let o = c .before .before .before .before .others-of .ensures in
+    let o = c4 .others-of .ensures in
     let d : c .before .distinct-numbers .result ≡ allDistinct (othersIn (a .m .txns) .numbers) = c .before .distinct-numbers .ensures ∙ ap (λ (x : Others). allDistinct (x .numbers)) o in
     rw (
       shape-tested w n,
-      ← c .before .before .before .before .before .before .before .before .before .before .before .before .before .before .before .before .tables-lent .ensures,
-      not-false (c .before .before .before .before .before .before .before .before .before .before .before .before .before .before .before .before .tables-lent .result) (c .before .before .before .before .before .before .before .before .before .before .before .before .before .before .before .if1 .left),
-      ← c .before .before .before .before .before .before .before .before .before .before .before .before .before .before .all-in-place .ensures,
-      not-false (c .before .before .before .before .before .before .before .before .before .before .before .before .before .before .all-in-place .result) (c .before .before .before .before .before .before .before .before .before .before .before .before .before .if2 .left),
-      ← c .before .before .before .before .before .before .before .before .before .before .before .before .good-sizes .ensures,
-      not-false (c .before .before .before .before .before .before .before .before .before .before .before .before .good-sizes .result) (c .before .before .before .before .before .before .before .before .before .before .before .if3 .left),
-      le-leb _ _ (c .before .before .before .before .before .before .before .before .before .if4 .left),
-      ← c .before .before .before .before .before .before .before .before .chains-fit .ensures,
-      not-false (c .before .before .before .before .before .before .before .before .chains-fit .result) (c .before .before .before .before .before .before .before .if5 .left),
-      ← c .before .before .before .before .before .before .txns-fit .ensures,
-      not-false (c .before .before .before .before .before .before .txns-fit .result) (c .before .before .before .before .before .if6 .left),
+      ← c16 .tables-lent .ensures,
+      not-false (c16 .tables-lent .result) (c15 .if1 .left),
+      ← c14 .all-in-place .ensures,
+      not-false (c14 .all-in-place .result) (c13 .if2 .left),
+      ← c12 .good-sizes .ensures,
+      not-false (c12 .good-sizes .result) (c11 .if3 .left),
+      le-leb _ _ (c9 .if4 .left),
+      ← c8 .chains-fit .ensures,
+      not-false (c8 .chains-fit .result) (c7 .if5 .left),
+      ← c6 .txns-fit .ensures,
+      not-false (c6 .txns-fit .result) (c5 .if6 .left),
       ← d,
       not-true (c .before .distinct-numbers .result) (c .if7 .taken),
     )
@@ -172,27 +210,43 @@ sum-within-requires c κs = search needs
 returns-8 : tie.Need-returns-8
 unfolding tablesFit
 returns-8 c =
-    let a = c .before .before .before .before .before .before .before .before .before .before .before .before .before .before .before .before .before .before .before .before .before .before .before .before .before .before .args in
-    let n : length (a .m .txns) ≡ 8 = simp length-map at (c .before .before .before .before .before .before .before .before .before .before .before .before .before .before .before .before .before .before .before .before .before .before .before .before .before .before .good .1 .1 .1 .1 .0 .1 .1 .1 .1 .1 .0 .1 .0 .1) in
+    let c3 = c .before .before .before in
+    let c4 = c3 .before in
+    let c7 = c4 .before .before .before in
+    let c8 = c7 .before in
+    let c9 = c8 .before in
+    let c10 = c9 .before in
+    let c11 = c10 .before in
+    let c12 = c11 .before in
+    let c14 = c12 .before .before in
+    let c15 = c14 .before in
+    let c16 = c15 .before in
+    let c17 = c16 .before in
+    let c18 = c17 .before in
+    let c19 = c18 .before in
+    let c26 = c19 .before .before .before .before .before .before .before in
+    let a = c26 .args in
+    let n : length (a .m .txns) ≡ 8 = simp length-map at (c26 .good .1 .1 .1 .1 .0 .1 .1 .1 .1 .1 .0 .1 .0 .1) in
     let w = wordsOf (a .rows-table .now) (a .versions .now) (a .buckets .now) (a .lists .now) [] (a .m) in
-    let o = c .before .before .before .before .before .before .before .others-of .ensures in
-    let d : c .before .before .before .before .distinct-numbers .result ≡ allDistinct (othersIn (a .m .txns) .numbers) = c .before .before .before .before .distinct-numbers .ensures ∙ ap (λ (x : Others). allDistinct (x .numbers)) o in
+    let o = c7 .others-of .ensures in
+    let d : c4 .distinct-numbers .result ≡ allDistinct (othersIn (a .m .txns) .numbers) = c4 .distinct-numbers .ensures
+    ∙ ap (λ (x : Others). allDistinct (x .numbers)) o in
     let s : c .before .sum-within .result ≡ leb (a .m .clock + liveIn (othersIn (a .m .txns) .numbers)) lastNumber = c .before .sum-within .ensures ∙ ap (λ (x : ℕ). leb (a .m .clock + x) lastNumber) (c .before .before .live-count .ensures ∙ ap (λ (x : Others). liveIn (x .numbers)) o) in
     rw (
       shape-tested w n,
-      ← c .before .before .before .before .before .before .before .before .before .before .before .before .before .before .before .before .before .before .before .tables-lent .ensures,
-      not-false (c .before .before .before .before .before .before .before .before .before .before .before .before .before .before .before .before .before .before .before .tables-lent .result) (c .before .before .before .before .before .before .before .before .before .before .before .before .before .before .before .before .before .before .if1 .left),
-      ← c .before .before .before .before .before .before .before .before .before .before .before .before .before .before .before .before .before .all-in-place .ensures,
-      not-false (c .before .before .before .before .before .before .before .before .before .before .before .before .before .before .before .before .before .all-in-place .result) (c .before .before .before .before .before .before .before .before .before .before .before .before .before .before .before .before .if2 .left),
-      ← c .before .before .before .before .before .before .before .before .before .before .before .before .before .before .before .good-sizes .ensures,
-      not-false (c .before .before .before .before .before .before .before .before .before .before .before .before .before .before .before .good-sizes .result) (c .before .before .before .before .before .before .before .before .before .before .before .before .before .before .if3 .left),
-      le-leb _ _ (c .before .before .before .before .before .before .before .before .before .before .before .before .if4 .left),
-      ← c .before .before .before .before .before .before .before .before .before .before .before .chains-fit .ensures,
-      not-false (c .before .before .before .before .before .before .before .before .before .before .before .chains-fit .result) (c .before .before .before .before .before .before .before .before .before .before .if5 .left),
-      ← c .before .before .before .before .before .before .before .before .before .txns-fit .ensures,
-      not-false (c .before .before .before .before .before .before .before .before .before .txns-fit .result) (c .before .before .before .before .before .before .before .before .if6 .left),
+      ← c19 .tables-lent .ensures,
+      not-false (c19 .tables-lent .result) (c18 .if1 .left),
+      ← c17 .all-in-place .ensures,
+      not-false (c17 .all-in-place .result) (c16 .if2 .left),
+      ← c15 .good-sizes .ensures,
+      not-false (c15 .good-sizes .result) (c14 .if3 .left),
+      le-leb _ _ (c12 .if4 .left),
+      ← c11 .chains-fit .ensures,
+      not-false (c11 .chains-fit .result) (c10 .if5 .left),
+      ← c9 .txns-fit .ensures,
+      not-false (c9 .txns-fit .result) (c8 .if6 .left),
       ← d,
-      not-false (c .before .before .before .before .distinct-numbers .result) (c .before .before .before .if7 .left),
+      not-false (c4 .distinct-numbers .result) (c3 .if7 .left),
       ← s,
       not-true (c .before .sum-within .result) (c .if8 .taken),
     )
@@ -206,30 +260,53 @@ sum-within-requires-2 c κs = search needs
 returns-9 : tie.Need-returns-9
 unfolding tablesFit
 returns-9 c =
-    let a = c .before .before .before .before .before .before .before .before .before .before .before .before .before .before .before .before .before .before .before .before .before .before .before .before .before .before .before .before .args in
-    let n : length (a .m .txns) ≡ 8 = simp length-map at (c .before .before .before .before .before .before .before .before .before .before .before .before .before .before .before .before .before .before .before .before .before .before .before .before .before .before .before .before .good .1 .1 .1 .1 .0 .1 .1 .1 .1 .1 .0 .1 .0 .1) in
+    let c3 = c .before .before .before in
+    let c4 = c3 .before in
+    let c5 = c4 .before in
+    let c6 = c5 .before in
+    let c9 = c6 .before .before .before in
+    let c10 = c9 .before in
+    let c11 = c10 .before in
+    let c12 = c11 .before in
+    let c13 = c12 .before in
+    let c14 = c13 .before in
+    let c16 = c14 .before .before in
+    let c17 = c16 .before in
+    let c18 = c17 .before in
+    let c19 = c18 .before in
+    let c20 = c19 .before in
+    let c21 = c20 .before in
+    let c28 = c21 .before .before .before .before .before .before .before in
+    let a = c28 .args in
+    let n : length (a .m .txns) ≡ 8 = simp length-map at (c28 .good .1 .1 .1 .1 .0 .1 .1 .1 .1 .1 .0 .1 .0 .1) in
     let w = wordsOf (a .rows-table .now) (a .versions .now) (a .buckets .now) (a .lists .now) [] (a .m) in
-    let o = c .before .before .before .before .before .before .before .before .before .others-of .ensures in
-    let d : c .before .before .before .before .before .before .distinct-numbers .result ≡ allDistinct (othersIn (a .m .txns) .numbers) = c .before .before .before .before .before .before .distinct-numbers .ensures ∙ ap (λ (x : Others). allDistinct (x .numbers)) o in
-    let s : c .before .before .before .sum-within .result ≡ leb (a .m .clock + liveIn (othersIn (a .m .txns) .numbers)) lastNumber = c .before .before .before .sum-within .ensures ∙ ap (λ (x : ℕ). leb (a .m .clock + x) lastNumber) (c .before .before .before .before .live-count .ensures ∙ ap (λ (x : Others). liveIn (x .numbers)) o) in
-    let v : c .sum-within2 .result ≡ leb (a .m .used + reservedIn (a .rows-table .now) (a .versions .now) (a .lists .now) (othersIn (a .m .txns) .prepared)) (a .m .sizes .versions) = c .sum-within2 .ensures ∙ ap (λ (x : ℕ). leb (a .m .used + x) (a .m .sizes .versions)) (c .before .reserved .ensures ∙ ap (λ (x : Others). reservedIn (a .rows-table .now) (a .versions .now) (a .lists .now) (x .prepared)) o) in
+    let o = c9 .others-of .ensures in
+    let d : c6 .distinct-numbers .result ≡ allDistinct (othersIn (a .m .txns) .numbers) = c6 .distinct-numbers .ensures
+    ∙ ap (λ (x : Others). allDistinct (x .numbers)) o in
+    let s : c3 .sum-within .result ≡ leb (a .m .clock + liveIn (othersIn (a .m .txns) .numbers)) lastNumber = c3 .sum-within .ensures
+    ∙ ap (λ (x : ℕ). leb (a .m .clock + x) lastNumber) (c4 .live-count .ensures ∙ ap (λ (x : Others). liveIn (x .numbers)) o) in
+    let v : c .sum-within2 .result
+    ≡ leb (a .m .used + reservedIn (a .rows-table .now) (a .versions .now) (a .lists .now) (othersIn (a .m .txns) .prepared) mostLive)
+    (a .m .sizes .versions) = c .sum-within2 .ensures
+    ∙ ap (λ (x : ℕ). leb (a .m .used + x) (a .m .sizes .versions)) (c .before .reserved .ensures
+    ∙ ap (λ (x : Others). reservedIn (a .rows-table .now) (a .versions .now) (a .lists .now) (x .prepared) mostLive) o) in
     rw (
       shape-tested w n,
-      ← c .before .before .before .before .before .before .before .before .before .before .before .before .before .before .before .before .before .before .before .before .before .tables-lent .ensures,
-      not-false (c .before .before .before .before .before .before .before .before .before .before .before .before .before .before .before .before .before .before .before .before .before .tables-lent .result) (c .before .before .before .before .before .before .before .before .before .before .before .before .before .before .before .before .before .before .before .before .if1 .left),
-      ← c .before .before .before .before .before .before .before .before .before .before .before .before .before .before .before .before .before .before .before .all-in-place .ensures,
-      not-false (c .before .before .before .before .before .before .before .before .before .before .before .before .before .before .before .before .before .before .before .all-in-place .result) (c .before .before .before .before .before .before .before .before .before .before .before .before .before .before .before .before .before .before .if2 .left),
-      ← c .before .before .before .before .before .before .before .before .before .before .before .before .before .before .before .before .before .good-sizes .ensures,
-      not-false (c .before .before .before .before .before .before .before .before .before .before .before .before .before .before .before .before .before .good-sizes .result) (c .before .before .before .before .before .before .before .before .before .before .before .before .before .before .before .before .if3 .left),
-      le-leb _ _ (c .before .before .before .before .before .before .before .before .before .before .before .before .before .before .if4 .left),
-      ← c .before .before .before .before .before .before .before .before .before .before .before .before .before .chains-fit .ensures,
-      not-false (c .before .before .before .before .before .before .before .before .before .before .before .before .before .chains-fit .result) (c .before .before .before .before .before .before .before .before .before .before .before .before .if5 .left),
-      ← c .before .before .before .before .before .before .before .before .before .before .before .txns-fit .ensures,
-      not-false (c .before .before .before .before .before .before .before .before .before .before .before .txns-fit .result) (c .before .before .before .before .before .before .before .before .before .before .if6 .left),
+      ← c21 .tables-lent .ensures,
+      not-false (c21 .tables-lent .result) (c20 .if1 .left),
+      ← c19 .all-in-place .ensures,
+      not-false (c19 .all-in-place .result) (c18 .if2 .left),
+      ← c17 .good-sizes .ensures,
+      not-false (c17 .good-sizes .result) (c16 .if3 .left),
+      le-leb _ _ (c14 .if4 .left),
+      ← c13 .chains-fit .ensures,
+      not-false (c13 .chains-fit .result) (c12 .if5 .left),
+      ← c11 .txns-fit .ensures,
+      not-false (c11 .txns-fit .result) (c10 .if6 .left),
       ← d,
-      not-false (c .before .before .before .before .before .before .distinct-numbers .result) (c .before .before .before .before .before .if7 .left),
+      not-false (c6 .distinct-numbers .result) (c5 .if7 .left),
       ← s,
-      not-false (c .before .before .before .sum-within .result) (c .before .before .if8 .left),
+      not-false (c3 .sum-within .result) (c .before .before .if8 .left),
       ← v,
     )
 

@@ -22,15 +22,21 @@ Inv-loop rows lists₀ slot row-count key most n₀ row₀ lists n row =
 abbrev μ-loop : tie.MeasureT-loop
 μ-loop rows lists₀ slot row-count key most n₀ row₀ lists n row = most - row
 
-clipped-requires : tie.Need-clipped-requires Inv-loop μ-loop
-clipped-requires c κs = search needs
+lesser-u64-requires : tie.Need-lesser-u64-requires Inv-loop μ-loop
+lesser-u64-requires c κs = search needs
+
+cast-most : tie.Need-cast-most Inv-loop μ-loop
+cast-most c = search needs
 
 loop-holds : tie.Need-loop-holds Inv-loop μ-loop
 unfolding pick
 loop-holds c = (search needs, refl, refl, refl)
 
 keep-one-requires : tie.Need-keep-one-requires Inv-loop μ-loop
-keep-one-requires c κs = let l = c .before .before .loop in omega (arith, l .inv .2, pick-few (postedWith (c .before .before .before .before .before .before .args .rows .now) (c .before .before .before .before .before .before .args .key)) 0 (l .row))
+keep-one-requires c κs =
+    let l = c .before .before .loop in
+    let a = c .before .before .before .before .before .before .args in
+    omega (arith, l .inv .2, pick-few (postedWith (a .rows .now) (a .key)) 0 (l .row))
 
 add-row : tie.Need-add-row Inv-loop μ-loop
 add-row c = search needs
@@ -39,13 +45,26 @@ loop-less : tie.Need-loop-less Inv-loop μ-loop
 loop-less c = search needs
 
 loop-again : tie.Need-loop-again Inv-loop μ-loop
-loop-again c = let l = c .before .before .before .before .before .loop in let a = c .before .before .before .before .before .before .before .before .before .args in let p = pick (postedWith (a .rows .now) (a .key)) 0 in let e : _≡_ {A = Kept} (record { n = c .before .before .keep-one .result; lists = c .before .before .keep-one .last .1 .0 }) (record { n = length (p (l .row + 1)); lists = keptIn (a .lists .now) (a .slot) (p (l .row + 1)) }) = c .before .before .keep-one .ensures ∙ (rw (l .inv .2, l .inv .3) (keep-turn (a .rows .now) (a .key) (a .slot) (l .row) (a .lists .now))) in (omega arith, c .before .before .keep-one .kept .1 .0 ∙ l .inv .1, ap (λ (k : Kept). k .n) e, ap (λ (k : Kept). k .lists) e)
+loop-again c =
+    let kept = c .before .before .keep-one in
+    let l = c .before .before .before .before .before .loop in
+    let a = c .before .before .before .before .before .before .before .before .before .args in
+    let p = pick (postedWith (a .rows .now) (a .key)) 0 in
+    let e : _≡_ {A = Kept} (record { n = kept .result; lists = kept .last .1 .0 })
+    (record { n = length (p (l .row + 1)); lists = keptIn (a .lists .now) (a .slot) (p (l .row + 1)) }) =
+    kept .ensures ∙ (rw (l .inv .2, l .inv .3) (keep-turn (a .rows .now) (a .key) (a .slot) (l .row) (a .lists .now))) in
+    (omega arith, kept .kept .1 .0 ∙ l .inv .1, ap (λ (k : Kept). k .n) e, ap (λ (k : Kept). k .lists) e)
 
 same-length : tie.Need-same-length Inv-loop μ-loop
 same-length c = c .before .loop .inv .1
 
 returns : tie.Need-returns Inv-loop μ-loop
-returns c = let l = c .before .loop in let e : l .row ≡ c .before .before .clipped .result = omega arith in let m = e ∙ c .before .before .clipped .ensures in rw (← m) (l .inv .2, l .inv .3)
+returns c =
+    let l = c .before .loop in
+    let lesser = c .before .before .lesser-u64 in
+    let e : l .row ≡ lesser .result = omega arith in
+    let m = e ∙ lesser .ensures in
+    rw (← m) (l .inv .2, l .inv .3)
 
 pub keep-posted-spec : {M : Type 1} → statement M
 keep-posted-spec =
@@ -53,7 +72,8 @@ keep-posted-spec =
     (tie.spec
     Inv-loop
     μ-loop
-    clipped-requires
+    lesser-u64-requires
+    cast-most
     loop-holds
     keep-one-requires
     add-row

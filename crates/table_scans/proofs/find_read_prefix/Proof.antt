@@ -18,8 +18,8 @@ Inv-loop lists slot count bucket n i₀ i = (i ≤ n) × (firstPlace (bucketsRea
 abbrev μ-loop : tie.MeasureT-loop
 μ-loop lists slot count bucket n i₀ i = n - i
 
-clip-requires : tie.Need-clip-requires Inv-loop μ-loop
-clip-requires c κs = search needs
+lesser-u32-requires : tie.Need-lesser-u32-requires Inv-loop μ-loop
+lesser-u32-requires c κs = search needs
 
 loop-holds : tie.Need-loop-holds Inv-loop μ-loop
 loop-holds c = (omega arith, refl)
@@ -29,7 +29,11 @@ read-bucket-at-requires c κs = search needs
 
 returns : tie.Need-returns Inv-loop μ-loop
 returns c = let a = c .before .before .before .before .before .before .args in
-    rw (← c .before .before .before .before .clip .ensures) (sym (c .before .before .before .loop .inv .1 ∙ (fields-first (λ r. r .bucket) readOf reads (a .lists .now) (a .slot) (c .before .before .before .before .clip .result) (c .before .before .before .loop .i) (c .before .read-bucket-at .result) (a .bucket) (c .before .read-bucket-at .ensures) (omega arith) ∙ rw (eq-eqb _ _ (c .if1 .taken)))))
+    rw (← c .before .before .before .before .lesser-u32 .ensures)
+    (sym (c .before .before .before .loop .inv .1
+    ∙ (fields-first (λ r. r .bucket) readOf reads (a .lists .now) (a .slot) (c .before .before .before .before .lesser-u32 .result)
+    (c .before .before .before .loop .i) (c .before .read-bucket-at .result) (a .bucket) (c .before .read-bucket-at .ensures) (omega arith)
+    ∙ rw (eq-eqb _ _ (c .if1 .taken)))))
 
 add-i : tie.Need-add-i Inv-loop μ-loop
 add-i c = search needs
@@ -38,12 +42,20 @@ loop-less : tie.Need-loop-less Inv-loop μ-loop
 loop-less c = search needs
 
 loop-again : tie.Need-loop-again Inv-loop μ-loop
-loop-again c = let a = c .before .before .before .before .before .before .args in
-    (omega arith, c .before .before .before .loop .inv .1 ∙ (fields-first (λ r. r .bucket) readOf reads (a .lists .now) (a .slot) (c .before .before .before .before .clip .result) (c .before .before .before .loop .i) (c .before .read-bucket-at .result) (a .bucket) (c .before .read-bucket-at .ensures) (omega arith) ∙ rw (ne-eqb _ _ (c .if1 .left))))
+loop-again c = let a = c .before .before .before .before .before .before .args in (
+  omega arith,
+  c .before .before .before .loop .inv .1
+      ∙ (fields-first (λ r. r .bucket) readOf reads (a .lists .now) (a .slot) (c .before .before .before .before .lesser-u32 .result)
+      (c .before .before .before .loop .i) (c .before .read-bucket-at .result) (a .bucket) (c .before .read-bucket-at .ensures) (omega arith)
+      ∙ rw (ne-eqb _ _ (c .if1 .left))),
+)
 
 returns-2 : tie.Need-returns-2 Inv-loop μ-loop
 returns-2 c = let a = c .before .before .before .before .args in
-    rw (← c .before .before .clip .ensures) (sym (c .before .loop .inv .1 ∙ fields-end (λ r. r .bucket) readOf reads (a .lists .now) (a .slot) (c .before .before .clip .result) (c .before .loop .i) (a .bucket) (omega arith)))
+    rw (← c .before .before .lesser-u32 .ensures)
+    (sym (c .before .loop .inv .1
+    ∙ fields-end (λ r. r .bucket) readOf reads (a .lists .now) (a .slot) (c .before .before .lesser-u32 .result) (c .before .loop .i) (a .bucket)
+    (omega arith)))
 
 pub find-read-prefix-spec : {M : Type 1} → statement M
 find-read-prefix-spec =
@@ -51,7 +63,7 @@ find-read-prefix-spec =
     (tie.spec
     Inv-loop
     μ-loop
-    clip-requires
+    lesser-u32-requires
     loop-holds
     read-bucket-at-requires
     returns

@@ -17,12 +17,12 @@ Inv-loop lists slot count row i₀ i = (i ≤ i₀) × (lastPlace (rowsWritten (
 abbrev μ-loop : tie.MeasureT-loop
 μ-loop lists slot count row i₀ i = i
 
-clip-requires : tie.Need-clip-requires Inv-loop μ-loop
-clip-requires c κs = search needs
+lesser-u32-requires : tie.Need-lesser-u32-requires Inv-loop μ-loop
+lesser-u32-requires c κs = search needs
 
 loop-holds : tie.Need-loop-holds Inv-loop μ-loop
 loop-holds c = let a = c .before .before .args in
-    (omega arith, rw (fields-length (λ w. w .row) writeOf writes (a .lists .now) (a .slot) (c .clip .result)))
+    (omega arith, rw (fields-length (λ w. w .row) writeOf writes (a .lists .now) (a .slot) (c .lesser-u32 .result)))
 
 sub-i : tie.Need-sub-i Inv-loop μ-loop
 sub-i c = search needs
@@ -34,8 +34,12 @@ returns : tie.Need-returns Inv-loop μ-loop
 returns c = let a = c .before .before .before .before .before .before .args in
     let i = c .before .before .before .loop .i in
     let e : i ≡ i - 1 + 1 = omega arith in
-    let l = rowsWritten (writesOf (a .lists .now) (a .slot) (c .before .before .before .before .clip .result)) in
-    rw (← c .before .before .before .before .clip .ensures) (sym (c .before .before .before .loop .inv .1 ∙ (ap (λ (j : ℕ). lastBelow l (a .row) j) e ∙ (fields-last (λ w. w .row) writeOf writes (a .lists .now) (a .slot) (c .before .before .before .before .clip .result) (i - 1) (c .before .write-row-at .result) (a .row) (c .before .write-row-at .ensures) (omega arith) ∙ rw (eq-eqb _ _ (c .if1 .taken))))))
+    let l = rowsWritten (writesOf (a .lists .now) (a .slot) (c .before .before .before .before .lesser-u32 .result)) in
+    rw (← c .before .before .before .before .lesser-u32 .ensures)
+    (sym (c .before .before .before .loop .inv .1
+    ∙ (ap (λ (j : ℕ). lastBelow l (a .row) j) e
+    ∙ (fields-last (λ w. w .row) writeOf writes (a .lists .now) (a .slot) (c .before .before .before .before .lesser-u32 .result) (i - 1)
+    (c .before .write-row-at .result) (a .row) (c .before .write-row-at .ensures) (omega arith) ∙ rw (eq-eqb _ _ (c .if1 .taken))))))
 
 loop-less : tie.Need-loop-less Inv-loop μ-loop
 loop-less c = search needs
@@ -44,13 +48,18 @@ loop-again : tie.Need-loop-again Inv-loop μ-loop
 loop-again c = let a = c .before .before .before .before .before .before .args in
     let i = c .before .before .before .loop .i in
     let e : i ≡ i - 1 + 1 = omega arith in
-    let l = rowsWritten (writesOf (a .lists .now) (a .slot) (c .before .before .before .before .clip .result)) in
-    (omega arith, c .before .before .before .loop .inv .1 ∙ (ap (λ (j : ℕ). lastBelow l (a .row) j) e ∙ (fields-last (λ w. w .row) writeOf writes (a .lists .now) (a .slot) (c .before .before .before .before .clip .result) (i - 1) (c .before .write-row-at .result) (a .row) (c .before .write-row-at .ensures) (omega arith) ∙ rw (ne-eqb _ _ (c .if1 .left)))))
+    let l = rowsWritten (writesOf (a .lists .now) (a .slot) (c .before .before .before .before .lesser-u32 .result)) in (
+      omega arith,
+      c .before .before .before .loop .inv .1
+          ∙ (ap (λ (j : ℕ). lastBelow l (a .row) j) e
+          ∙ (fields-last (λ w. w .row) writeOf writes (a .lists .now) (a .slot) (c .before .before .before .before .lesser-u32 .result) (i - 1)
+          (c .before .write-row-at .result) (a .row) (c .before .write-row-at .ensures) (omega arith) ∙ rw (ne-eqb _ _ (c .if1 .left)))),
+    )
 
 returns-2 : tie.Need-returns-2 Inv-loop μ-loop
 returns-2 c = let a = c .before .before .before .before .args in
     let z : c .before .loop .i ≡ 0 = omega arith in
-    rw (← c .before .before .clip .ensures) (sym (c .before .loop .inv .1 ∙ rw (z, last-end)))
+    rw (← c .before .before .lesser-u32 .ensures) (sym (c .before .loop .inv .1 ∙ rw (z, last-end)))
 
 pub latest-pending-spec : {M : Type 1} → statement M
 latest-pending-spec =
@@ -58,7 +67,7 @@ latest-pending-spec =
     (tie.spec
     Inv-loop
     μ-loop
-    clip-requires
+    lesser-u32-requires
     loop-holds
     sub-i
     write-row-at-requires

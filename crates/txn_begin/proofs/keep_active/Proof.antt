@@ -1,6 +1,6 @@
 -- `txn_begin::keep_active` meets its contract.
 -- Assumes nothing.
-use borrow.Author.Tests.{lt-ltb, le-ltb, le-leb, lt-leb, eq-eqb, ne-eqb}
+use borrow.Author.Tests.{le-leb, lt-leb, eq-eqb, ne-eqb}
 use borrow.Author.Needs.{needs}
 use Prim.Native.Nat.{_-_}
 use Rattle.txn_begin.specs.Begin.{keepActive}
@@ -24,14 +24,13 @@ element-write-kept c = search needs
 add-kept : tie.Need-add-kept
 add-kept c = search needs
 
+lesser-u64-requires : tie.Need-lesser-u64-requires
+lesser-u64-requires c κs = search needs
+
 returns-3 : tie.Need-returns-3
 unfolding keepActive
-returns-3 c = rw (ne-eqb _ _ (c .before .before .if1 .left), lt-leb _ _ (c .before .if2 .left), lt-ltb _ _ (c .if3 .taken))
-
-returns-4 : tie.Need-returns-4
-unfolding keepActive
-returns-4 c = rw (ne-eqb _ _ (c .before .before .if1 .left), lt-leb _ _ (c .before .if2 .left), le-ltb _ _ (c .if3 .left))
+returns-3 c = rw (ne-eqb _ _ (c .before .before .if1 .left), lt-leb _ _ (c .before .if2 .left), c .lesser-u64 .ensures)
 
 pub keep-active-spec : {M : Type 1} → statement M
 keep-active-spec =
-    tie.close (tie.spec returns returns-2 mul-kept element-write-kept add-kept returns-3 returns-4)
+    tie.close (tie.spec returns returns-2 mul-kept element-write-kept add-kept lesser-u64-requires returns-3)

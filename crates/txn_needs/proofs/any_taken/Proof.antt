@@ -4,7 +4,7 @@ use Prim.Native.Nat.{_≤_, _-_}
 use lib.ListN.{length, take, drop}
 use borrow.Author.Needs.{needs}
 use Rattle.base_lists.specs.Lists.{some-of}
-use Rattle.txn_needs.proofs.Laws.{left-next, left-end}
+use Rattle.table.proofs.Each.{left-next, left-end}
 use mathlib.Core.Path.{_≡_, refl, _∙_}
 use native.Mathlib.Omega.{arith}
 use Rattle.txn_needs.specs.Holders.{anyTaken}

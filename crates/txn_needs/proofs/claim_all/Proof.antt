@@ -1,24 +1,43 @@
 -- `txn_needs::claim_all` meets its contract.
 -- Assumes nothing.
-use Prim.Native.Nat.{_≤_, _-_}
+use Prim.Native.Nat.{ℕ, _+_, _-_, _≤_, _<_}
+use mathlib.Core.Path.{_≡_, refl, sym, _∙_}
+use mathlib.Core.List.{List}
+use native.Mathlib.Omega.{arith}
 use lib.ListN.{length, drop}
 use borrow.Author.Needs.{needs}
-use Rattle.table.specs.Lists.{writes, writeOf}
+use Rattle.table.specs.Fields.{setClaim, setClaims}
+use Rattle.table.specs.Lists.{writes, writeOf, writeAt}
 use Rattle.table.specs.declared.lists.Write.{Write}
-use Rattle.txn_needs.proofs.Laws.{fields-next, fields-done}
-use mathlib.Core.Path.{_≡_, refl, sym, _∙_}
-use native.Mathlib.Omega.{arith}
+use Rattle.table.proofs.Each.{set-next, set-none}
 use Rattle.txn_needs.specs.Needs.{rowsWritten}
-use Rattle.txn_needs.specs.Holders.{claimAll}
+use Rattle.txn_needs.proofs.Laws.{fields-next, fields-done}
 use Rattle.txn_needs.proofs.claim_all.Statement.{statement}
 use Rattle.txn_needs.proofs.claim_all.Tie as tie
 
 abbrev Inv-loop : tie.InvT-loop
 Inv-loop rows₀ lists slot count number i₀ rows i =
-    (i ≤ count) × (length rows ≡ length rows₀) × (claimAll rows₀ number (rowsWritten lists slot count) ≡ claimAll rows number (drop i (rowsWritten lists slot count)))
+    (i ≤ count) × (length rows ≡ length rows₀)
+    × (setClaims rows₀ number (rowsWritten lists slot count) ≡ setClaims rows number (drop i (rowsWritten lists slot count)))
 
 abbrev μ-loop : tie.MeasureT-loop
 μ-loop rows₀ lists slot count number i₀ rows i = count - i
+
+-- past the last write
+passed : (c : tie.At-loop Inv-loop μ-loop) → let a = c .before .before .before .args in a .count ≤ c .loop .i
+    → c .loop .rows ≡ setClaims (a .rows .now) (a .number) (rowsWritten (a .lists .now) (a .slot) (a .count))
+passed c h =
+    let a = c .before .before .before .args in
+    sym (c .loop .inv .2 ∙ set-none _ _ _ _ _ (fields-done (λ (w : Write). w .row) writeOf writes (a .lists .now) (a .slot) (a .count) (c .loop .i) h))
+
+-- one write more
+again : (c : tie.At-loop Inv-loop μ-loop) → let a = c .before .before .before .args in c .loop .i < a .count
+    → (row : ℕ) → row ≡ writeAt (a .lists .now) (a .slot) (c .loop .i) .row → (rows : List ℕ) → rows ≡ setClaim (c .loop .rows) row (a .number)
+    → setClaims (a .rows .now) (a .number) (rowsWritten (a .lists .now) (a .slot) (a .count))
+    ≡ setClaims rows (a .number) (drop (c .loop .i + 1) (rowsWritten (a .lists .now) (a .slot) (a .count)))
+again c h row e rows d =
+    let a = c .before .before .before .args in
+    c .loop .inv .2 ∙ set-next _ _ _ _ _ _ _ _ (fields-next (λ (w : Write). w .row) writeOf writes (a .lists .now) (a .slot) (a .count) (c .loop .i) row h e) d
 
 loop-holds : tie.Need-loop-holds Inv-loop μ-loop
 loop-holds c = (search needs, refl, refl)
@@ -36,15 +55,17 @@ loop-less : tie.Need-loop-less Inv-loop μ-loop
 loop-less c = search needs
 
 loop-again : tie.Need-loop-again Inv-loop μ-loop
-unfolding claimAll
-loop-again c = let l = c .before .before .before .before .before .before .loop in (omega arith, c .before .before .set-claim .kept .0 ∙ l .inv .1, l .inv .2 ∙ rw (fields-next (λ (w : Write). w .row) writeOf writes (c .before .before .before .before .before .before .before .before .before .args .lists .now) (c .before .before .before .before .before .before .before .before .before .args .slot) (c .before .before .before .before .before .before .before .before .before .args .count) (l .i) (c .before .before .before .write-row-at .result) (omega arith) (c .before .before .before .write-row-at .ensures), c .before .before .set-claim .ensures))
+loop-again c =
+    let done = c .before .before .set-claim in
+    let read = c .before .before .before .write-row-at in
+    let at = c .before .before .before .before .before .before in
+    (omega arith, done .kept .0 ∙ at .loop .inv .1, again at (omega arith) (read .result) (read .ensures) _ (done .ensures))
 
 same-length : tie.Need-same-length Inv-loop μ-loop
 same-length c = c .before .loop .inv .1
 
 returns : tie.Need-returns Inv-loop μ-loop
-unfolding claimAll
-returns c = let l = c .before .loop in sym (rw (l .inv .2, fields-done (λ (w : Write). w .row) writeOf writes (c .before .before .before .before .args .lists .now) (c .before .before .before .before .args .slot) (c .before .before .before .before .args .count) (l .i) (omega arith)))
+returns c = passed (c .before) (omega arith)
 
 pub claim-all-spec : {M : Type 1} → statement M
 claim-all-spec =

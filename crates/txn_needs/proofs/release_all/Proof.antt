@@ -1,21 +1,39 @@
 -- `txn_needs::release_all` meets its contract.
 -- Assumes nothing.
-use Prim.Native.Nat.{_≤_, _-_}
-use lib.ListN.{length, take, drop}
-use borrow.Author.Needs.{needs}
-use Rattle.txn_needs.proofs.Laws.{left-next, left-end}
+use Prim.Native.Nat.{ℕ, _+_, _-_, _≤_, _<_, min}
 use mathlib.Core.Path.{_≡_, refl, sym, _∙_}
+use mathlib.Core.List.{List, [], _∷_}
 use native.Mathlib.Omega.{arith}
-use Rattle.txn_needs.specs.Holders.{freeAll}
+use lib.ListN.{length, take, drop, getD}
+use borrow.Author.Needs.{needs}
+use Rattle.table.specs.Fields.{clearHolders}
+use Rattle.table.proofs.Each.{left-next, left-end, clear-next, clear-none}
 use Rattle.txn_needs.proofs.release_all.Statement.{statement}
 use Rattle.txn_needs.proofs.release_all.Tie as tie
 
 abbrev Inv-loop : tie.InvT-loop
 Inv-loop buckets₀ list n number i₀ buckets i =
-    (i ≤ length list) × (length buckets ≡ length buckets₀) × (freeAll buckets₀ number (take n list) ≡ freeAll buckets number (drop i (take n list)))
+    (i ≤ length list) × (length buckets ≡ length buckets₀)
+    × (clearHolders buckets₀ number (take n list) ≡ clearHolders buckets number (drop i (take n list)))
 
 abbrev μ-loop : tie.MeasureT-loop
 μ-loop buckets₀ list n number i₀ buckets i = length list - i
+
+-- past the first n of the list, and past its end
+passed : (c : tie.At-loop Inv-loop μ-loop) → let a = c .before .before .before .args in min (a .n) (length (a .list .now)) ≤ c .loop .i
+    → c .loop .buckets ≡ clearHolders (a .buckets .now) (a .number) (take (a .n) (a .list .now))
+passed c h =
+    let a = c .before .before .before .args in
+    sym (c .loop .inv .2 ∙ clear-none _ _ _ _ _ (left-end (a .list .now) (a .n) (c .loop .i) h))
+
+-- one bucket more
+again : (c : tie.At-loop Inv-loop μ-loop) → let a = c .before .before .before .args in c .loop .i < a .n → c .loop .i < length (a .list .now)
+    → (buckets : List ℕ) → buckets ≡ clearHolders (c .loop .buckets) (a .number) (getD (a .list .now) (c .loop .i) 0 ∷ [])
+    → clearHolders (a .buckets .now) (a .number) (take (a .n) (a .list .now))
+    ≡ clearHolders buckets (a .number) (drop (c .loop .i + 1) (take (a .n) (a .list .now)))
+again c h k buckets e =
+    let a = c .before .before .before .args in
+    c .loop .inv .2 ∙ clear-next _ _ _ _ _ _ _ _ (left-next (a .list .now) (a .n) (c .loop .i) h k) e
 
 loop-holds : tie.Need-loop-holds Inv-loop μ-loop
 loop-holds c = (search needs, refl, refl)
@@ -24,8 +42,7 @@ same-length : tie.Need-same-length Inv-loop μ-loop
 same-length c = c .before .before .loop .inv .1
 
 returns : tie.Need-returns Inv-loop μ-loop
-unfolding freeAll
-returns c = let l = c .before .before .loop in sym (rw (l .inv .2, left-end (c .before .before .before .before .before .args .list .now) (c .before .before .before .before .before .args .n) (l .i) (omega arith)))
+returns c = passed (c .before .before) (omega arith)
 
 mul-free : tie.Need-mul-free Inv-loop μ-loop
 mul-free c = search needs
@@ -43,15 +60,16 @@ loop-less : tie.Need-loop-less Inv-loop μ-loop
 loop-less c = search needs
 
 loop-again : tie.Need-loop-again Inv-loop μ-loop
-unfolding freeAll
-loop-again c = let l = c .before .before .before .before .before .before .before .loop in (omega arith, c .before .before .free .kept .0 ∙ l .inv .1, l .inv .2 ∙ rw (left-next (c .before .before .before .before .before .before .before .before .before .before .args .list .now) (c .before .before .before .before .before .before .before .before .before .before .args .n) (l .i) (omega arith) (omega arith), c .before .before .free .ensures))
+loop-again c =
+    let freed = c .before .before .free in
+    let at = c .before .before .before .before .before .before .before in
+    (omega arith, freed .kept .0 ∙ at .loop .inv .1, again at (omega arith) (omega arith) _ (freed .ensures))
 
 same-length-2 : tie.Need-same-length-2 Inv-loop μ-loop
 same-length-2 c = c .before .loop .inv .1
 
 returns-2 : tie.Need-returns-2 Inv-loop μ-loop
-unfolding freeAll
-returns-2 c = let l = c .before .loop in sym (rw (l .inv .2, left-end (c .before .before .before .before .args .list .now) (c .before .before .before .before .args .n) (l .i) (omega arith)))
+returns-2 c = passed (c .before) (omega arith)
 
 pub release-all-spec : {M : Type 1} → statement M
 release-all-spec =

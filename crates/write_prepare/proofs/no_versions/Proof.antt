@@ -1,7 +1,14 @@
 -- `write_prepare::no_versions` meets its contract.
 -- Assumes nothing.
 use borrow.Author.Needs.{needs}
-use Prim.Native.Nat.{_-_}
+use mathlib.Core.Path.{_≡_, ap, _∙_}
+use mathlib.Core.Bool.{not}
+use Prim.Native.Nat.{_+_, _-_, _≤_}
+use native.Mathlib.Omega.{arith}
+use lib.Dec.{ltb}
+use Rattle.base_limits.specs.Limits.{mostLive, mostWrites}
+use Rattle.base_numbers.proofs.Laws.{above}
+use Rattle.txn_needs.proofs.Reserving.{versions-few, reserved-few}
 use Rattle.write_prepare.specs.Prepare.{lacks}
 use Rattle.write_prepare.proofs.no_versions.Statement.{statement}
 use Rattle.write_prepare.proofs.no_versions.Tie as tie
@@ -12,13 +19,28 @@ reserved-requires c κs = search needs
 count-versions-requires : tie.Need-count-versions-requires
 count-versions-requires c κs = search needs
 
-exceed-requires : tie.Need-exceed-requires
-exceed-requires c κs = search needs
+-- no more than sixteen each, so that the sum does not wrap
+few-others : (c : tie.After-reserved) → c .reserved .result ≤ 128
+few-others c = rw (c .reserved .ensures) (reserved-few _ _ _ _ mostLive)
+
+few-own : (c : tie.After-count-versions) → c .count-versions .result ≤ mostWrites
+few-own c = rw (c .count-versions .ensures) (versions-few _ _ _ _ _)
+
+add-sum-within : tie.Need-add-sum-within
+add-sum-within c = record { fits = omega (arith, few-others (c .before), few-own c) }
+
+sum-within-requires : tie.Need-sum-within-requires
+sum-within-requires c κs = search needs
 
 returns : tie.Need-returns
 unfolding lacks
-returns c = rw (← c .before .before .reserved .ensures, ← c .before .count-versions .ensures .0) (c .exceed .ensures)
+returns c =
+    let others = c .before .before .reserved in
+    let own = c .before .count-versions in
+    let a = c .before .before .before .before .before .before .args in
+    let e : a .used + (others .result + own .result) ≡ a .used + others .result + own .result = omega arith in
+    rw (← others .ensures, ← own .ensures)
+    (ap not (c .sum-within .ensures) ∙ (above (a .used + (others .result + own .result)) (a .version-count) ∙ ap (ltb (a .version-count)) e))
 
 pub no-versions-spec : {M : Type 1} → statement M
-no-versions-spec =
-    tie.close (tie.spec reserved-requires count-versions-requires exceed-requires returns)
+no-versions-spec = tie.close (tie.spec reserved-requires count-versions-requires add-sum-within sum-within-requires returns)
