@@ -51,17 +51,18 @@ slice-aggregate-open-3 c = simp length-take (omega (arith, c .before .before .be
 slice-aggregate-open-4 : tie.Need-slice-aggregate-open-4
 slice-aggregate-open-4 c = simp length-take (omega (arith, c .before .before .before .before .lent4 .ensures))
 
+-- rows, versions, buckets and clock
+array-read-t14 : tie.Need-array-read-t14
+array-read-t14 c = search needs
+
+array-read-t33 : tie.Need-array-read-t33
+array-read-t33 c = search needs
+
+array-read-t36 : tie.Need-array-read-t36
+array-read-t36 c = search needs
+
 array-read-open : tie.Need-array-read-open
 array-read-open c = search needs
-
-array-read-open-2 : tie.Need-array-read-open-2
-array-read-open-2 c = search needs
-
-array-read-open-3 : tie.Need-array-read-open-3
-array-read-open-3 c = search needs
-
-array-read-open-4 : tie.Need-array-read-open-4
-array-read-open-4 c = search needs
 
 open-requires : tie.Need-open-requires
 open-requires c κs = tt
@@ -97,10 +98,10 @@ opened-spec =
     slice-relend-prefix-open-3
     slice-aggregate-open-3
     slice-aggregate-open-4
+    array-read-t14
+    array-read-t33
+    array-read-t36
     array-read-open
-    array-read-open-2
-    array-read-open-3
-    array-read-open-4
     open-requires
     same-length
     same-length-2
