@@ -49,7 +49,8 @@ lacks rows versions lists prepared slot n used limit =
 
 -- the buckets that prepare needs, listed
 unfoldable pub neededInto : List ℕ → List ℕ → List ℕ → ℕ → ℕ → ℕ → ℕ → List ℕ → Listed
-neededInto rows versions lists count slot reads writes out = pushAll (record { out = out; n = 0 }) (readsNeed lists slot reads ++ writesNeed rows versions lists count false slot writes)
+neededInto rows versions lists count slot reads writes out = pushAll (record { out = out; n = 0 })
+    (readsNeed lists slot reads ++ writesNeed rows versions lists count false slot writes)
 
 -- an answer, rows and buckets
 pub record Left : Type 0 where
@@ -73,4 +74,5 @@ prepareWith versions lists limit used prepared t rows buckets needed =
 unfoldable pub prepareOf : List ℕ → List ℕ → ℕ → ℕ → ℕ → List ℕ → Transaction → List ℕ → List ℕ → Left
 prepareOf versions lists count limit used prepared t rows buckets =
     cond (not (eqb (rank (phaseView (t .phase))) 1)) (left (refusedOf t 5) rows buckets)
-    (prepareWith versions lists limit used prepared t rows buckets (neededInto rows versions lists count (t .slot) (t .«reads_n») (t .«writes_n») (replicate mostNeeded 0)))
+    (prepareWith versions lists limit used prepared t rows buckets
+    (neededInto rows versions lists count (t .slot) (t .«reads_n») (t .«writes_n») (replicate mostNeeded 0)))
