@@ -70,7 +70,8 @@ fn push_row(
     row: u64,
     used: u64,
 ) -> u64
-    ensures { λ r. ⌜ record { rows = now (rows .exit); versions = now (versions .exit); used = r } ≡ pushedRow (now (lists .entry)) slot count number (record { rows = now (rows .entry); versions = now (versions .entry); used = used }) row ⌝ }
+    ensures { λ r. ⌜ record { rows = now (rows .exit); versions = now (versions .exit); used = r }
+        ≡ pushedRow (now (lists .entry)) slot count number (record { rows = now (rows .entry); versions = now (versions .entry); used = used }) row ⌝ }
 {
     let p = one_more(used);
     let head = head_at(rows, row as usize);
@@ -93,7 +94,9 @@ fn push_all_rows(
     n: usize,
     used: u64,
 ) -> u64
-    ensures { λ r. ⌜ record { rows = now (rows .exit); versions = now (versions .exit); used = r } ≡ pushedRows (now (lists .entry)) slot count number (record { rows = now (rows .entry); versions = now (versions .entry); used = used }) (take n (now (list .entry))) ⌝ }
+    ensures { λ r. ⌜ record { rows = now (rows .exit); versions = now (versions .exit); used = r }
+        ≡ pushedRows (now (lists .entry)) slot count number (record { rows = now (rows .entry); versions = now (versions .entry); used = used })
+        (take n (now (list .entry))) ⌝ }
 {
     let mut last = used;
     let mut i = 0;
@@ -115,7 +118,8 @@ pub fn install(
     used: u64,
     t: Transaction,
 ) -> Installed
-    ensures { λ r. ⌜ record { reply = r; rows = now (rows .exit); versions = now (versions .exit) } ≡ installOf (now (lists .entry)) t (record { rows = now (rows .entry); versions = now (versions .entry); used = used }) ⌝ }
+    ensures { λ r. ⌜ record { reply = r; rows = now (rows .exit); versions = now (versions .exit) }
+        ≡ installOf (now (lists .entry)) t (record { rows = now (rows .entry); versions = now (versions .entry); used = used }) ⌝ }
 {
     let phase = t.phase;
     if phase_rank(phase) != PREPARED {

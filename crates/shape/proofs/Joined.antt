@@ -83,9 +83,11 @@ module _ {A : Type 0} where
 
   -- only which entries there are matters
   all-both : (test : A → Bool) (xs ys : List A) → ((x : A) → Among x xs → Among x ys) → ((x : A) → Among x ys → Among x xs) → all-of test xs ≡ all-of test ys
-  all-both test xs ys to back = same-test _ _ (λ e. each-all test ys (λ x m. all-each test xs e x (back x m))) (λ e. each-all test xs (λ x m. all-each test ys e x (to x m)))
+  all-both test xs ys to back = same-test _ _ (λ e. each-all test ys (λ x m. all-each test xs e x (back x m)))
+      (λ e. each-all test xs (λ x m. all-each test ys e x (to x m)))
 
-  all-listed : (test : A → Bool) (f : List ℕ → A) (w b : ℕ) (xs : List ℕ) (n : ℕ) → all-of test (listOf f w b xs n) ≡ every n (λ i. test (f (words w (b + w * i) xs)))
+  all-listed : (test : A → Bool) (f : List ℕ → A) (w b : ℕ) (xs : List ℕ) (n : ℕ) → all-of test (listOf f w b xs n)
+      ≡ every n (λ i. test (f (words w (b + w * i) xs)))
   unfolding all-of listOf every
   all-listed test f w b xs zero = refl
   all-listed test f w b xs (suc n) =
@@ -129,21 +131,25 @@ module _ (xs : List ℕ) (t : Transaction) where
 
   -- the rows of the pending writes, all that the store has
   rows-below : (n : ℕ) → writesIn xs (t .slot) (t .«writes_n») n ≡ true → (r : ℕ) → Among r (rowsWritten xs (t .slot) (t .«writes_n»)) → r < n
-  rows-below n e r m = ltb-true r n (all-each (λ v. ltb v n) (rowsWritten xs (t .slot) (t .«writes_n»)) (entries (λ (w : Write). w .row) writeOf writes xs (t .slot) (t .«writes_n») (λ v. ltb v n) ∙ e) r m)
+  rows-below n e r m = ltb-true r n
+      (all-each (λ v. ltb v n) (rowsWritten xs (t .slot) (t .«writes_n»))
+      (entries (λ (w : Write). w .row) writeOf writes xs (t .slot) (t .«writes_n») (λ v. ltb v n) ∙ e) r m)
 
 -- where pointers are in the part of the table that its size names
 module _ (rows versions xs : List ℕ) (z : Sizes) (used : ℕ) (g : Headed (sizesView z) rows used) (t : Transaction) where
   abbrev chains : model.Chains
   chains = chainsIn (sizesView z) rows versions used
 
-  row-same : t .«writes_n» ≤ mostWrites → (r : ℕ) → r < z .rows → steps.headedBy chains (t .number) r || not (getsVersion chains (txnView xs t .writes) r) ≡ rowFits rows versions xs (t .slot) (t .«writes_n») (t .number) r
+  row-same : t .«writes_n» ≤ mostWrites → (r : ℕ) → r < z .rows → steps.headedBy chains (t .number) r || not (getsVersion chains (txnView xs t .writes) r)
+      ≡ rowFits rows versions xs (t .slot) (t .«writes_n») (t .number) r
   row-same few r h =
       rw (
         headed-same (sizesView z) rows versions used g (t .number) r h,
         gets-same rows versions xs t chains r few (old-key-same (sizesView z) rows versions used g r h),
       )
 
-  heads-same : t .«writes_n» ≤ mostWrites → writesIn xs (t .slot) (t .«writes_n») (z .rows) ≡ true → goodHeads (sizesView z) chains (txnView xs t) ≡ headsFit rows versions xs t
+  heads-same : t .«writes_n» ≤ mostWrites → writesIn xs (t .slot) (t .«writes_n») (z .rows) ≡ true → goodHeads (sizesView z) chains (txnView xs t)
+      ≡ headsFit rows versions xs t
   unfolding goodHeads headsFit
   heads-same few e =
       let rs = rowsWritten xs (t .slot) (t .«writes_n») in
@@ -151,7 +157,8 @@ module _ (rows versions xs : List ℕ) (z : Sizes) (used : ℕ) (g : Headed (siz
       let part : ℕ → Bool = λ r. steps.headedBy chains (t .number) r || not (getsVersion chains (txnView xs t .writes) r) in
       let fit : ℕ → Bool = rowFits rows versions xs (t .slot) (t .«writes_n») (t .number) in
       ap (λ (b : Bool). ltb (model.rank (phaseView (t .phase))) 5 || b)
-      (all-both part (pendingRows (sizesView z) (txnView xs t .writes)) rs (λ r m. pending-written xs (t .slot) (t .«writes_n») (sizesView z) r m) (λ r m. written-pending xs (t .slot) (t .«writes_n») (sizesView z) r (below r m) m)
+      (all-both part (pendingRows (sizesView z) (txnView xs t .writes)) rs (λ r m. pending-written xs (t .slot) (t .«writes_n») (sizesView z) r m)
+      (λ r m. written-pending xs (t .slot) (t .«writes_n») (sizesView z) r (below r m) m)
       ∙ (all-same part fit rs (λ r m. row-same few r (below r m))
       ∙ entries (λ (w : Write). w .row) writeOf writes xs (t .slot) (t .«writes_n») fit))
 
@@ -159,7 +166,8 @@ module _ (rows versions xs : List ℕ) (z : Sizes) (used : ℕ) (g : Headed (siz
 abbrev seenFits : ℕ → Transaction → Bool
 seenFits clock t = ltb (t .number) clock && eqb (t .snapshot .xmin) (leastOf t)
 
-few-in : (clock : ℕ) (xs : List ℕ) (z : Sizes) (used : ℕ) (t : Transaction) → seenFits clock t && countsFit t && rangesFit xs z used t ≡ true → t .«writes_n» ≤ mostWrites
+few-in : (clock : ℕ) (xs : List ℕ) (z : Sizes) (used : ℕ) (t : Transaction) → seenFits clock t && countsFit t && rangesFit xs z used t ≡ true
+    → t .«writes_n» ≤ mostWrites
 few-in clock xs z used t f =
     let counts = and-r (seenFits clock t) (countsFit t) (and-l (seenFits clock t && countsFit t) (rangesFit xs z used t) f) in
     let two = and-l (leb (t .«reads_n») mostIndexReads && leb (t .«writes_n») mostWrites) _ (and-l _ (leb (t .«candidates_n») mostRows) counts) in
@@ -196,10 +204,12 @@ module _ (w : Words) where
   chains-same =
       and-same _ _ _ _
       (ap (λ (b : Bool). leb (w .used) (w .sizes .versions) && b)
-      (every-same (w .sizes .rows) (λ r. leb (view w .chains .head r) (w .used)) (λ r. leb (headOf (w .tables .rows) r) (w .used)) (λ r h. rw (part-field 4 0 (w .sizes .rows) (w .tables .rows) r (omega arith) h))))
+      (every-same (w .sizes .rows) (λ r. leb (view w .chains .head r) (w .used)) (λ r. leb (headOf (w .tables .rows) r) (w .used))
+      (λ r h. rw (part-field 4 0 (w .sizes .rows) (w .tables .rows) r (omega arith) h))))
       (λ e.
       let room = leb-true (w .used) (w .sizes .versions) (and-l _ _ e) in
-      every-same (w .used) (λ p. ltb (view w .chains .next (suc p)) (suc p)) (λ p. ltb (nextOf (w .tables .versions) (suc p)) (suc p)) (λ p h. rw (part-field 6 2 (suc (w .sizes .versions)) (w .tables .versions) (suc p) (omega arith) (omega arith))))
+      every-same (w .used) (λ p. ltb (view w .chains .next (suc p)) (suc p)) (λ p. ltb (nextOf (w .tables .versions) (suc p)) (suc p))
+      (λ p h. rw (part-field 6 2 (suc (w .sizes .versions)) (w .tables .versions) (suc p) (omega arith) (omega arith))))
 
   -- no head is past the last used pointer
   fits-headed : chainsFit (w .tables .rows) (w .tables .versions) (w .sizes) (w .used) ≡ true → Headed (sizesView (w .sizes)) (w .tables .rows) (w .used)
@@ -214,11 +224,13 @@ module _ (w : Words) where
   module _ (eight : length (w .txns) ≡ mostLive) where
     distinct-same : distinctNumbers (view w .txns) ≡ allDistinct (othersIn (w .txns) .numbers)
     unfolding distinctNumbers
-    distinct-same = every-same mostLive _ (distinctAt (othersIn (w .txns) .numbers)) (λ i h. rw (number-at (w .txns) i) (go i (txnAt w i .number) (eqb (txnAt w i .number) 0)))
+    distinct-same = every-same mostLive _ (distinctAt (othersIn (w .txns) .numbers))
+        (λ i h. rw (number-at (w .txns) i) (go i (txnAt w i .number) (eqb (txnAt w i .number) 0)))
       where
         go : (i n : ℕ) (b : Bool) → every i (λ j. not (not b) || not (eqb n (txnAt w j .number))) ≡ b || unlike (othersIn (w .txns) .numbers) i n
         go i n true = every-each i _ (λ j l. refl)
-        go i n false = every-same i (λ j. not (eqb n (txnAt w j .number))) (λ j. not (eqb n (getD (othersIn (w .txns) .numbers) j 0))) (λ j l. rw (number-at (w .txns) j))
+        go i n false = every-same i (λ j. not (eqb n (txnAt w j .number))) (λ j. not (eqb n (getD (othersIn (w .txns) .numbers) j 0)))
+            (λ j l. rw (number-at (w .txns) j))
 
   module _ (places : allInPlace (w .txns) ≡ true) where
     place-in : (i : ℕ) → i < mostLive → inPlace i (txnAt w i) ≡ true
@@ -246,7 +258,8 @@ module _ (w : Words) where
         (writes-true (w .tables .lists) t (w .sizes) (w .used) (and-r (seenFits (w .clock) t && countsFit t) _ e)))
 
     txns-same : chainsFit (w .tables .rows) (w .tables .versions) (w .sizes) (w .used) ≡ true
-        → every mostLive (λ i. not (live (view w .txns i)) || goodTxn (view w) (view w .txns i)) ≡ txnsFit (w .tables .rows) (w .tables .versions) (w .tables .lists) (w .sizes) (w .clock) (w .used) (w .txns)
+        → every mostLive (λ i. not (live (view w .txns i)) || goodTxn (view w) (view w .txns i))
+        ≡ txnsFit (w .tables .rows) (w .tables .versions) (w .tables .lists) (w .sizes) (w .clock) (w .used) (w .txns)
     unfolding placeFits
     txns-same k = every-same mostLive _ _ (λ i h. go (eqb (txnAt w i .number) 0) _ _ (txn-same k i h))
       where

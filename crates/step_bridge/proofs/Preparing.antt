@@ -1,21 +1,20 @@
 -- Prepare over the words is the model's.
 -- Assumes nothing.
-use Prim.Native.Nat.{ℕ, _≤_, _<_, _+_}
-use mathlib.Core.Path.{_≡_, refl, sym, ap, _∙_}
-use mathlib.Core.Bool.{Bool, true, false, cond, not, _&&_, _||_}
+use Prim.Native.Nat.{ℕ, _≤_, _<_}
+use mathlib.Core.Path.{_≡_, refl, _∙_}
+use mathlib.Core.Bool.{Bool, true, false, cond, not, _||_}
 use mathlib.Core.Option.{none, some}
 use mathlib.Core.List.{List}
 use native.Mathlib.Omega.{arith}
 use lib.Dec.{eqb, ltb}
 use lib.ListN.{length, take, replicate}
-use borrow.Author.Tests.{eqb-false}
 use Rattle.base_limits.specs.Limits.{mostLive}
 use Rattle.base_lists.specs.Lists.{some-of, Among}
 use Rattle.base_lists.proofs.ListLaws.{same-test, some-which, which-some}
-use Rattle.model.specs.Store.{rank, phaseOpen, phasePrepared}
+use Rattle.model.specs.Store.{rank, phaseOpen}
 use Rattle.model.specs.Verdict as judged
 use Rattle.model.specs.Steps.{pendingRows, neededBuckets, preparedHeld, versionRows}
-use Rattle.model.specs.Refusals.{refusalNumber, WrongPhase, Taken, Conflict, NoVersions, byAnother, reservedBy, reserved, versionsAfter, refusal, Refusal, bucketsTaken, rowsClaimed, checks, inPhase, txnOf}
+use Rattle.model.specs.Refusals.{refusalNumber, WrongPhase, Taken, Conflict, NoVersions, byAnother, versionsAfter, refusal}
 use Rattle.model.specs.Machine.{accepted, afterRefusal, carried}
 use Rattle.base_protocol.specs.declared.Step.the-variants as ask
 use Rattle.base_protocol.specs.declared.Answer.the-variants as tell
@@ -28,7 +27,7 @@ use Rattle.txn.specs.declared.Phase.the-variants as phase
 use Rattle.txn_needs.specs.Needs.{rowsWritten}
 use Rattle.table.specs.Fields.{setHolders, setClaims}
 use Rattle.txn_needs.specs.Holders.{anyTaken, anyClaimed}
-use Rattle.txn_needs.specs.Versions.{versionsIn, reservedIn}
+use Rattle.txn_needs.specs.Versions.{versionsIn}
 use Rattle.write_prepare.specs.Prepare.{isClear, lacks, neededInto, left, prepareWith, prepareOf}
 use Rattle.step.specs.Steps.{inPrepared}
 use Rattle.step.specs.Words.{Words, view, txnAt, othersIn, Sized}
@@ -40,11 +39,9 @@ use Rattle.step_bridge.proofs.Listing.{listed-all, some-same}
 use Rattle.step_bridge.proofs.Tabled.{set-all, set-other, set-length}
 use Rattle.step_bridge.proofs.Writing.{sized-phase}
 use Rattle.step_bridge.proofs.Judging.{taken-same, verdict-same}
-use Rattle.step_bridge.proofs.Needing.{all-same, headed, rows-most, writes-in, listedNeeds, row-in}
-use Rattle.step_bridge.proofs.Needing.{row-pending, pending-row, needed-listed, listed-needed}
+use Rattle.step_bridge.proofs.Needing.{all-same, headed, rows-most, writes-in, listedNeeds, row-in, row-pending, pending-row, needed-listed, listed-needed}
 use Rattle.step_bridge.proofs.Aborting.{listed-few, listed-in}
 use Rattle.step_bridge.proofs.Distinct.{versions-counted}
-use Rattle.step_bridge.proofs.Reserving.{reserved-same}
 
 -- a test of some entry sees only which entries there are
 some-both : (test : ℕ → Bool) (xs ys : List ℕ) → ((x : ℕ) → Among x xs → Among x ys) → ((x : ℕ) → Among x ys → Among x xs) → some-of test xs ≡ some-of test ys

@@ -43,7 +43,17 @@ spent clock live = ltb lastNumber (clock + live + 2)
 abbrev pub begunOf : Transaction → Snapshot → ℕ → Begun
 begunOf t s clock = record {
   answer = tell.Number clock;
-  txn = record { number = clock; snapshot = s; marked = false; phase = phase.Open; slot = t .slot; «reads_n» = 0; «writes_n» = 0; «records_n» = 0; «candidates_n» = 0 };
+  txn = record {
+    number = clock;
+    snapshot = s;
+    marked = false;
+    phase = phase.Open;
+    slot = t .slot;
+    «reads_n» = 0;
+    «writes_n» = 0;
+    «records_n» = 0;
+    «candidates_n» = 0;
+  };
   clock = oneMore clock;
 }
 

@@ -43,11 +43,13 @@ module _ {A : Type 0} (g : A → ℕ) (f : List ℕ → A) (k : Kind) (xs : List
       drop-of-length-le (map g (listAt f k xs s n)) m
 
 -- ---- one turn of a loop that lists: one number, or the list of one number
-pub push-turn : (st st′ : Listed) (l : List ℕ) (i v : ℕ) → drop i l ≡ v ∷ drop (i + 1) l → st′ ≡ pushOne st v → pushAll st (drop i l) ≡ pushAll st′ (drop (i + 1) l)
+pub push-turn : (st st′ : Listed) (l : List ℕ) (i v : ℕ) → drop i l ≡ v ∷ drop (i + 1) l → st′ ≡ pushOne st v → pushAll st (drop i l)
+    ≡ pushAll st′ (drop (i + 1) l)
 unfolding pushAll
 push-turn st st′ l i v e p = rw (e, p)
 
-pub join-turn : (f : ℕ → List ℕ) (st st′ : Listed) (l : List ℕ) (i v : ℕ) → drop i l ≡ v ∷ drop (i + 1) l → st′ ≡ pushAll st (f v) → pushAll st (join f (drop i l)) ≡ pushAll st′ (join f (drop (i + 1) l))
+pub join-turn : (f : ℕ → List ℕ) (st st′ : Listed) (l : List ℕ) (i v : ℕ) → drop i l ≡ v ∷ drop (i + 1) l → st′ ≡ pushAll st (f v)
+    → pushAll st (join f (drop i l)) ≡ pushAll st′ (join f (drop (i + 1) l))
 unfolding join
 join-turn f st st′ l i v e p = rw (e, push-append, p)
 

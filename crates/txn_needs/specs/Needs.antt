@@ -53,7 +53,8 @@ writesNeed rows versions lists count installed slot n = join (writeNeeds rows ve
 
 -- the same, only where the transaction made a version and old and new key differ
 unfoldable pub writeChanges : List ℕ → List ℕ → List ℕ → ℕ → ℕ → ℕ → ℕ → ℕ → List ℕ
-writeChanges rows versions lists count number slot n r = cond (not (headedBy rows versions number r)) [] (cond (sameKey (keyOf (oldKeyOf rows versions true r)) (keyOf (newKeyOf lists slot n r))) [] (writeNeeds rows versions lists count true slot n r))
+writeChanges rows versions lists count number slot n r = cond (not (headedBy rows versions number r)) []
+    (cond (sameKey (keyOf (oldKeyOf rows versions true r)) (keyOf (newKeyOf lists slot n r))) [] (writeNeeds rows versions lists count true slot n r))
 
 abbrev pub writesChange : List ℕ → List ℕ → List ℕ → ℕ → ℕ → ℕ → ℕ → List ℕ
 writesChange rows versions lists count number slot n = join (writeChanges rows versions lists count number slot n) (rowsWritten lists slot n)

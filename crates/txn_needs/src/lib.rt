@@ -113,7 +113,8 @@ pub fn push_key(out: &mut [u64], n: usize, bucket_count: u64, key: Key) -> usize
 
 // The buckets of the index reads.
 pub fn push_reads(lists: &[u64], slot: u32, count: u32, out: &mut [u64], n: usize) -> usize
-    ensures { λ r. ⌜ record { out = now (out .exit); n = r } ≡ pushAll (record { out = now (out .entry); n = n }) (readsNeed (now (lists .entry)) slot count) ⌝ }
+    ensures { λ r. ⌜ record { out = now (out .exit); n = r }
+        ≡ pushAll (record { out = now (out .entry); n = n }) (readsNeed (now (lists .entry)) slot count) ⌝ }
 {
     let mut m = n;
     let mut i: u32 = 0;
@@ -137,7 +138,9 @@ fn push_write(
     out: &mut [u64],
     n: usize,
 ) -> usize
-    ensures { λ r. ⌜ record { out = now (out .exit); n = r } ≡ pushAll (record { out = now (out .entry); n = n }) (writeNeeds (now (rows .entry)) (now (versions .entry)) (now (lists .entry)) «bucket_count» installed slot count row) ⌝ }
+    ensures { λ r. ⌜ record { out = now (out .exit); n = r }
+        ≡ pushAll (record { out = now (out .entry); n = n })
+        (writeNeeds (now (rows .entry)) (now (versions .entry)) (now (lists .entry)) «bucket_count» installed slot count row) ⌝ }
 {
     let old = old_key(rows, versions, installed, row);
     let new = new_key(lists, slot, count, row);
@@ -157,7 +160,9 @@ pub fn push_writes(
     out: &mut [u64],
     n: usize,
 ) -> usize
-    ensures { λ r. ⌜ record { out = now (out .exit); n = r } ≡ pushAll (record { out = now (out .entry); n = n }) (writesNeed (now (rows .entry)) (now (versions .entry)) (now (lists .entry)) «bucket_count» installed slot count) ⌝ }
+    ensures { λ r. ⌜ record { out = now (out .exit); n = r }
+        ≡ pushAll (record { out = now (out .entry); n = n })
+        (writesNeed (now (rows .entry)) (now (versions .entry)) (now (lists .entry)) «bucket_count» installed slot count) ⌝ }
 {
     let mut m = n;
     let mut i: u32 = 0;
@@ -222,7 +227,9 @@ fn push_change(
     out: &mut [u64],
     n: usize,
 ) -> usize
-    ensures { λ r. ⌜ record { out = now (out .exit); n = r } ≡ pushAll (record { out = now (out .entry); n = n }) (writeChanges (now (rows .entry)) (now (versions .entry)) (now (lists .entry)) «bucket_count» number slot count row) ⌝ }
+    ensures { λ r. ⌜ record { out = now (out .exit); n = r }
+        ≡ pushAll (record { out = now (out .entry); n = n })
+        (writeChanges (now (rows .entry)) (now (versions .entry)) (now (lists .entry)) «bucket_count» number slot count row) ⌝ }
 {
     if !headed_by(rows, versions, number, row) {
         return n;
@@ -248,7 +255,9 @@ pub fn push_changes(
     out: &mut [u64],
     n: usize,
 ) -> usize
-    ensures { λ r. ⌜ record { out = now (out .exit); n = r } ≡ pushAll (record { out = now (out .entry); n = n }) (writesChange (now (rows .entry)) (now (versions .entry)) (now (lists .entry)) «bucket_count» number slot count) ⌝ }
+    ensures { λ r. ⌜ record { out = now (out .exit); n = r }
+        ≡ pushAll (record { out = now (out .entry); n = n })
+        (writesChange (now (rows .entry)) (now (versions .entry)) (now (lists .entry)) «bucket_count» number slot count) ⌝ }
 {
     let mut m = n;
     let mut i: u32 = 0;

@@ -50,7 +50,8 @@ lacks rows versions lists prepared slot n used limit =
 
 -- the buckets that prepare needs, listed
 unfoldable pub neededInto : List ℕ → List ℕ → List ℕ → ℕ → ℕ → ℕ → ℕ → List ℕ → Listed
-neededInto rows versions lists count slot reads writes out = pushAll (record { out = out; n = 0 }) (readsNeed lists slot reads ++ writesNeed rows versions lists count false slot writes)
+neededInto rows versions lists count slot reads writes out = pushAll (record { out = out; n = 0 })
+    (readsNeed lists slot reads ++ writesNeed rows versions lists count false slot writes)
 
 -- an answer, rows and buckets
 pub record Left : Type 0 where

@@ -101,7 +101,8 @@ fn push_needed(
     writes_n: u32,
     out: &mut [u64],
 ) -> usize
-    ensures { λ r. ⌜ record { out = now (out .exit); n = r } ≡ neededInto (now (rows .entry)) (now (versions .entry)) (now (lists .entry)) «bucket_count» slot «reads_n» «writes_n» (now (out .entry)) ⌝ }
+    ensures { λ r. ⌜ record { out = now (out .exit); n = r }
+        ≡ neededInto (now (rows .entry)) (now (versions .entry)) (now (lists .entry)) «bucket_count» slot «reads_n» «writes_n» (now (out .entry)) ⌝ }
 {
     let read = push_reads(lists, slot, reads_n, out, 0);
     push_writes(
@@ -129,7 +130,9 @@ pub fn prepare(
     prepared: [u32; MOST_LIVE],
     t: Transaction,
 ) -> Answered
-    ensures { λ r. ⌜ record { reply = r; rows = now (rows .exit); buckets = now (buckets .exit) } ≡ prepareOf (now (versions .entry)) (now (lists .entry)) «bucket_count» «version_count» used prepared t (now (rows .entry)) (now (buckets .entry)) ⌝ }
+    ensures { λ r. ⌜ record { reply = r; rows = now (rows .exit); buckets = now (buckets .exit) }
+        ≡ prepareOf (now (versions .entry)) (now (lists .entry)) «bucket_count» «version_count» used prepared t (now (rows .entry)) (now (buckets .entry))
+        ⌝ }
 {
     let phase = t.phase;
     if phase_rank(phase) != OPEN {

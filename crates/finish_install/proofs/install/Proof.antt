@@ -37,7 +37,16 @@ same-length-2 : tie.Need-same-length-2
 same-length-2 c = search needs
 
 returns-2 : tie.Need-returns-2
-returns-2 c = let a = c .before .before .before .before .before .before .before .before .before .before .before .before .before .before .before .before .before .before .before .args in rw (c .with-phase .ensures) (install-made (a .lists .now) (a .t) _ _ _ (rw (← c .before .before .before .before .before .before .before .before .before .before .before .before .before .before .before .phase-rank .ensures) (eq-eqb _ _ (c .before .before .before .before .before .before .before .before .before .before .before .before .before .before .if1 .left))) (c .before .before .before .before .before .before .before .before .before .before .version-rows .ensures) (c .before .before .before .before .before .push-all-rows .ensures))
+returns-2 c =
+    let c5 = c .before .before .before .before .before in
+    let c10 = c5 .before .before .before .before .before in
+    let c14 = c10 .before .before .before .before in
+    let c15 = c14 .before in
+    let c19 = c15 .before .before .before .before in
+    let a = c19 .args in
+    rw (c .with-phase .ensures)
+    (install-made (a .lists .now) (a .t) _ _ _ (rw (← c15 .phase-rank .ensures) (eq-eqb _ _ (c14 .if1 .left))) (c10 .version-rows .ensures)
+    (c5 .push-all-rows .ensures))
 
 pub install-spec : {M : Type 1} → statement M
 install-spec =

@@ -15,7 +15,8 @@ Inv-loop rows₀ versions₀ lists slot count number list n used last₀ i₀ ro
     (i ≤ length list)
     × (length rows ≡ length rows₀)
     × (length versions ≡ length versions₀)
-    × (pushedRows lists slot count number (record { rows = rows₀; versions = versions₀; used = used }) (take n list) ≡ pushedRows lists slot count number (record { rows = rows; versions = versions; used = last }) (drop i (take n list)))
+    × (pushedRows lists slot count number (record { rows = rows₀; versions = versions₀; used = used }) (take n list)
+    ≡ pushedRows lists slot count number (record { rows = rows; versions = versions; used = last }) (drop i (take n list)))
 
 abbrev μ-loop : tie.MeasureT-loop
 μ-loop rows₀ versions₀ lists slot count number list n used last₀ i₀ rows versions last i = length list - i
@@ -31,7 +32,10 @@ same-length-2 c = c .before .before .loop .inv .2
 
 returns : tie.Need-returns Inv-loop μ-loop
 unfolding pushedRows
-returns c = let l = c .before .before .loop in sym (rw (l .inv .3, left-end (c .before .before .before .before .before .before .before .args .list .now) (c .before .before .before .before .before .before .before .args .n) (l .i) (omega arith)))
+returns c =
+    let c7 = c .before .before .before .before .before .before .before in
+    let l = c .before .before .loop in
+    sym (rw (l .inv .3, left-end (c7 .args .list .now) (c7 .args .n) (l .i) (omega arith)))
 
 mul-push-row : tie.Need-mul-push-row Inv-loop μ-loop
 mul-push-row c = search needs
@@ -50,7 +54,17 @@ loop-less c = search needs
 
 loop-again : tie.Need-loop-again Inv-loop μ-loop
 unfolding pushedRows
-loop-again c = let l = c .before .before .before .before .before .before .before .before .before .before .loop in (omega arith, c .before .before .before .before .push-row .kept .0 ∙ l .inv .1, c .before .before .before .before .push-row .kept .1 .0 ∙ l .inv .2, l .inv .3 ∙ rw (left-next (c .before .before .before .before .before .before .before .before .before .before .before .before .before .before .before .args .list .now) (c .before .before .before .before .before .before .before .before .before .before .before .before .before .before .before .args .n) (l .i) (omega arith) (omega arith), c .before .before .before .before .push-row .ensures))
+loop-again c =
+    let c4 = c .before .before .before .before in
+    let c10 = c4 .before .before .before .before .before .before in
+    let c15 = c10 .before .before .before .before .before in
+    let l = c10 .loop in (
+      omega arith,
+      c4 .push-row .kept .0 ∙ l .inv .1,
+      c4 .push-row .kept .1 .0 ∙ l .inv .2,
+      l .inv .3
+          ∙ rw (left-next (c15 .args .list .now) (c15 .args .n) (l .i) (omega arith) (omega arith), c4 .push-row .ensures),
+    )
 
 same-length-3 : tie.Need-same-length-3 Inv-loop μ-loop
 same-length-3 c = c .before .loop .inv .1
@@ -60,7 +74,10 @@ same-length-4 c = c .before .loop .inv .2
 
 returns-2 : tie.Need-returns-2 Inv-loop μ-loop
 unfolding pushedRows
-returns-2 c = let l = c .before .loop in sym (rw (l .inv .3, left-end (c .before .before .before .before .before .before .args .list .now) (c .before .before .before .before .before .before .args .n) (l .i) (omega arith)))
+returns-2 c =
+    let c6 = c .before .before .before .before .before .before in
+    let l = c .before .loop in
+    sym (rw (l .inv .3, left-end (c6 .args .list .now) (c6 .args .n) (l .i) (omega arith)))
 
 pub push-all-rows-spec : {M : Type 1} → statement M
 push-all-rows-spec =

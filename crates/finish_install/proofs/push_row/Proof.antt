@@ -32,7 +32,20 @@ same-length-2 c = search needs
 
 returns : tie.Need-returns
 unfolding pushedRow
-returns c = rw (← c .before .before .before .before .before .before .before .before .before .before .before .before .before .before .before .one-more .ensures, ← c .before .before .before .before .before .before .before .before .before .before .before .before .before .head-at .ensures, ← c .before .before .before .before .before .before .before .before .before .before .before .before .last-write .ensures, ← c .before .before .before .before .before .before .before .before .before .before .store-version .ensures, ← c .before .before .before .before .before .before .set-xmax .ensures, ← c .before .before .set-head .ensures)
+returns c =
+    let c6 = c .before .before .before .before .before .before in
+    let c10 = c6 .before .before .before .before in
+    let c12 = c10 .before .before in
+    let c13 = c12 .before in
+    let c15 = c13 .before .before in
+    rw (
+      ← c15 .one-more .ensures,
+      ← c13 .head-at .ensures,
+      ← c12 .last-write .ensures,
+      ← c10 .store-version .ensures,
+      ← c6 .set-xmax .ensures,
+      ← c .before .before .set-head .ensures,
+    )
 
 pub push-row-spec : {M : Type 1} → statement M
 push-row-spec =

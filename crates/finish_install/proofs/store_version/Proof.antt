@@ -29,7 +29,14 @@ same-length c = search needs
 
 returns : tie.Need-returns
 unfolding versionStored
-returns c = rw (← c .before .before .before .before .before .before .before .before .before .before .before .before .before .before .before .before .before .before .before .before .before .before .set-xmin .ensures, ← c .before .before .before .before .before .before .before .before .before .before .before .before .before .before .before .before .before .before .set-xmax .ensures, ← c .before .before .before .before .before .before .before .before .before .before .before .before .before .before .set-next .ensures, ← c .before .before .before .before .before .before .before .before .before .before .set-keyed .ensures, ← c .before .before .before .before .before .before .set-key .ensures) (c .before .before .set-payload .ensures)
+returns c =
+    let c6 = c .before .before .before .before .before .before in
+    let c10 = c6 .before .before .before .before in
+    let c14 = c10 .before .before .before .before in
+    let c18 = c14 .before .before .before .before in
+    let c22 = c18 .before .before .before .before in
+    rw (← c22 .set-xmin .ensures, ← c18 .set-xmax .ensures, ← c14 .set-next .ensures, ← c10 .set-keyed .ensures, ← c6 .set-key .ensures)
+    (c .before .before .set-payload .ensures)
 
 pub store-version-spec : {M : Type 1} → statement M
 store-version-spec =

@@ -35,7 +35,15 @@ in-place-requires : tie.Need-in-place-requires Inv-loop μ-loop
 in-place-requires c κs = search needs
 
 returns : tie.Need-returns Inv-loop μ-loop
-returns c = let a = c .before .before .before .before .before .args in let l = c .before .before .before .before .loop in let n : length (a .t1) ≡ 8 = search needs in every-fails (λ i. inPlace i (getD (a .t1) i (idleOf i))) (l .i) 8 (omega arith) (test-at (inPlace (l .i)) (a .t1) (l .i) _ _ _ (omega arith) (c .before .in-place .ensures) (not-true (c .before .in-place .result) (c .if1 .taken)))
+returns c =
+    let c4 = c .before .before .before .before in
+    let c5 = c4 .before in
+    let a = c5 .args in
+    let l = c4 .loop in
+    let n : length (a .t1) ≡ 8 = search needs in
+    every-fails (λ i. inPlace i (getD (a .t1) i (idleOf i))) (l .i) 8 (omega arith)
+    (test-at (inPlace (l .i)) (a .t1) (l .i) _ _ _ (omega arith) (c .before .in-place .ensures)
+    (not-true (c .before .in-place .result) (c .if1 .taken)))
 
 add-i : tie.Need-add-i Inv-loop μ-loop
 add-i c = search needs
@@ -44,10 +52,23 @@ loop-less : tie.Need-loop-less Inv-loop μ-loop
 loop-less c = search needs
 
 loop-again : tie.Need-loop-again Inv-loop μ-loop
-loop-again c = let a = c .before .before .before .before .before .args in let l = c .before .before .before .before .loop in let n : length (a .t1) ≡ 8 = search needs in (omega arith, every-next (λ i. inPlace i (getD (a .t1) i (idleOf i))) (l .i) (l .inv .1) (test-at (inPlace (l .i)) (a .t1) (l .i) _ _ _ (omega arith) (c .before .in-place .ensures) (not-false (c .before .in-place .result) (c .if1 .left))))
+loop-again c =
+    let c4 = c .before .before .before .before in
+    let c5 = c4 .before in
+    let a = c5 .args in
+    let l = c4 .loop in
+    let n : length (a .t1) ≡ 8 = search needs in (
+      omega arith,
+      every-next (λ i. inPlace i (getD (a .t1) i (idleOf i))) (l .i) (l .inv .1)
+          (test-at (inPlace (l .i)) (a .t1) (l .i) _ _ _ (omega arith) (c .before .in-place .ensures)
+          (not-false (c .before .in-place .result) (c .if1 .left))),
+    )
 
 returns-2 : tie.Need-returns-2 Inv-loop μ-loop
-returns-2 c = let a = c .before .before .args in let l = c .before .loop in every-done (λ i. inPlace i (getD (a .t1) i (idleOf i))) (l .i) 8 (omega arith) (omega arith) (l .inv .1)
+returns-2 c =
+    let a = c .before .before .args in
+    let l = c .before .loop in
+    every-done (λ i. inPlace i (getD (a .t1) i (idleOf i))) (l .i) 8 (omega arith) (omega arith) (l .inv .1)
 
 pub all-in-place-spec : {M : Type 1} → statement M
 all-in-place-spec =

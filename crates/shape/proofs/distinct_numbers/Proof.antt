@@ -26,7 +26,13 @@ distinct-at-requires : tie.Need-distinct-at-requires Inv-loop μ-loop
 distinct-at-requires c κs = search needs
 
 returns : tie.Need-returns Inv-loop μ-loop
-returns c = let a = c .before .before .before .before .args in let l = c .before .before .before .loop in every-fails (distinctAt (a .numbers)) (l .i) 8 (omega arith) (rw (← c .before .distinct-at .ensures) (not-true (c .before .distinct-at .result) (c .if1 .taken)))
+returns c =
+    let c3 = c .before .before .before in
+    let c4 = c3 .before in
+    let a = c4 .args in
+    let l = c3 .loop in
+    every-fails (distinctAt (a .numbers)) (l .i) 8 (omega arith)
+    (rw (← c .before .distinct-at .ensures) (not-true (c .before .distinct-at .result) (c .if1 .taken)))
 
 add-i : tie.Need-add-i Inv-loop μ-loop
 add-i c = search needs
@@ -35,10 +41,21 @@ loop-less : tie.Need-loop-less Inv-loop μ-loop
 loop-less c = search needs
 
 loop-again : tie.Need-loop-again Inv-loop μ-loop
-loop-again c = let a = c .before .before .before .before .args in let l = c .before .before .before .loop in (omega arith, every-next (distinctAt (a .numbers)) (l .i) (l .inv .1) (rw (← c .before .distinct-at .ensures) (not-false (c .before .distinct-at .result) (c .if1 .left))))
+loop-again c =
+    let c3 = c .before .before .before in
+    let c4 = c3 .before in
+    let a = c4 .args in
+    let l = c3 .loop in (
+      omega arith,
+      every-next (distinctAt (a .numbers)) (l .i) (l .inv .1)
+          (rw (← c .before .distinct-at .ensures) (not-false (c .before .distinct-at .result) (c .if1 .left))),
+    )
 
 returns-2 : tie.Need-returns-2 Inv-loop μ-loop
-returns-2 c = let a = c .before .before .args in let l = c .before .loop in every-done (distinctAt (a .numbers)) (l .i) 8 (omega arith) (omega arith) (l .inv .1)
+returns-2 c =
+    let a = c .before .before .args in
+    let l = c .before .loop in
+    every-done (distinctAt (a .numbers)) (l .i) 8 (omega arith) (omega arith) (l .inv .1)
 
 pub distinct-numbers-spec : {M : Type 1} → statement M
 distinct-numbers-spec =

@@ -65,10 +65,34 @@ loop-less : tie.Need-loop-less Inv-loop μ-loop
 loop-less c = search needs
 
 loop-again : tie.Need-loop-again Inv-loop μ-loop
-loop-again c = let a = c .before .before .before .before .before .args in let l = c .before .before .before .before .loop in let n : length (a .t1) ≡ 8 = search needs in (omega arith, simp length-set (l .inv .1), simp length-set (l .inv .2), simp length-set (l .inv .3), filled-next (λ (t : Transaction). t .number) (a .t1) (l .numbers) (l .i) _ _ (omega arith) (omega arith) refl (l .inv .4), filled-next (λ (t : Transaction). activeNumber (t .number) (t .phase)) (a .t1) (l .active) (l .i) _ _ (omega arith) (omega arith) (c .before .active-number .ensures) (l .inv .5), filled-next (λ (t : Transaction). preparedCount (t .number) (t .phase) (t .«writes_n»)) (a .t1) (l .prepared) (l .i) _ _ (omega arith) (omega arith) (c .prepared-count .ensures) (l .inv .6))
+loop-again c =
+    let c4 = c .before .before .before .before in
+    let c5 = c4 .before in
+    let a = c5 .args in
+    let l = c4 .loop in
+    let n : length (a .t1) ≡ 8 = search needs in (
+      omega arith,
+      simp length-set (l .inv .1),
+      simp length-set (l .inv .2),
+      simp length-set (l .inv .3),
+      filled-next (λ (t : Transaction). t .number) (a .t1) (l .numbers) (l .i) _ _ (omega arith) (omega arith) refl (l .inv .4),
+      filled-next (λ (t : Transaction). activeNumber (t .number) (t .phase)) (a .t1) (l .active) (l .i) _ _ (omega arith) (omega arith)
+          (c .before .active-number .ensures) (l .inv .5),
+      filled-next (λ (t : Transaction). preparedCount (t .number) (t .phase) (t .«writes_n»)) (a .t1)
+          (l .prepared) (l .i) _ _ (omega arith) (omega arith) (c .prepared-count .ensures) (l .inv .6),
+    )
 
 returns : tie.Need-returns Inv-loop μ-loop
-returns c = let a = c .before .before .args in let l = c .before .loop in let n : length (a .t1) ≡ 8 = search needs in rw (← filled-all (λ (t : Transaction). t .number) (a .t1) (l .numbers) (l .i) (omega arith) (omega arith) (l .inv .4), ← filled-all (λ (t : Transaction). activeNumber (t .number) (t .phase)) (a .t1) (l .active) (l .i) (omega arith) (omega arith) (l .inv .5), ← filled-all (λ (t : Transaction). preparedCount (t .number) (t .phase) (t .«writes_n»)) (a .t1) (l .prepared) (l .i) (omega arith) (omega arith) (l .inv .6))
+returns c =
+    let a = c .before .before .args in
+    let l = c .before .loop in
+    let n : length (a .t1) ≡ 8 = search needs in
+    rw (
+      ← filled-all (λ (t : Transaction). t .number) (a .t1) (l .numbers) (l .i) (omega arith) (omega arith) (l .inv .4),
+      ← filled-all (λ (t : Transaction). activeNumber (t .number) (t .phase)) (a .t1) (l .active) (l .i) (omega arith) (omega arith) (l .inv .5),
+      ← filled-all (λ (t : Transaction). preparedCount (t .number) (t .phase) (t .«writes_n»)) (a .t1) (l .prepared) (l .i) (omega arith) (omega arith)
+          (l .inv .6),
+    )
 
 pub others-of-spec : {M : Type 1} → statement M
 others-of-spec =

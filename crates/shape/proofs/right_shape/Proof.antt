@@ -183,7 +183,8 @@ returns-7 c =
     let n : length (a .m .txns) ≡ 8 = simp length-map at (c23 .good .1 .1 .1 .1 .0 .1 .1 .1 .1 .1 .0 .1 .0 .1) in
     let w = wordsOf (a .rows-table .now) (a .versions .now) (a .buckets .now) (a .lists .now) [] (a .m) in
     let o = c4 .others-of .ensures in
-    let d : c .before .distinct-numbers .result ≡ allDistinct (othersIn (a .m .txns) .numbers) = c .before .distinct-numbers .ensures ∙ ap (λ (x : Others). allDistinct (x .numbers)) o in
+    let d : c .before .distinct-numbers .result ≡ allDistinct (othersIn (a .m .txns) .numbers) = c .before .distinct-numbers .ensures
+    ∙ ap (λ (x : Others). allDistinct (x .numbers)) o in
     rw (
       shape-tested w n,
       ← c16 .tables-lent .ensures,
@@ -231,7 +232,8 @@ returns-8 c =
     let o = c7 .others-of .ensures in
     let d : c4 .distinct-numbers .result ≡ allDistinct (othersIn (a .m .txns) .numbers) = c4 .distinct-numbers .ensures
     ∙ ap (λ (x : Others). allDistinct (x .numbers)) o in
-    let s : c .before .sum-within .result ≡ leb (a .m .clock + liveIn (othersIn (a .m .txns) .numbers)) lastNumber = c .before .sum-within .ensures ∙ ap (λ (x : ℕ). leb (a .m .clock + x) lastNumber) (c .before .before .live-count .ensures ∙ ap (λ (x : Others). liveIn (x .numbers)) o) in
+    let s : c .before .sum-within .result ≡ leb (a .m .clock + liveIn (othersIn (a .m .txns) .numbers)) lastNumber = c .before .sum-within .ensures
+    ∙ ap (λ (x : ℕ). leb (a .m .clock + x) lastNumber) (c .before .before .live-count .ensures ∙ ap (λ (x : Others). liveIn (x .numbers)) o) in
     rw (
       shape-tested w n,
       ← c19 .tables-lent .ensures,

@@ -35,7 +35,16 @@ place-fits-requires : tie.Need-place-fits-requires Inv-loop μ-loop
 place-fits-requires c κs = search needs
 
 returns : tie.Need-returns Inv-loop μ-loop
-returns c = let a = c .before .before .before .before .before .before .before .before .args in let l = c .before .before .before .before .loop in let n : length (a .t7) ≡ 8 = search needs in every-fails (λ i. placeFits (a .rows-table .now) (a .versions .now) (a .lists .now) (a .sizes) (a .clock) (a .used) (getD (a .t7) i (idleOf i))) (l .i) 8 (omega arith) (test-at (placeFits (a .rows-table .now) (a .versions .now) (a .lists .now) (a .sizes) (a .clock) (a .used)) (a .t7) (l .i) _ _ _ (omega arith) (c .before .place-fits .ensures) (not-true (c .before .place-fits .result) (c .if1 .taken)))
+returns c =
+    let c4 = c .before .before .before .before in
+    let c8 = c4 .before .before .before .before in
+    let a = c8 .args in
+    let l = c4 .loop in
+    let n : length (a .t7) ≡ 8 = search needs in
+    every-fails (λ i. placeFits (a .rows-table .now) (a .versions .now) (a .lists .now) (a .sizes) (a .clock) (a .used) (getD (a .t7) i (idleOf i)))
+    (l .i) 8 (omega arith)
+    (test-at (placeFits (a .rows-table .now) (a .versions .now) (a .lists .now) (a .sizes) (a .clock) (a .used)) (a .t7) (l .i) _ _ _ (omega arith)
+    (c .before .place-fits .ensures) (not-true (c .before .place-fits .result) (c .if1 .taken)))
 
 add-i : tie.Need-add-i Inv-loop μ-loop
 add-i c = search needs
@@ -44,10 +53,26 @@ loop-less : tie.Need-loop-less Inv-loop μ-loop
 loop-less c = search needs
 
 loop-again : tie.Need-loop-again Inv-loop μ-loop
-loop-again c = let a = c .before .before .before .before .before .before .before .before .args in let l = c .before .before .before .before .loop in let n : length (a .t7) ≡ 8 = search needs in (omega arith, every-next (λ i. placeFits (a .rows-table .now) (a .versions .now) (a .lists .now) (a .sizes) (a .clock) (a .used) (getD (a .t7) i (idleOf i))) (l .i) (l .inv .1) (test-at (placeFits (a .rows-table .now) (a .versions .now) (a .lists .now) (a .sizes) (a .clock) (a .used)) (a .t7) (l .i) _ _ _ (omega arith) (c .before .place-fits .ensures) (not-false (c .before .place-fits .result) (c .if1 .left))))
+loop-again c =
+    let c4 = c .before .before .before .before in
+    let c8 = c4 .before .before .before .before in
+    let a = c8 .args in
+    let l = c4 .loop in
+    let n : length (a .t7) ≡ 8 = search needs in (
+      omega arith,
+      every-next
+          (λ i. placeFits (a .rows-table .now) (a .versions .now) (a .lists .now) (a .sizes) (a .clock) (a .used) (getD (a .t7) i (idleOf i))) (l .i)
+          (l .inv .1) (test-at (placeFits (a .rows-table .now) (a .versions .now) (a .lists .now) (a .sizes) (a .clock) (a .used)) (a .t7) (l .i) _ _ _
+          (omega arith) (c .before .place-fits .ensures) (not-false (c .before .place-fits .result) (c .if1 .left))),
+    )
 
 returns-2 : tie.Need-returns-2 Inv-loop μ-loop
-returns-2 c = let a = c .before .before .before .before .before .args in let l = c .before .loop in every-done (λ i. placeFits (a .rows-table .now) (a .versions .now) (a .lists .now) (a .sizes) (a .clock) (a .used) (getD (a .t7) i (idleOf i))) (l .i) 8 (omega arith) (omega arith) (l .inv .1)
+returns-2 c =
+    let c5 = c .before .before .before .before .before in
+    let a = c5 .args in
+    let l = c .before .loop in
+    every-done (λ i. placeFits (a .rows-table .now) (a .versions .now) (a .lists .now) (a .sizes) (a .clock) (a .used) (getD (a .t7) i (idleOf i))) (l .i)
+    8 (omega arith) (omega arith) (l .inv .1)
 
 pub txns-fit-spec : {M : Type 1} → statement M
 txns-fit-spec =

@@ -31,7 +31,11 @@ array-read-if1 : tie.Need-array-read-if1 Inv-loop μ-loop
 array-read-if1 c = search needs
 
 returns : tie.Need-returns Inv-loop μ-loop
-returns c = let a = c .before .before .before .args in let l = c .before .before .loop in every-fails (λ j. not (eqb (a .number) (getD (a .t1) j 0))) (l .j) (a .n) (omega arith) (rw (eq-eqb _ _ (c .if1 .taken)))
+returns c =
+    let c3 = c .before .before .before in
+    let a = c3 .args in
+    let l = c .before .before .loop in
+    every-fails (λ j. not (eqb (a .number) (getD (a .t1) j 0))) (l .j) (a .n) (omega arith) (rw (eq-eqb _ _ (c .if1 .taken)))
 
 add-j : tie.Need-add-j Inv-loop μ-loop
 add-j c = search needs
@@ -40,10 +44,17 @@ loop-less : tie.Need-loop-less Inv-loop μ-loop
 loop-less c = search needs
 
 loop-again : tie.Need-loop-again Inv-loop μ-loop
-loop-again c = let a = c .before .before .before .args in let l = c .before .before .loop in (omega arith, every-next (λ j. not (eqb (a .number) (getD (a .t1) j 0))) (l .j) (l .inv .1) (rw (ne-eqb _ _ (c .if1 .left))))
+loop-again c =
+    let c3 = c .before .before .before in
+    let a = c3 .args in
+    let l = c .before .before .loop in
+    (omega arith, every-next (λ j. not (eqb (a .number) (getD (a .t1) j 0))) (l .j) (l .inv .1) (rw (ne-eqb _ _ (c .if1 .left))))
 
 returns-2 : tie.Need-returns-2 Inv-loop μ-loop
-returns-2 c = let a = c .before .before .args in let l = c .before .loop in every-done (λ j. not (eqb (a .number) (getD (a .t1) j 0))) (l .j) (a .n) (omega arith) (omega arith) (l .inv .1)
+returns-2 c =
+    let a = c .before .before .args in
+    let l = c .before .loop in
+    every-done (λ j. not (eqb (a .number) (getD (a .t1) j 0))) (l .j) (a .n) (omega arith) (omega arith) (l .inv .1)
 
 pub unlike-first-spec : {M : Type 1} → statement M
 unlike-first-spec =

@@ -25,7 +25,10 @@ one-more-requires c κs = search needs
 
 returns-3 : tie.Need-returns-3
 unfolding beginOf
-returns-3 c = rw (eq-eqb _ _ (c .before .before .before .before .if1 .left), ← c .before .before .before .no-numbers .ensures, c .before .before .if2 .left, c .before .snapshot .ensures, c .one-more .ensures)
+returns-3 c =
+    let c3 = c .before .before .before in
+    let c4 = c3 .before in
+    rw (eq-eqb _ _ (c4 .if1 .left), ← c3 .no-numbers .ensures, c .before .before .if2 .left, c .before .snapshot .ensures, c .one-more .ensures)
 
 pub begin-spec : {M : Type 1} → statement M
 begin-spec =

@@ -36,14 +36,23 @@ loop-less : tie.Need-loop-less Inv-loop μ-loop
 loop-less c = search needs
 
 loop-again : tie.Need-loop-again Inv-loop μ-loop
-loop-again c = let l = c .before .before .loop in let n : length (c .before .before .before .args .t1) ≡ 8 = search needs in (omega arith, l .inv .1 ∙ keep-turn (l .k) _ (c .before .before .before .args .t1) (l .i) (omega arith) (c .keep-active .ensures))
+loop-again c =
+    let c3 = c .before .before .before in
+    let l = c .before .before .loop in
+    let n : length (c3 .args .t1) ≡ 8 = search needs in
+    (omega arith, l .inv .1 ∙ keep-turn (l .k) _ (c3 .args .t1) (l .i) (omega arith) (c .keep-active .ensures))
 
 one-more-requires : tie.Need-one-more-requires Inv-loop μ-loop
 one-more-requires c κs = search needs
 
 returns : tie.Need-returns Inv-loop μ-loop
 unfolding snapshotOf
-returns c = let l = c .before .before .before .loop in let n : length (c .before .before .before .before .args .t1) ≡ 8 = search needs in rw (l .inv .1, keep-end (l .k) (c .before .before .before .before .args .t1) (l .i) (omega arith), c .one-more .ensures)
+returns c =
+    let c3 = c .before .before .before in
+    let c4 = c3 .before in
+    let l = c3 .loop in
+    let n : length (c4 .args .t1) ≡ 8 = search needs in
+    rw (l .inv .1, keep-end (l .k) (c4 .args .t1) (l .i) (omega arith), c .one-more .ensures)
 
 pub snapshot-spec : {M : Type 1} → statement M
 snapshot-spec =

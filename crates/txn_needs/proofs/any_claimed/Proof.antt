@@ -35,7 +35,19 @@ by-another-requires c κs = search needs
 
 returns : tie.Need-returns Inv-loop μ-loop
 unfolding some-of
-returns c = let l = c .before .before .before .before .before .loop in rw (l .inv .1, fields-next (λ (w : Write). w .row) writeOf writes (c .before .before .before .before .before .before .before .before .args .lists .now) (c .before .before .before .before .before .before .before .before .args .slot) (c .before .before .before .before .before .before .before .before .args .count) (l .i) (c .before .before .before .write-row-at .result) (omega arith) (c .before .before .before .write-row-at .ensures), ← c .before .before .claim-at .ensures, ← c .before .by-another .ensures, c .if1 .taken)
+returns c =
+    let c3 = c .before .before .before in
+    let c5 = c3 .before .before in
+    let c8 = c5 .before .before .before in
+    let l = c5 .loop in
+    rw (
+      l .inv .1,
+      fields-next (λ (w : Write). w .row) writeOf writes (c8 .args .lists .now) (c8 .args .slot) (c8 .args .count) (l .i)
+          (c3 .write-row-at .result) (omega arith) (c3 .write-row-at .ensures),
+      ← c .before .before .claim-at .ensures,
+      ← c .before .by-another .ensures,
+      c .if1 .taken,
+    )
 
 add-i : tie.Need-add-i Inv-loop μ-loop
 add-i c = search needs
@@ -45,11 +57,28 @@ loop-less c = search needs
 
 loop-again : tie.Need-loop-again Inv-loop μ-loop
 unfolding some-of
-loop-again c = let l = c .before .before .before .before .before .loop in (omega arith, l .inv .1 ∙ rw (fields-next (λ (w : Write). w .row) writeOf writes (c .before .before .before .before .before .before .before .before .args .lists .now) (c .before .before .before .before .before .before .before .before .args .slot) (c .before .before .before .before .before .before .before .before .args .count) (l .i) (c .before .before .before .write-row-at .result) (omega arith) (c .before .before .before .write-row-at .ensures), ← c .before .before .claim-at .ensures, ← c .before .by-another .ensures, c .if1 .left))
+loop-again c =
+    let c3 = c .before .before .before in
+    let c5 = c3 .before .before in
+    let c8 = c5 .before .before .before in
+    let l = c5 .loop in (
+      omega arith,
+      l .inv .1
+          ∙ rw (
+            fields-next (λ (w : Write). w .row) writeOf writes (c8 .args .lists .now) (c8 .args .slot) (c8 .args .count) (l .i)
+                (c3 .write-row-at .result) (omega arith) (c3 .write-row-at .ensures),
+            ← c .before .before .claim-at .ensures,
+            ← c .before .by-another .ensures,
+            c .if1 .left,
+          ),
+    )
 
 returns-2 : tie.Need-returns-2 Inv-loop μ-loop
 unfolding some-of
-returns-2 c = let l = c .before .loop in rw (l .inv .1, fields-done (λ (w : Write). w .row) writeOf writes (c .before .before .before .before .args .lists .now) (c .before .before .before .before .args .slot) (c .before .before .before .before .args .count) (l .i) (omega arith))
+returns-2 c =
+    let c4 = c .before .before .before .before in
+    let l = c .before .loop in
+    rw (l .inv .1, fields-done (λ (w : Write). w .row) writeOf writes (c4 .args .lists .now) (c4 .args .slot) (c4 .args .count) (l .i) (omega arith))
 
 pub any-claimed-spec : {M : Type 1} → statement M
 any-claimed-spec =

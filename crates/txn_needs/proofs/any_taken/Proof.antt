@@ -23,7 +23,10 @@ loop-holds c = (search needs, refl)
 
 returns : tie.Need-returns Inv-loop μ-loop
 unfolding some-of
-returns c = let l = c .before .before .loop in rw (l .inv .1, left-end (c .before .before .before .before .before .args .list .now) (c .before .before .before .before .before .args .n) (l .i) (omega arith))
+returns c =
+    let c5 = c .before .before .before .before .before in
+    let l = c .before .before .loop in
+    rw (l .inv .1, left-end (c5 .args .list .now) (c5 .args .n) (l .i) (omega arith))
 
 mul-holder-at : tie.Need-mul-holder-at Inv-loop μ-loop
 mul-holder-at c = search needs
@@ -39,7 +42,17 @@ by-another-requires c κs = search needs
 
 returns-2 : tie.Need-returns-2 Inv-loop μ-loop
 unfolding some-of
-returns-2 c = let l = c .before .before .before .before .before .before .loop in rw (l .inv .1, left-next (c .before .before .before .before .before .before .before .before .before .args .list .now) (c .before .before .before .before .before .before .before .before .before .args .n) (l .i) (omega arith) (omega arith), ← c .before .before .holder-at .ensures, ← c .before .by-another .ensures, c .if2 .taken)
+returns-2 c =
+    let c6 = c .before .before .before .before .before .before in
+    let c9 = c6 .before .before .before in
+    let l = c6 .loop in
+    rw (
+      l .inv .1,
+      left-next (c9 .args .list .now) (c9 .args .n) (l .i) (omega arith) (omega arith),
+      ← c .before .before .holder-at .ensures,
+      ← c .before .by-another .ensures,
+      c .if2 .taken,
+    )
 
 add-i : tie.Need-add-i Inv-loop μ-loop
 add-i c = search needs
@@ -49,11 +62,26 @@ loop-less c = search needs
 
 loop-again : tie.Need-loop-again Inv-loop μ-loop
 unfolding some-of
-loop-again c = let l = c .before .before .before .before .before .before .loop in (omega arith, l .inv .1 ∙ rw (left-next (c .before .before .before .before .before .before .before .before .before .args .list .now) (c .before .before .before .before .before .before .before .before .before .args .n) (l .i) (omega arith) (omega arith), ← c .before .before .holder-at .ensures, ← c .before .by-another .ensures, c .if2 .left))
+loop-again c =
+    let c6 = c .before .before .before .before .before .before in
+    let c9 = c6 .before .before .before in
+    let l = c6 .loop in (
+      omega arith,
+      l .inv .1
+          ∙ rw (
+            left-next (c9 .args .list .now) (c9 .args .n) (l .i) (omega arith) (omega arith),
+            ← c .before .before .holder-at .ensures,
+            ← c .before .by-another .ensures,
+            c .if2 .left,
+          ),
+    )
 
 returns-3 : tie.Need-returns-3 Inv-loop μ-loop
 unfolding some-of
-returns-3 c = let l = c .before .loop in rw (l .inv .1, left-end (c .before .before .before .before .args .list .now) (c .before .before .before .before .args .n) (l .i) (omega arith))
+returns-3 c =
+    let c4 = c .before .before .before .before in
+    let l = c .before .loop in
+    rw (l .inv .1, left-end (c4 .args .list .now) (c4 .args .n) (l .i) (omega arith))
 
 pub any-taken-spec : {M : Type 1} → statement M
 any-taken-spec =

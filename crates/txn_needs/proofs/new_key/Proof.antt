@@ -22,7 +22,10 @@ enum-told c = search needs
 
 returns : tie.Need-returns
 unfolding newKeyOf
-returns c = rw (← c .before .before .before .before .before .latest-pending .ensures, c .before .before .before .last .given .1, c .before .write-keyed-at .ensures, c .write-key-at .ensures)
+returns c =
+    let c3 = c .before .before .before in
+    let c5 = c3 .before .before in
+    rw (← c5 .latest-pending .ensures, c3 .last .given .1, c .before .write-keyed-at .ensures, c .write-key-at .ensures)
 
 returns-2 : tie.Need-returns-2
 unfolding newKeyOf

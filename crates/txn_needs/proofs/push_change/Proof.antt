@@ -24,7 +24,11 @@ same-key-requires c κs = search needs
 
 returns-2 : tie.Need-returns-2
 unfolding writeChanges pushAll
-returns-2 c = rw (← c .before .before .before .before .before .headed-by .ensures, c .before .before .before .before .if1 .left, ← c .before .before .before .old-key .ensures, ← c .before .before .new-key .ensures, ← c .before .same-key .ensures, c .if2 .taken)
+returns-2 c =
+    let c3 = c .before .before .before in
+    let c4 = c3 .before in
+    let c5 = c4 .before in
+    rw (← c5 .headed-by .ensures, c4 .if1 .left, ← c3 .old-key .ensures, ← c .before .before .new-key .ensures, ← c .before .same-key .ensures, c .if2 .taken)
 
 push-key-requires : tie.Need-push-key-requires
 push-key-requires c κs = search needs
@@ -37,7 +41,24 @@ same-length c = search needs
 
 returns-3 : tie.Need-returns-3
 unfolding writeChanges writeNeeds
-returns-3 c = rw (← c .before .before .before .before .before .before .before .before .before .before .before .before .before .headed-by .ensures, c .before .before .before .before .before .before .before .before .before .before .before .before .if1 .left, ← c .before .before .before .before .before .before .before .before .before .before .before .old-key .ensures, ← c .before .before .before .before .before .before .before .before .before .before .new-key .ensures, ← c .before .before .before .before .before .before .before .before .before .same-key .ensures, c .before .before .before .before .before .before .before .before .if2 .left, push-append, ← c .before .before .before .before .before .before .push-key .ensures) (c .before .before .push-key2 .ensures)
+returns-3 c =
+    let c6 = c .before .before .before .before .before .before in
+    let c8 = c6 .before .before in
+    let c9 = c8 .before in
+    let c10 = c9 .before in
+    let c11 = c10 .before in
+    let c12 = c11 .before in
+    let c13 = c12 .before in
+    rw (
+      ← c13 .headed-by .ensures,
+      c12 .if1 .left,
+      ← c11 .old-key .ensures,
+      ← c10 .new-key .ensures,
+      ← c9 .same-key .ensures,
+      c8 .if2 .left,
+      push-append,
+      ← c6 .push-key .ensures,
+    ) (c .before .before .push-key2 .ensures)
 
 pub push-change-spec : {M : Type 1} → statement M
 push-change-spec =

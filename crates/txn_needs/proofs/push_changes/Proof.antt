@@ -17,7 +17,9 @@ abbrev Inv-loop : tie.InvT-loop
 Inv-loop rows versions lists bucket-count number slot count out₀ n m₀ i₀ out m i =
     (i ≤ count)
     × (length out ≡ length out₀)
-    × (pushAll (record { out = out₀; n = n }) (join (writeChanges rows versions lists bucket-count number slot count) (rowsWritten lists slot count)) ≡ pushAll (record { out = out; n = m }) (join (writeChanges rows versions lists bucket-count number slot count) (drop i (rowsWritten lists slot count))))
+    × (pushAll (record { out = out₀; n = n }) (join (writeChanges rows versions lists bucket-count number slot count) (rowsWritten lists slot count))
+    ≡ pushAll (record { out = out; n = m })
+    (join (writeChanges rows versions lists bucket-count number slot count) (drop i (rowsWritten lists slot count))))
 
 abbrev μ-loop : tie.MeasureT-loop
 μ-loop rows versions lists bucket-count number slot count out₀ n m₀ i₀ out m i = count - i
@@ -38,13 +40,29 @@ loop-less : tie.Need-loop-less Inv-loop μ-loop
 loop-less c = search needs
 
 loop-again : tie.Need-loop-again Inv-loop μ-loop
-loop-again c = let l = c .before .before .before .before .before .before .loop in (omega arith, c .before .before .push-change .kept .1 .1 .1 .1 .1 .1 .1 .1 .0 ∙ l .inv .1, l .inv .2 ∙ join-turn _ (record { out = l .out; n = l .m }) _ (rowsWritten (c .before .before .before .before .before .before .before .before .before .before .before .args .lists .now) (c .before .before .before .before .before .before .before .before .before .before .before .args .slot) (c .before .before .before .before .before .before .before .before .before .before .before .args .count)) (l .i) (c .before .before .before .before .write-row-at .result) (fields-next (λ (w : Write). w .row) writeOf writes (c .before .before .before .before .before .before .before .before .before .before .before .args .lists .now) (c .before .before .before .before .before .before .before .before .before .before .before .args .slot) (c .before .before .before .before .before .before .before .before .before .before .before .args .count) (l .i) (c .before .before .before .before .write-row-at .result) (omega arith) (c .before .before .before .before .write-row-at .ensures)) (c .before .before .push-change .ensures))
+loop-again c =
+    let c4 = c .before .before .before .before in
+    let c6 = c4 .before .before in
+    let c11 = c6 .before .before .before .before .before in
+    let l = c6 .loop in (
+      omega arith,
+      c .before .before .push-change .kept .1 .1 .1 .1 .1 .1 .1 .1 .0 ∙ l .inv .1,
+      l .inv .2
+          ∙ join-turn _ (record { out = l .out; n = l .m }) _ (rowsWritten (c11 .args .lists .now) (c11 .args .slot) (c11 .args .count)) (l .i)
+          (c4 .write-row-at .result)
+          (fields-next (λ (w : Write). w .row) writeOf writes (c11 .args .lists .now) (c11 .args .slot) (c11 .args .count) (l .i) (c4 .write-row-at .result)
+          (omega arith) (c4 .write-row-at .ensures)) (c .before .before .push-change .ensures),
+    )
 
 same-length : tie.Need-same-length Inv-loop μ-loop
 same-length c = c .before .loop .inv .1
 
 returns : tie.Need-returns Inv-loop μ-loop
-returns c = let l = c .before .loop in sym (l .inv .2 ∙ join-none _ _ _ (fields-done (λ (w : Write). w .row) writeOf writes (c .before .before .before .before .before .before .args .lists .now) (c .before .before .before .before .before .before .args .slot) (c .before .before .before .before .before .before .args .count) (l .i) (omega arith)))
+returns c =
+    let c6 = c .before .before .before .before .before .before in
+    let l = c .before .loop in
+    sym (l .inv .2 ∙ join-none _ _ _
+    (fields-done (λ (w : Write). w .row) writeOf writes (c6 .args .lists .now) (c6 .args .slot) (c6 .args .count) (l .i) (omega arith)))
 
 pub push-changes-spec : {M : Type 1} → statement M
 push-changes-spec =

@@ -21,7 +21,10 @@ same-length c = search needs
 
 returns-2 : tie.Need-returns-2
 unfolding pushAll bucketsFor
-returns-2 c = rw (ne-eqb _ _ (c .before .before .before .before .before .if1 .left), ← c .before .before .before .bucket-of .ensures) (c .before .before .push .ensures)
+returns-2 c =
+    let c3 = c .before .before .before in
+    let c5 = c3 .before .before in
+    rw (ne-eqb _ _ (c5 .if1 .left), ← c3 .bucket-of .ensures) (c .before .before .push .ensures)
 
 pub push-key-spec : {M : Type 1} → statement M
 push-key-spec = tie.close (tie.spec returns bucket-of-requires push-requires same-length returns-2)

@@ -37,13 +37,29 @@ loop-less : tie.Need-loop-less Inv-loop μ-loop
 loop-less c = search needs
 
 loop-again : tie.Need-loop-again Inv-loop μ-loop
-loop-again c = let l = c .before .before .before .before .before .before .loop in (omega arith, c .before .before .push .kept .0 ∙ l .inv .1, l .inv .2 ∙ push-turn (record { out = l .out; n = l .m }) _ (readsNeed (c .before .before .before .before .before .before .before .before .before .args .lists .now) (c .before .before .before .before .before .before .before .before .before .args .slot) (c .before .before .before .before .before .before .before .before .before .args .count)) (l .i) (c .before .before .before .read-bucket-at .result) (fields-next (λ (r : IndexRead). r .bucket) readOf reads (c .before .before .before .before .before .before .before .before .before .args .lists .now) (c .before .before .before .before .before .before .before .before .before .args .slot) (c .before .before .before .before .before .before .before .before .before .args .count) (l .i) (c .before .before .before .read-bucket-at .result) (omega arith) (c .before .before .before .read-bucket-at .ensures)) (c .before .before .push .ensures))
+loop-again c =
+    let c3 = c .before .before .before in
+    let c6 = c3 .before .before .before in
+    let c9 = c6 .before .before .before in
+    let l = c6 .loop in (
+      omega arith,
+      c .before .before .push .kept .0 ∙ l .inv .1,
+      l .inv .2
+          ∙ push-turn (record { out = l .out; n = l .m }) _ (readsNeed (c9 .args .lists .now) (c9 .args .slot) (c9 .args .count)) (l .i)
+          (c3 .read-bucket-at .result)
+          (fields-next (λ (r : IndexRead). r .bucket) readOf reads (c9 .args .lists .now) (c9 .args .slot) (c9 .args .count) (l .i)
+          (c3 .read-bucket-at .result) (omega arith) (c3 .read-bucket-at .ensures)) (c .before .before .push .ensures),
+    )
 
 same-length : tie.Need-same-length Inv-loop μ-loop
 same-length c = c .before .loop .inv .1
 
 returns : tie.Need-returns Inv-loop μ-loop
-returns c = let l = c .before .loop in sym (l .inv .2 ∙ push-none _ _ (fields-done (λ (r : IndexRead). r .bucket) readOf reads (c .before .before .before .before .args .lists .now) (c .before .before .before .before .args .slot) (c .before .before .before .before .args .count) (l .i) (omega arith)))
+returns c =
+    let c4 = c .before .before .before .before in
+    let l = c .before .loop in
+    sym (l .inv .2 ∙ push-none _ _
+    (fields-done (λ (r : IndexRead). r .bucket) readOf reads (c4 .args .lists .now) (c4 .args .slot) (c4 .args .count) (l .i) (omega arith)))
 
 pub push-reads-spec : {M : Type 1} → statement M
 push-reads-spec =

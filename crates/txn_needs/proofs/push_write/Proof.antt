@@ -23,7 +23,11 @@ same-length c = search needs
 
 returns : tie.Need-returns
 unfolding writeNeeds
-returns c = rw (← c .before .before .before .before .before .before .before .before .before .old-key .ensures, ← c .before .before .before .before .before .before .before .before .new-key .ensures, push-append, ← c .before .before .before .before .before .before .push-key .ensures) (c .before .before .push-key2 .ensures)
+returns c =
+    let c6 = c .before .before .before .before .before .before in
+    let c8 = c6 .before .before in
+    let c9 = c8 .before in
+    rw (← c9 .old-key .ensures, ← c8 .new-key .ensures, push-append, ← c6 .push-key .ensures) (c .before .before .push-key2 .ensures)
 
 pub push-write-spec : {M : Type 1} → statement M
 push-write-spec =

@@ -9,7 +9,9 @@ use Rattle.txn_needs.proofs.same_key.Statement.{statement}
 use Rattle.txn_needs.proofs.same_key.Tie as tie
 
 returns : tie.Need-returns
-returns c = rw (eq-eqb _ _ (c .before .if1 .taken)) (sym (none-same (c .before .before .before .args .b .keyed) (c .before .before .before .args .b .key) (eqb (c .before .before .before .args .b .keyed) 0) refl))
+returns c =
+    let c3 = c .before .before .before in
+    rw (eq-eqb _ _ (c .before .if1 .taken)) (sym (none-same (c3 .args .b .keyed) (c3 .args .b .key) (eqb (c3 .args .b .keyed) 0) refl))
 
 returns-2 : tie.Need-returns-2
 unfolding sameKey

@@ -36,10 +36,18 @@ loop-less : tie.Need-loop-less Inv-loop μ-loop
 loop-less c = search needs
 
 loop-again : tie.Need-loop-again Inv-loop μ-loop
-loop-again c = let l = c .before .before .loop in let n : length (c .before .before .before .args .t1) ≡ 8 = search needs in let h : c .count-live .result ≤ l .n + 1 = rw (c .count-live .ensures) (live-one (l .n) (getD (c .before .before .before .args .t1) (l .i) 0)) in (omega arith, omega arith, l .inv .2 ∙ live-next (c .before .before .before .args .t1) (l .i) (l .n) _ (omega arith) (c .count-live .ensures))
+loop-again c =
+    let c3 = c .before .before .before in
+    let l = c .before .before .loop in
+    let n : length (c3 .args .t1) ≡ 8 = search needs in
+    let h : c .count-live .result ≤ l .n + 1 = rw (c .count-live .ensures) (live-one (l .n) (getD (c3 .args .t1) (l .i) 0)) in
+    (omega arith, omega arith, l .inv .2 ∙ live-next (c3 .args .t1) (l .i) (l .n) _ (omega arith) (c .count-live .ensures))
 
 returns : tie.Need-returns Inv-loop μ-loop
-returns c = let l = c .before .loop in let n : length (c .before .before .args .t1) ≡ 8 = search needs in sym (l .inv .2 ∙ live-end (c .before .before .args .t1) (l .i) (l .n) (omega arith))
+returns c =
+    let l = c .before .loop in
+    let n : length (c .before .before .args .t1) ≡ 8 = search needs in
+    sym (l .inv .2 ∙ live-end (c .before .before .args .t1) (l .i) (l .n) (omega arith))
 
 pub live-count-spec : {M : Type 1} → statement M
 live-count-spec =

@@ -28,7 +28,11 @@ array-read-if1 : tie.Need-array-read-if1 Inv-loop μ-loop
 array-read-if1 c = search needs
 
 returns : tie.Need-returns Inv-loop μ-loop
-returns c = let l = c .before .before .loop in let n : length (c .before .before .before .args .t1) ≡ 8 = search needs in (rw (l .inv .1, place-next (c .before .before .before .args .t1) (l .i) (c .before .before .before .args .number) (omega arith), eq-eqb _ _ (c .if1 .taken)), omega arith)
+returns c =
+    let c3 = c .before .before .before in
+    let l = c .before .before .loop in
+    let n : length (c3 .args .t1) ≡ 8 = search needs in
+    (rw (l .inv .1, place-next (c3 .args .t1) (l .i) (c3 .args .number) (omega arith), eq-eqb _ _ (c .if1 .taken)), omega arith)
 
 add-i : tie.Need-add-i Inv-loop μ-loop
 add-i c = search needs
@@ -37,10 +41,17 @@ loop-less : tie.Need-loop-less Inv-loop μ-loop
 loop-less c = search needs
 
 loop-again : tie.Need-loop-again Inv-loop μ-loop
-loop-again c = let l = c .before .before .loop in let n : length (c .before .before .before .args .t1) ≡ 8 = search needs in (omega arith, l .inv .1 ∙ rw (place-next (c .before .before .before .args .t1) (l .i) (c .before .before .before .args .number) (omega arith), ne-eqb _ _ (c .if1 .left)))
+loop-again c =
+    let c3 = c .before .before .before in
+    let l = c .before .before .loop in
+    let n : length (c3 .args .t1) ≡ 8 = search needs in
+    (omega arith, l .inv .1 ∙ rw (place-next (c3 .args .t1) (l .i) (c3 .args .number) (omega arith), ne-eqb _ _ (c .if1 .left)))
 
 returns-2 : tie.Need-returns-2 Inv-loop μ-loop
-returns-2 c = let l = c .before .loop in let n : length (c .before .before .args .t1) ≡ 8 = search needs in (rw (l .inv .1, place-end (c .before .before .args .t1) (l .i) (c .before .before .args .number) (omega arith)), omega arith)
+returns-2 c =
+    let l = c .before .loop in
+    let n : length (c .before .before .args .t1) ≡ 8 = search needs in
+    (rw (l .inv .1, place-end (c .before .before .args .t1) (l .i) (c .before .before .args .number) (omega arith)), omega arith)
 
 pub place-of-spec : {M : Type 1} → statement M
 place-of-spec =

@@ -25,14 +25,20 @@ refused-requires-2 c κs = search needs
 
 returns-2 : tie.Need-returns-2
 unfolding validateOf
-returns-2 c = rw (c .refused2 .ensures, ← c .before .before .before .before .phase-rank .ensures, eq-eqb _ _ (c .before .before .before .if1 .left), ← c .before .before .reads-taken .ensures, c .before .if2 .taken)
+returns-2 c =
+    let c3 = c .before .before .before in
+    let c4 = c3 .before in
+    rw (c .refused2 .ensures, ← c4 .phase-rank .ensures, eq-eqb _ _ (c3 .if1 .left), ← c .before .before .reads-taken .ensures, c .before .if2 .taken)
 
 verdict-requires : tie.Need-verdict-requires
 verdict-requires c κs = search needs
 
 returns-3 : tie.Need-returns-3
 unfolding validateOf
-returns-3 c = rw (c .verdict .ensures, ← c .before .before .before .before .phase-rank .ensures, eq-eqb _ _ (c .before .before .before .if1 .left), ← c .before .before .reads-taken .ensures, c .before .if2 .left)
+returns-3 c =
+    let c3 = c .before .before .before in
+    let c4 = c3 .before in
+    rw (c .verdict .ensures, ← c4 .phase-rank .ensures, eq-eqb _ _ (c3 .if1 .left), ← c .before .before .reads-taken .ensures, c .before .if2 .left)
 
 pub validate-spec : {M : Type 1} → statement M
 validate-spec =

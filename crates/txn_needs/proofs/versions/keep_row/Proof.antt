@@ -17,7 +17,10 @@ same-length c = search needs
 
 returns : tie.Need-returns
 unfolding kept pushAll
-returns c = rw (← c .before .before .before .before .before .gets-version .ensures, c .before .before .before .before .if1 .taken) (c .before .before .push .ensures)
+returns c =
+    let c4 = c .before .before .before .before in
+    let c5 = c4 .before in
+    rw (← c5 .gets-version .ensures, c4 .if1 .taken) (c .before .before .push .ensures)
 
 returns-2 : tie.Need-returns-2
 unfolding kept pushAll

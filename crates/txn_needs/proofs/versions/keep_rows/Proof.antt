@@ -17,7 +17,8 @@ abbrev Inv-loop : tie.InvT-loop
 Inv-loop rows versions lists slot count list n out₀ m₀ i₀ out m i =
     (i ≤ length list)
     × (length out ≡ length out₀)
-    × (pushAll (record { out = out₀; n = 0 }) (join (kept rows versions lists slot count) (take n list)) ≡ pushAll (record { out = out; n = m }) (join (kept rows versions lists slot count) (drop i (take n list))))
+    × (pushAll (record { out = out₀; n = 0 }) (join (kept rows versions lists slot count) (take n list))
+    ≡ pushAll (record { out = out; n = m }) (join (kept rows versions lists slot count) (drop i (take n list))))
 
 abbrev μ-loop : tie.MeasureT-loop
 μ-loop rows versions lists slot count list n out₀ m₀ i₀ out m i = length list - i
@@ -29,7 +30,10 @@ same-length : tie.Need-same-length Inv-loop μ-loop
 same-length c = c .before .before .loop .inv .1
 
 returns : tie.Need-returns Inv-loop μ-loop
-returns c = let l = c .before .before .loop in sym (l .inv .2 ∙ join-none _ _ _ (left-end (c .before .before .before .before .before .before .before .before .args .list .now) (c .before .before .before .before .before .before .before .before .args .n) (l .i) (omega arith)))
+returns c =
+    let c8 = c .before .before .before .before .before .before .before .before in
+    let l = c .before .before .loop in
+    sym (l .inv .2 ∙ join-none _ _ _ (left-end (c8 .args .list .now) (c8 .args .n) (l .i) (omega arith)))
 
 mul-keep-row : tie.Need-mul-keep-row Inv-loop μ-loop
 mul-keep-row c = search needs
@@ -47,13 +51,26 @@ loop-less : tie.Need-loop-less Inv-loop μ-loop
 loop-less c = search needs
 
 loop-again : tie.Need-loop-again Inv-loop μ-loop
-loop-again c = let l = c .before .before .before .before .before .before .before .loop in let a = c .before .before .before .before .before .before .before .before .before .before .before .before .before .args in (omega arith, c .before .before .keep-row .kept .1 .1 .1 .1 .1 .1 .0 ∙ l .inv .1, l .inv .2 ∙ join-turn _ (record { out = l .out; n = l .m }) _ (take (a .n) (a .list .now)) (l .i) _ (left-next (a .list .now) (a .n) (l .i) (omega arith) (omega arith)) (c .before .before .keep-row .ensures))
+loop-again c =
+    let c7 = c .before .before .before .before .before .before .before in
+    let c13 = c7 .before .before .before .before .before .before in
+    let l = c7 .loop in
+    let a = c13 .args in (
+      omega arith,
+      c .before .before .keep-row .kept .1 .1 .1 .1 .1 .1 .0 ∙ l .inv .1,
+      l .inv .2
+          ∙ join-turn _ (record { out = l .out; n = l .m }) _ (take (a .n) (a .list .now)) (l .i) _
+          (left-next (a .list .now) (a .n) (l .i) (omega arith) (omega arith)) (c .before .before .keep-row .ensures),
+    )
 
 same-length-2 : tie.Need-same-length-2 Inv-loop μ-loop
 same-length-2 c = c .before .loop .inv .1
 
 returns-2 : tie.Need-returns-2 Inv-loop μ-loop
-returns-2 c = let l = c .before .loop in sym (l .inv .2 ∙ join-none _ _ _ (left-end (c .before .before .before .before .before .before .before .args .list .now) (c .before .before .before .before .before .before .before .args .n) (l .i) (omega arith)))
+returns-2 c =
+    let c7 = c .before .before .before .before .before .before .before in
+    let l = c .before .loop in
+    sym (l .inv .2 ∙ join-none _ _ _ (left-end (c7 .args .list .now) (c7 .args .n) (l .i) (omega arith)))
 
 pub keep-rows-spec : {M : Type 1} → statement M
 keep-rows-spec =

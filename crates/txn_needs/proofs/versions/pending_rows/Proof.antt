@@ -30,7 +30,10 @@ same-length : tie.Need-same-length
 same-length c = search needs
 
 returns : tie.Need-returns
-returns c = rw (c .sorted-count .ensures) (pending-made _ _ _ _ _ _ (c .before .before .before .before .before .before .before .push-rows .ensures .0) (c .before .before .before .canonical-buckets-sort .ensures))
+returns c =
+    let c3 = c .before .before .before in
+    let c7 = c3 .before .before .before .before in
+    rw (c .sorted-count .ensures) (pending-made _ _ _ _ _ _ (c7 .push-rows .ensures .0) (c3 .canonical-buckets-sort .ensures))
 
 pub pending-rows-spec : {M : Type 1} → statement M
 pending-rows-spec =

@@ -38,13 +38,33 @@ loop-less : tie.Need-loop-less Inv-loop μ-loop
 loop-less c = search needs
 
 loop-again : tie.Need-loop-again Inv-loop μ-loop
-loop-again c = let l = c .before .before .before .before .before .before .loop in (omega arith, c .before .before .push .kept .0 ∙ l .inv .1, push-fits (record { out = l .out; n = l .n }) _ _ (c .before .before .push .ensures) (l .inv .2), l .inv .3 ∙ push-turn (record { out = l .out; n = l .n }) _ (rowsWritten (c .before .before .before .before .before .before .before .before .before .args .lists .now) (c .before .before .before .before .before .before .before .before .before .args .slot) (c .before .before .before .before .before .before .before .before .before .args .count)) (l .i) (c .before .before .before .write-row-at .result) (fields-next (λ (w : Write). w .row) writeOf writes (c .before .before .before .before .before .before .before .before .before .args .lists .now) (c .before .before .before .before .before .before .before .before .before .args .slot) (c .before .before .before .before .before .before .before .before .before .args .count) (l .i) (c .before .before .before .write-row-at .result) (omega arith) (c .before .before .before .write-row-at .ensures)) (c .before .before .push .ensures))
+loop-again c =
+    let c3 = c .before .before .before in
+    let c6 = c3 .before .before .before in
+    let c9 = c6 .before .before .before in
+    let l = c6 .loop in (
+      omega arith,
+      c .before .before .push .kept .0
+          ∙ l .inv .1,
+      push-fits (record { out = l .out; n = l .n }) _ _ (c .before .before .push .ensures) (l .inv .2),
+      l .inv .3
+          ∙ push-turn (record { out = l .out; n = l .n }) _ (rowsWritten (c9 .args .lists .now) (c9 .args .slot) (c9 .args .count)) (l .i)
+          (c3 .write-row-at .result)
+          (fields-next (λ (w : Write). w .row) writeOf writes (c9 .args .lists .now) (c9 .args .slot) (c9 .args .count) (l .i) (c3 .write-row-at .result)
+          (omega arith) (c3 .write-row-at .ensures)) (c .before .before .push .ensures),
+    )
 
 same-length : tie.Need-same-length Inv-loop μ-loop
 same-length c = c .before .loop .inv .1
 
 returns : tie.Need-returns Inv-loop μ-loop
-returns c = let l = c .before .loop in (sym (l .inv .3 ∙ push-none _ _ (fields-done (λ (w : Write). w .row) writeOf writes (c .before .before .before .before .args .lists .now) (c .before .before .before .before .args .slot) (c .before .before .before .before .args .count) (l .i) (omega arith))), l .inv .2)
+returns c =
+    let c4 = c .before .before .before .before in
+    let l = c .before .loop in (
+      sym (l .inv .3 ∙ push-none _ _
+          (fields-done (λ (w : Write). w .row) writeOf writes (c4 .args .lists .now) (c4 .args .slot) (c4 .args .count) (l .i) (omega arith))),
+      l .inv .2,
+    )
 
 pub push-rows-spec : {M : Type 1} → statement M
 push-rows-spec =
