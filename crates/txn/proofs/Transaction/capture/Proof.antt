@@ -73,7 +73,8 @@ told-precedes c = rw (told-stamp c, ← c .stamp-precedes-snapshot .ensures)
 
 -- the index read of the bucket
 told-read : (c : tie.After-too-many)
-    → let a = start-reads c .args in readPrefix (a .lists .now) (a .self .slot) (a .self .«reads_n») (a .key % a .bucket-count) ≡ c .before .find-read-prefix .result
+    → let a = start-reads c .args in
+    readPrefix (a .lists .now) (a .self .slot) (a .self .«reads_n») (a .key % a .bucket-count) ≡ c .before .find-read-prefix .result
 told-read c = rw (← bucket-reads c .bucket-of .ensures, ← c .before .find-read-prefix .ensures)
 
 -- a bucket with no index read finds no place for one, or does
