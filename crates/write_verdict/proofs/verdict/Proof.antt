@@ -6,8 +6,13 @@ use borrow.Author.Needs.{needs}
 use Rattle.write_verdict.proofs.verdict.Statement.{statement}
 use Rattle.write_verdict.proofs.verdict.Tie as tie
 
+abbrev start : tie.After-shared-slice-known3 → tie.Start
+start c = c .before .before .before
+
 returns : tie.Need-returns
-returns c = sym (verdict-mark (c .before .before .before .before .args .versions .now) (c .before .before .before .before .args .buckets .now) (c .before .before .before .before .args .lists .now) (c .before .before .before .before .args .t) (c .if1 .taken))
+returns c =
+    let a = start (c .before) .args in
+    sym (verdict-mark (a .versions .now) (a .buckets .now) (a .lists .now) (a .t) (c .if1 .taken))
 
 index-read-conflict-requires : tie.Need-index-read-conflict-requires
 index-read-conflict-requires c κs = search needs
@@ -25,10 +30,24 @@ row-verdict-requires : tie.Need-row-verdict-requires
 row-verdict-requires c κs = search needs
 
 returns-2 : tie.Need-returns-2
-returns-2 c = c .bucket-verdict .ensures ∙ sym (verdict-bucket (c .before .before .before .before .before .before .before .before .before .args .versions .now) (c .before .before .before .before .before .before .before .before .before .args .buckets .now) (c .before .before .before .before .before .before .before .before .before .args .lists .now) (c .before .before .before .before .before .before .before .before .before .args .t) (c .before .before .before .before .before .if1 .left) _ (sym (c .before .before .before .before .index-read-conflict .ensures) ∙ c .before .before .changed .given .1))
+returns-2 c =
+    let arm = c .before .before in
+    let read = arm .before .before in
+    let unmarked = read .before in
+    let a = start (unmarked .before) .args in
+    c .bucket-verdict .ensures
+    ∙ sym (verdict-bucket (a .versions .now) (a .buckets .now) (a .lists .now) (a .t) (unmarked .if1 .left) _
+    (sym (read .index-read-conflict .ensures) ∙ arm .changed .given .1))
 
 returns-3 : tie.Need-returns-3
-returns-3 c = c .row-verdict .ensures ∙ sym (verdict-row (c .before .before .before .before .before .before .before .before .args .versions .now) (c .before .before .before .before .before .before .before .before .args .buckets .now) (c .before .before .before .before .before .before .before .before .args .lists .now) (c .before .before .before .before .before .before .before .before .args .t) (c .before .before .before .before .if1 .left) (sym (c .before .before .before .index-read-conflict .ensures) ∙ c .before .enum-told .given .1))
+returns-3 c =
+    let arm = c .before in
+    let read = arm .before .before in
+    let unmarked = read .before in
+    let a = start (unmarked .before) .args in
+    c .row-verdict .ensures
+    ∙ sym (verdict-row (a .versions .now) (a .buckets .now) (a .lists .now) (a .t) (unmarked .if1 .left)
+    (sym (read .index-read-conflict .ensures) ∙ arm .enum-told .given .1))
 
 pub verdict-spec : {M : Type 1} → statement M
 verdict-spec =

@@ -1,10 +1,103 @@
 -- `txn::Transaction::capture` meets its contract.
 -- Assumes nothing.
-use Rattle.txn.specs.Methods.{captureAt}
+use Prim.Native.Nat.{_%_}
+use mathlib.Core.Path.{_≡_, _∙_}
+use mathlib.Core.Bool.{true, false, not}
+use lib.Dec.{eqb}
+use Rattle.model.specs.Store.{rank, phaseOpen}
+use Rattle.table.specs.Fields.{stampOf, holderOf}
+use Rattle.table_scans.specs.Scans.{readPrefix}
+use Rattle.table_buckets.specs.Buckets.{precedes}
+use Rattle.txn.specs.View.{phaseView}
+use Rattle.txn.specs.Methods.{WithLists, takenBy, tooMany, holdOf, captureAt}
 use borrow.Author.Tests.{eq-eqb, ne-eqb}
 use borrow.Author.Needs.{needs}
 use Rattle.txn.proofs.Transaction.capture.Statement.{statement}
 use Rattle.txn.proofs.Transaction.capture.Tie as tie
+
+-- THE WAY BACK FROM EACH TEST
+
+abbrev start : tie.After-phase-rank → tie.Start
+start c = c .before .before .before
+
+abbrev found-bucket : tie.After-by-another → tie.After-bucket-of
+found-bucket c = c .before .before .before
+
+abbrev past-mark : tie.After-by-another → tie.Else2
+past-mark c = found-bucket c .before
+
+abbrev past-holder : tie.After-stamp-precedes-snapshot → tie.Else3
+past-holder c = c .before .before .before
+
+abbrev past-stamp : tie.After-too-many → tie.Else4
+past-stamp c = c .before .before .before
+
+abbrev past-reads : tie.After-hold → tie.Else5
+past-reads c = c .before .before .before .before .before .before
+
+-- the parameters, from each test
+abbrev start-mark : tie.Else2 → tie.Start
+start-mark c = start (c .before .before)
+
+abbrev start-holder : tie.After-by-another → tie.Start
+start-holder c = start-mark (past-mark c)
+
+abbrev start-stamp : tie.After-stamp-precedes-snapshot → tie.Start
+start-stamp c = start-holder (past-holder c .before)
+
+abbrev start-reads : tie.After-too-many → tie.Start
+start-reads c = start-stamp (past-stamp c .before)
+
+abbrev bucket-stamp : (c : tie.After-stamp-precedes-snapshot) → tie.After-bucket-of
+bucket-stamp c = found-bucket (past-holder c .before)
+
+abbrev bucket-reads : (c : tie.After-too-many) → tie.After-bucket-of
+bucket-reads c = bucket-stamp (past-stamp c .before)
+
+-- WHAT EACH TEST TELLS
+
+-- the bucket's holder is another, or not
+told-holder : (c : tie.After-by-another)
+    → let a = start-holder c .args in takenBy (holderOf (a .buckets .now) (a .key % a .bucket-count)) (a .self .number) ≡ c .by-another .result
+told-holder c = rw (← found-bucket c .bucket-of .ensures, ← c .before .holder-at .ensures, ← c .by-another .ensures)
+
+-- the bucket's stamp
+told-stamp : (c : tie.After-stamp-precedes-snapshot)
+    → let a = start-stamp c .args in stampOf (a .buckets .now) (a .key % a .bucket-count) ≡ c .before .stamp-at .result
+told-stamp c = rw (← bucket-stamp c .bucket-of .ensures, ← c .before .stamp-at .ensures)
+
+-- it precedes the snapshot, or not
+told-precedes : (c : tie.After-stamp-precedes-snapshot)
+    → let a = start-stamp c .args in precedes (stampOf (a .buckets .now) (a .key % a .bucket-count)) (a .self .number) ≡ c .stamp-precedes-snapshot .result
+told-precedes c = rw (told-stamp c, ← c .stamp-precedes-snapshot .ensures)
+
+-- the index read of the bucket
+told-read : (c : tie.After-too-many)
+    → let a = start-reads c .args in
+    readPrefix (a .lists .now) (a .self .slot) (a .self .«reads_n») (a .key % a .bucket-count) ≡ c .before .find-read-prefix .result
+told-read c = rw (← bucket-reads c .bucket-of .ensures, ← c .before .find-read-prefix .ensures)
+
+-- a bucket with no index read finds no place for one, or does
+told-many : (c : tie.After-too-many)
+    → let a = start-reads c .args in
+    tooMany (readPrefix (a .lists .now) (a .self .slot) (a .self .«reads_n») (a .key % a .bucket-count)) (a .self .«reads_n») ≡ c .too-many .result
+told-many c = rw (told-read c, ← c .too-many .ensures)
+
+-- the phase is open
+opened : (c : tie.Else1) → eqb (rank (phaseView (start (c .before) .args .self .phase))) phaseOpen ≡ true
+opened c = rw (← c .before .phase-rank .ensures) (eq-eqb _ _ (c .if1 .left))
+
+-- the transaction that holds the bucket, and its lists
+held : (c : tie.After-hold)
+    → let a = start-reads (past-reads c .before) .args in
+    let b = a .key % a .bucket-count in
+    _≡_ {A = WithLists} (record { txn = c .hold .result; lists = c .hold .last .1 .0 })
+    (holdOf (a .self) (readPrefix (a .lists .now) (a .self .slot) (a .self .«reads_n») b) b (a .key) (stampOf (a .buckets .now) b) (a .lists .now))
+held c =
+    let many = past-reads c .before in
+    c .hold .ensures ∙ rw (told-read many, told-stamp (past-stamp many .before), ← bucket-reads many .bucket-of .ensures)
+
+-- WHAT IS ASKED
 
 phase-rank-requires : tie.Need-phase-rank-requires
 phase-rank-requires c κs = search needs
@@ -21,7 +114,7 @@ refused-requires-2 c κs = search needs
 
 returns-2 : tie.Need-returns-2
 unfolding captureAt
-returns-2 c = rw (c .refused2 .ensures, ← c .before .before .before .phase-rank .ensures, eq-eqb _ _ (c .before .before .if1 .left), c .before .if2 .taken)
+returns-2 c = rw (c .refused2 .ensures, opened (c .before .before), c .before .if2 .taken)
 
 bucket-of-requires : tie.Need-bucket-of-requires
 bucket-of-requires c κs = search needs
@@ -40,7 +133,10 @@ same-length c = search needs
 
 returns-3 : tie.Need-returns-3
 unfolding captureAt
-returns-3 c = rw (c .refused3 .ensures, ← c .before .before .before .before .before .before .before .before .phase-rank .ensures, eq-eqb _ _ (c .before .before .before .before .before .before .before .if1 .left), c .before .before .before .before .before .before .if2 .left, ← c .before .before .before .before .before .bucket-of .ensures, ← c .before .before .before .holder-at .ensures, ← c .before .before .by-another .ensures, c .before .if3 .taken)
+returns-3 c =
+    let holder = c .before .before in
+    let unmarked = past-mark holder in
+    rw (c .refused3 .ensures, opened (unmarked .before), unmarked .if2 .left, told-holder holder, c .before .if3 .taken)
 
 stamp-at-requires : tie.Need-stamp-at-requires
 stamp-at-requires c κs = search needs
@@ -59,7 +155,20 @@ same-length-2 c = search needs
 
 returns-4 : tie.Need-returns-4
 unfolding captureAt
-returns-4 c = rw (c .refused4 .ensures, c .before .with-mark .ensures, ← c .before .before .before .before .before .before .before .before .before .before .before .before .before .phase-rank .ensures, eq-eqb _ _ (c .before .before .before .before .before .before .before .before .before .before .before .before .if1 .left), c .before .before .before .before .before .before .before .before .before .before .before .if2 .left, ← c .before .before .before .before .before .before .before .before .before .before .bucket-of .ensures, ← c .before .before .before .before .before .before .before .before .holder-at .ensures, ← c .before .before .before .before .before .before .before .by-another .ensures, c .before .before .before .before .before .before .if3 .left, ← c .before .before .before .before .stamp-at .ensures, ← c .before .before .before .stamp-precedes-snapshot .ensures, c .before .before .if4 .taken)
+returns-4 c =
+    let stale = c .before .before in
+    let free = past-holder (stale .before) in
+    let unmarked = past-mark (free .before) in
+    rw (
+      c .refused4 .ensures,
+      c .before .with-mark .ensures,
+      opened (unmarked .before),
+      unmarked .if2 .left,
+      told-holder (free .before),
+      free .if3 .left,
+      told-precedes (stale .before),
+      stale .if4 .taken,
+    )
 
 find-read-prefix-requires : tie.Need-find-read-prefix-requires
 find-read-prefix-requires c κs = search needs
@@ -78,13 +187,30 @@ same-length-4 c = search needs
 
 returns-5 : tie.Need-returns-5
 unfolding captureAt
-returns-5 c = rw (c .refused5 .ensures, ← c .before .before .before .before .before .before .before .before .before .before .before .before .before .before .before .before .phase-rank .ensures, eq-eqb _ _ (c .before .before .before .before .before .before .before .before .before .before .before .before .before .before .before .if1 .left), c .before .before .before .before .before .before .before .before .before .before .before .before .before .before .if2 .left, ← c .before .before .before .before .before .before .before .before .before .before .before .before .before .bucket-of .ensures, ← c .before .before .before .before .before .before .before .before .before .before .before .holder-at .ensures, ← c .before .before .before .before .before .before .before .before .before .before .by-another .ensures, c .before .before .before .before .before .before .before .before .before .if3 .left, ← c .before .before .before .before .before .before .before .stamp-at .ensures, ← c .before .before .before .before .before .before .stamp-precedes-snapshot .ensures, c .before .before .before .before .before .if4 .left, ← c .before .before .before .find-read-prefix .ensures, ← c .before .before .too-many .ensures, c .before .if5 .taken)
+returns-5 c =
+    let many = c .before in
+    let recent = past-stamp (many .before) in
+    let free = past-holder (recent .before) in
+    let unmarked = past-mark (free .before) in
+    rw (
+      c .refused5 .ensures,
+      opened (unmarked .before),
+      unmarked .if2 .left,
+      told-holder (free .before),
+      free .if3 .left,
+      told-precedes (recent .before),
+      recent .if4 .left,
+      told-many (many .before),
+      many .if5 .taken,
+    )
 
 set-holder-requires : tie.Need-set-holder-requires
 set-holder-requires c κs = search needs
 
 hold-requires : tie.Need-hold-requires
-hold-requires c κs = rw (c .before .before .before .before .before .before .too-many .ensures) at (c .before .before .before .before .before .if5 .left)
+hold-requires c κs =
+    let few = c .before .before .before .before .before in
+    rw (few .before .too-many .ensures) at (few .if5 .left)
 
 same-length-5 : tie.Need-same-length-5
 same-length-5 c = search needs
@@ -94,7 +220,27 @@ same-length-6 c = search needs
 
 returns-6 : tie.Need-returns-6
 unfolding captureAt
-returns-6 c = let e = rw (c .before .before .before .before .before .before .before .before .before .before .find-read-prefix .ensures, c .before .before .before .before .before .before .before .before .before .before .before .before .before .before .stamp-at .ensures, c .before .before .before .before .before .before .before .before .before .before .before .before .before .before .before .before .before .before .before .before .bucket-of .ensures) at (c .before .before .hold .ensures) in rw (← e, ← c .before .before .before .before .before .before .before .before .before .before .before .before .before .before .before .before .before .before .before .before .before .before .before .phase-rank .ensures, eq-eqb _ _ (c .before .before .before .before .before .before .before .before .before .before .before .before .before .before .before .before .before .before .before .before .before .before .if1 .left), c .before .before .before .before .before .before .before .before .before .before .before .before .before .before .before .before .before .before .before .before .before .if2 .left, ← c .before .before .before .before .before .before .before .before .before .before .before .before .before .before .before .before .before .before .before .before .bucket-of .ensures, ← c .before .before .before .before .before .before .before .before .before .before .before .before .before .before .before .before .before .before .holder-at .ensures, ← c .before .before .before .before .before .before .before .before .before .before .before .before .before .before .before .before .before .by-another .ensures, c .before .before .before .before .before .before .before .before .before .before .before .before .before .before .before .before .if3 .left, ← c .before .before .before .before .before .before .before .before .before .before .before .before .before .before .stamp-at .ensures, ← c .before .before .before .before .before .before .before .before .before .before .before .before .before .stamp-precedes-snapshot .ensures, c .before .before .before .before .before .before .before .before .before .before .before .before .if4 .left, ← c .before .before .before .before .before .before .before .before .before .before .find-read-prefix .ensures, ← c .before .before .before .before .before .before .before .before .before .too-many .ensures, c .before .before .before .before .before .before .before .before .if5 .left, ← c .before .before .before .before .before .before .set-holder .ensures)
+returns-6 c =
+    let kept = c .before .before in
+    let taken = kept .before .before .before .before in
+    let few = past-reads kept in
+    let recent = past-stamp (few .before) in
+    let free = past-holder (recent .before) in
+    let unmarked = past-mark (free .before) in
+    rw (
+      ← held kept,
+      opened (unmarked .before),
+      unmarked .if2 .left,
+      told-holder (free .before),
+      free .if3 .left,
+      told-precedes (recent .before),
+      recent .if4 .left,
+      told-many (few .before),
+      few .if5 .left,
+      told-stamp (recent .before),
+      ← bucket-reads (few .before) .bucket-of .ensures,
+      ← taken .set-holder .ensures,
+    )
 
 pub capture-spec : {M : Type 1} → statement M
 capture-spec =

@@ -42,7 +42,21 @@ same-length-2 c = search needs
 
 returns-2 : tie.Need-returns-2
 unfolding collectOf
-returns-2 c = rw (← c .before .before .before .before .before .before .before .before .before .before .before .before .phase-rank .ensures, eq-eqb _ _ (c .before .before .before .before .before .before .before .before .before .before .before .if1 .left), ← c .before .before .before .before .before .before .before .before .before .before .bucket-in .ensures, ← c .before .before .before .before .before .before .before .before .before .key-in .ensures, c .with-phase .ensures, c .before .before .before .set-holder .ensures, c .before .before .before .before .before .before .before .keep-posted .ensures .1, c .before .before .before .before .before .before .before .keep-posted .ensures .0)
+returns-2 c =
+    let freed = c .before .before .before in
+    let kept = freed .before .before .before .before in
+    let keyed = kept .before .before in
+    let holding = keyed .before .before in
+    rw (
+      ← holding .before .phase-rank .ensures,
+      eq-eqb _ _ (holding .if1 .left),
+      ← keyed .before .bucket-in .ensures,
+      ← keyed .key-in .ensures,
+      c .with-phase .ensures,
+      freed .set-holder .ensures,
+      kept .keep-posted .ensures .1,
+      kept .keep-posted .ensures .0,
+    )
 
 pub collect-spec : {M : Type 1} → statement M
 collect-spec =

@@ -1,14 +1,23 @@
 -- `txn::Transaction::hold` meets its contract.
 -- Assumes nothing.
-use Rattle.txn.specs.Methods.{holdOf}
-use mathlib.Core.Path.{_≡_}
+use Rattle.txn.specs.Methods.{tooMany, holdOf}
+use mathlib.Core.Path.{_≡_, sym, ap, _∙_}
 use mathlib.Core.Bool.{false}
 use native.Mathlib.Omega.{arith}
 use borrow.Author.Tests.{leb-false}
 use lib.Dec.{leb}
+use Rattle.base_limits.specs.Limits.{mostIndexReads}
+use Rattle.table_scans.specs.declared.Found.{Found}
 use borrow.Author.Needs.{needs}
 use Rattle.txn.proofs.Transaction.hold.Statement.{statement}
 use Rattle.txn.proofs.Transaction.hold.Tie as tie
+
+abbrev start : tie.After-enum-told2 → tie.Start
+start c = c .before .before .before .before
+
+-- a bucket with no index read finds a place for one
+few : (c : tie.After-enum-told2) → leb mostIndexReads (start c .args .self .«reads_n») ≡ false
+few c = sym (ap (λ (f : Found). tooMany f (start c .args .self .«reads_n»)) (c .enum-told2 .given .1)) ∙ start c .pre
 
 with-phase-requires : tie.Need-with-phase-requires
 with-phase-requires c κs = search needs
@@ -23,7 +32,9 @@ put-read-requires : tie.Need-put-read-requires
 put-read-requires c κs = search needs
 
 add-held : tie.Need-add-held
-add-held c = let h : leb 16 (c .before .before .before .before .before .before .before .before .args .self .«reads_n») ≡ false = rw (c .before .before .before .before .enum-told2 .given .1) at (c .before .before .before .before .before .before .before .before .pre) in omega (arith, leb-false 16 (c .before .before .before .before .before .before .before .before .args .self .«reads_n») h)
+add-held c =
+    let new = c .before .before .before .before in
+    omega (arith, leb-false mostIndexReads (start new .args .self .«reads_n») (few new))
 
 returns : tie.Need-returns
 unfolding holdOf
@@ -34,7 +45,10 @@ same-length c = search needs
 
 returns-2 : tie.Need-returns-2
 unfolding holdOf
-returns-2 c = rw (c .before .before .before .before .before .before .with-phase .ensures, c .before .before .before .before .enum-told2 .given .1, c .before .before .put-read .ensures)
+returns-2 c =
+    let put = c .before .before in
+    let new = put .before .before in
+    rw (new .before .before .with-phase .ensures, new .enum-told2 .given .1, put .put-read .ensures)
 
 pub hold-spec : {M : Type 1} → statement M
 hold-spec =
