@@ -8,13 +8,14 @@ use mathlib.Core.List.{List}
 use native.Mathlib.Omega.{arith}
 use lib.Dec.{eqb, ltb}
 use lib.ListN.{length, take, replicate}
+use borrow.Author.Tests.{eqb-false}
 use Rattle.base_limits.specs.Limits.{mostLive}
 use Rattle.base_lists.specs.Lists.{some-of, Among}
 use Rattle.base_lists.proofs.ListLaws.{same-test, some-which, which-some}
 use Rattle.model.specs.Store.{rank, phaseOpen}
 use Rattle.model.specs.Verdict as judged
 use Rattle.model.specs.Steps.{pendingRows, neededBuckets, preparedHeld, versionRows}
-use Rattle.model.specs.Refusals.{refusalNumber, WrongPhase, Taken, Conflict, NoVersions, byAnother, versionsAfter, refusal}
+use Rattle.model.specs.Refusals.{refusalNumber, WrongPhase, Taken, Conflict, NoVersions, byAnother, reserved, versionsAfter, refusal}
 use Rattle.model.specs.Machine.{accepted, afterRefusal, carried}
 use Rattle.base_protocol.specs.declared.Step.the-variants as ask
 use Rattle.base_protocol.specs.declared.Answer.the-variants as tell
@@ -27,7 +28,7 @@ use Rattle.txn.specs.declared.Phase.the-variants as phase
 use Rattle.txn_needs.specs.Needs.{rowsWritten}
 use Rattle.table.specs.Fields.{setHolders, setClaims}
 use Rattle.txn_needs.specs.Holders.{anyTaken, anyClaimed}
-use Rattle.txn_needs.specs.Versions.{versionsIn}
+use Rattle.txn_needs.specs.Versions.{versionsIn, reservedIn}
 use Rattle.write_prepare.specs.Prepare.{isClear, lacks, neededInto, left, prepareWith, prepareOf}
 use Rattle.step.specs.Steps.{inPrepared}
 use Rattle.step.specs.Words.{Words, view, txnAt, othersIn, Sized}
@@ -42,6 +43,7 @@ use Rattle.step_bridge.proofs.Judging.{taken-same, verdict-same}
 use Rattle.step_bridge.proofs.Needing.{all-same, headed, rows-most, writes-in, listedNeeds, row-in, row-pending, pending-row, needed-listed, listed-needed}
 use Rattle.step_bridge.proofs.Aborting.{listed-few, listed-in}
 use Rattle.step_bridge.proofs.Distinct.{versions-counted}
+use Rattle.step_bridge.proofs.Reserving.{reserved-same}
 
 -- a test of some entry sees only which entries there are
 some-both : (test : ℕ → Bool) (xs ys : List ℕ) → ((x : ℕ) → Among x xs → Among x ys) → ((x : ℕ) → Among x ys → Among x xs) → some-of test xs ≡ some-of test ys
@@ -72,6 +74,11 @@ module _ (w : Words) (z : Sized w) (g : Shaped w) where
       some-same (λ r. takenBy (fields.claimOf (w .tables .rows) r) (txnAt w p .number)) (byAnother (view w .held .claim) (txnAt w p .number)) (rowsWritten (w .tables .lists) (txnAt w p .slot) (txnAt w p .«writes_n»)) (λ r m. claim-same (txnAt w p .number) r (row-in w z g p l r m))
       ∙ some-both _ _ _ (λ r m. row-pending w z g p l r m) (λ r m. pending-row w z g p r m)
 
+  -- what others have reserved, and the own rows that get a version
+  others-same : reservedIn (w .tables .rows) (w .tables .versions) (w .tables .lists) (othersIn (w .txns) .prepared) mostLive
+      ≡ reserved (view w .sizes) (view w .chains) (view w .txns) mostLive
+  others-same = reserved-same w (headed w z g) (rows-most w z g) (λ i h. sized-at w z i .slot)
+      (λ i h e. writes-in w z g i (let d = eqb-false (txnAt w i .number) 0 e in omega (arith, d)))
 
   own-same : (p : ℕ) → 1 ≤ txnAt w p .number
       → versionsIn (w .tables .rows) (w .tables .versions) (w .tables .lists) (txnAt w p .slot) (txnAt w p .«writes_n»)
