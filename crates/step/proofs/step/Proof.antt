@@ -1,9 +1,22 @@
 -- `step::step` meets its contract.
 -- Assumes nothing.
+use mathlib.Core.Path.{_≡_}
+use mathlib.Core.Bool.{false}
+use Rattle.txn_places.specs.Places.{missesOf}
 use Rattle.step.specs.Steps.{stepOf}
 use borrow.Author.Needs.{needs}
 use Rattle.step.proofs.step.Statement.{statement}
 use Rattle.step.proofs.step.Tie as tie
+
+abbrev lent : tie.After-misses → tie.After-slice-known5
+lent c = c .before .before .before .before
+
+abbrev start : tie.After-misses → tie.Start
+start c = lent c .before .before .before .before .before
+
+-- the step names the transaction, past the first test
+named : (c : tie.Else1) → let a = start (c .before) .args in missesOf (a .t .number) (a .s) ≡ false
+named c = rw (← c .before .misses .ensures) (c .if1 .left)
 
 misses-requires : tie.Need-misses-requires
 misses-requires c κs = search needs
@@ -122,7 +135,9 @@ with-clock-requires-9 c κs = search needs
 
 returns-2 : tie.Need-returns-2
 unfolding stepOf
-returns-2 c = rw (← c .before .before .before .before .before .before .misses .ensures, c .before .before .before .before .before .if1 .left, c .before .before .before .enum-told .given .1, c .with-begun .ensures, c .before .begin .ensures, c .before .before .live-count .ensures)
+returns-2 c =
+    let arm = c .before .before .before in
+    rw (named (arm .before .before), arm .enum-told .given .1, c .with-begun .ensures, c .before .begin .ensures, c .before .before .live-count .ensures)
 
 same-length : tie.Need-same-length
 same-length c = search needs
@@ -132,7 +147,10 @@ same-length-2 c = search needs
 
 returns-3 : tie.Need-returns-3
 unfolding stepOf
-returns-3 c = rw (← c .before .before .before .before .before .before .before .before .before .before .before .before .misses .ensures, c .before .before .before .before .before .before .before .before .before .before .before .if1 .left, c .before .before .before .before .before .before .before .before .before .s .given .1, c .with-clock .ensures, ← c .before .before .before .before .before .capture .ensures)
+returns-3 c =
+    let done = c .before .before .before .before .before in
+    let arm = done .before .before .before .before in
+    rw (named (arm .before .before), arm .s .given .1, c .with-clock .ensures, ← done .capture .ensures)
 
 same-length-3 : tie.Need-same-length-3
 same-length-3 c = search needs
@@ -145,7 +163,10 @@ same-length-5 c = search needs
 
 returns-4 : tie.Need-returns-4
 unfolding stepOf
-returns-4 c = rw (← c .before .before .before .before .before .before .before .before .before .before .before .before .misses .ensures, c .before .before .before .before .before .before .before .before .before .before .before .if1 .left, c .before .before .before .before .before .before .before .before .before .enum-told2 .given .1, c .with-clock2 .ensures, ← c .before .before .before .before .before .collect .ensures)
+returns-4 c =
+    let done = c .before .before .before .before .before in
+    let arm = done .before .before .before .before in
+    rw (named (arm .before .before), arm .enum-told2 .given .1, c .with-clock2 .ensures, ← done .collect .ensures)
 
 same-length-6 : tie.Need-same-length-6
 same-length-6 c = search needs
@@ -161,21 +182,30 @@ same-length-9 c = search needs
 
 returns-5 : tie.Need-returns-5
 unfolding stepOf
-returns-5 c = rw (← c .before .before .before .before .before .before .before .before .before .before .before .before .before .before .misses .ensures, c .before .before .before .before .before .before .before .before .before .before .before .before .before .if1 .left, c .before .before .before .before .before .before .before .before .before .before .before .s2 .given .1, c .with-clock3 .ensures, ← c .before .before .before .before .before .rows .ensures)
+returns-5 c =
+    let done = c .before .before .before .before .before in
+    let arm = done .before .before .before .before .before .before in
+    rw (named (arm .before .before), arm .s2 .given .1, c .with-clock3 .ensures, ← done .rows .ensures)
 
 same-length-10 : tie.Need-same-length-10
 same-length-10 c = search needs
 
 returns-6 : tie.Need-returns-6
 unfolding stepOf
-returns-6 c = rw (← c .before .before .before .before .before .before .before .before .before .misses .ensures, c .before .before .before .before .before .before .before .before .if1 .left, c .before .before .before .before .before .before .s3 .given .1, c .with-clock4 .ensures, ← c .before .before .before .put .ensures)
+returns-6 c =
+    let done = c .before .before .before in
+    let arm = done .before .before .before in
+    rw (named (arm .before .before), arm .s3 .given .1, c .with-clock4 .ensures, ← done .put .ensures)
 
 same-length-11 : tie.Need-same-length-11
 same-length-11 c = search needs
 
 returns-7 : tie.Need-returns-7
 unfolding stepOf
-returns-7 c = rw (← c .before .before .before .before .before .before .before .before .before .misses .ensures, c .before .before .before .before .before .before .before .before .if1 .left, c .before .before .before .before .before .before .s4 .given .1, c .with-clock5 .ensures, ← c .before .before .before .erase .ensures)
+returns-7 c =
+    let done = c .before .before .before in
+    let arm = done .before .before .before in
+    rw (named (arm .before .before), arm .s4 .given .1, c .with-clock5 .ensures, ← done .erase .ensures)
 
 same-length-12 : tie.Need-same-length-12
 same-length-12 c = search needs
@@ -191,7 +221,10 @@ same-length-15 c = search needs
 
 returns-8 : tie.Need-returns-8
 unfolding stepOf
-returns-8 c = rw (← c .before .before .before .before .before .before .before .before .before .before .before .before .before .misses .ensures, c .before .before .before .before .before .before .before .before .before .before .before .before .if1 .left, c .before .before .before .before .before .before .before .before .before .before .enum-told3 .given .1, c .with-clock6 .ensures, ← c .before .before .before .before .before .prepare .ensures)
+returns-8 c =
+    let done = c .before .before .before .before .before in
+    let arm = done .before .before .before .before .before in
+    rw (named (arm .before .before), arm .enum-told3 .given .1, c .with-clock6 .ensures, ← done .prepare .ensures)
 
 same-length-16 : tie.Need-same-length-16
 same-length-16 c = search needs
@@ -204,11 +237,16 @@ same-length-18 c = search needs
 
 returns-9 : tie.Need-returns-9
 unfolding stepOf
-returns-9 c = rw (← c .before .before .before .before .before .before .before .before .before .before .before .before .misses .ensures, c .before .before .before .before .before .before .before .before .before .before .before .if1 .left, c .before .before .before .before .before .before .before .before .before .enum-told4 .given .1, c .with-installed .ensures, ← c .before .before .before .before .before .install .ensures)
+returns-9 c =
+    let done = c .before .before .before .before .before in
+    let arm = done .before .before .before .before in
+    rw (named (arm .before .before), arm .enum-told4 .given .1, c .with-installed .ensures, ← done .install .ensures)
 
 returns-10 : tie.Need-returns-10
 unfolding stepOf
-returns-10 c = rw (← c .before .before .before .before .before .misses .ensures, c .before .before .before .before .if1 .left, c .before .before .enum-told5 .given .1, c .with-clock7 .ensures, c .before .end .ensures)
+returns-10 c =
+    let arm = c .before .before in
+    rw (named (arm .before .before), arm .enum-told5 .given .1, c .with-clock7 .ensures, c .before .end .ensures)
 
 same-length-19 : tie.Need-same-length-19
 same-length-19 c = search needs
@@ -224,7 +262,10 @@ same-length-22 c = search needs
 
 returns-11 : tie.Need-returns-11
 unfolding stepOf
-returns-11 c = rw (← c .before .before .before .before .before .before .before .before .before .before .before .before .misses .ensures, c .before .before .before .before .before .before .before .before .before .before .before .if1 .left, c .before .before .before .before .before .before .before .before .before .enum-told6 .given .1, ← c .before .before .before .before .step-publish .ensures)
+returns-11 c =
+    let done = c .before .before .before .before in
+    let arm = done .before .before .before .before .before in
+    rw (named (arm .before .before), arm .enum-told6 .given .1, ← done .step-publish .ensures)
 
 same-length-23 : tie.Need-same-length-23
 same-length-23 c = search needs
@@ -237,7 +278,9 @@ same-length-25 c = search needs
 
 returns-12 : tie.Need-returns-12
 unfolding stepOf
-returns-12 c = rw (← c .before .before .before .before .before .before .before .before .misses .ensures, c .before .before .before .before .before .before .before .if1 .left, c .before .before .before .before .before .enum-told7 .given .1, c .with-clock8 .ensures, c .before .validate .ensures)
+returns-12 c =
+    let arm = c .before .before .before .before .before in
+    rw (named (arm .before .before), arm .enum-told7 .given .1, c .with-clock8 .ensures, c .before .validate .ensures)
 
 same-length-26 : tie.Need-same-length-26
 same-length-26 c = search needs
@@ -253,7 +296,10 @@ same-length-29 c = search needs
 
 returns-13 : tie.Need-returns-13
 unfolding stepOf
-returns-13 c = rw (← c .before .before .before .before .before .before .before .before .before .before .before .before .before .misses .ensures, c .before .before .before .before .before .before .before .before .before .before .before .before .if1 .left, c .before .before .before .before .before .before .before .before .before .before .enum-told8 .given .1, c .with-clock9 .ensures, ← c .before .before .before .before .before .abort .ensures)
+returns-13 c =
+    let done = c .before .before .before .before .before in
+    let arm = done .before .before .before .before .before in
+    rw (named (arm .before .before), arm .enum-told8 .given .1, c .with-clock9 .ensures, ← done .abort .ensures)
 
 pub step-spec : {M : Type 1} → statement M
 step-spec =
