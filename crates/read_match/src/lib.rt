@@ -1,13 +1,13 @@
 // The matching rule: how a row matches a transaction's key.
-use table_chain::Pointer;
-use table_chain::first_visible;
-use txn::Transaction;
-use table_scans::Found;
-use table_scans::latest_pending;
 use table::head_at;
 use table::key_at;
 use table::keyed_at;
 use table::lists::write_at;
+use table_chain::Pointer;
+use table_chain::first_visible;
+use table_scans::Found;
+use table_scans::latest_pending;
+use txn::Transaction;
 ghost use mathlib.Core.Path.{_≡_};
 ghost use Rattle.read_match.specs.Matching.{look, carries, byVersion, byWrite, matchOf};
 

@@ -1,11 +1,11 @@
 // The read records that a read adds: one for each version whose pointer is not yet recorded.
 use base_limits::MOST_RECORDS;
-use table_scans::active_contains;
-use table_scans::read_already_recorded;
 use table::lists::put_record;
 use table::set_word;
 use table::word;
 use table::xmin_at;
+use table_scans::active_contains;
+use table_scans::read_already_recorded;
 ghost use mathlib.Core.Path.{_≡_};
 ghost use mathlib.Core.Bool.{cond};
 ghost use Prim.Native.Nat.{_+_, _≤_, _<_};

@@ -2,8 +2,8 @@
 use base_limits::LAST_NUMBER;
 use base_limits::MOST_ACTIVE;
 use base_limits::MOST_LIVE;
-use base_protocol::Sizes;
 use base_numbers::sum_within;
+use base_protocol::Sizes;
 use shape_chains::chains_fit;
 use shape_open::good_sizes;
 use shape_txn::counts_fit;

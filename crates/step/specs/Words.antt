@@ -25,7 +25,6 @@ pub record Words : Type 0 where
   pub clock : ℕ
   pub used : ℕ
 
-
 -- the record at a place
 abbrev pub txnAt : Words → ℕ → Transaction
 txnAt w i = getD (w .txns) i (idleOf i)

@@ -2,6 +2,7 @@
 use base_numbers::one_more;
 use base_protocol::Answer;
 use base_protocol::NO_SUCH;
+use base_protocol::Sizes;
 use base_protocol::Step;
 use finish_install::Installed;
 use finish_install::install;
@@ -17,7 +18,6 @@ use txn_places::live_count;
 use txn_places::misses;
 use write_prepare::prepare;
 use write_prepare::validate;
-use base_protocol::Sizes;
 ghost use mathlib.Core.Path.{_≡_};
 ghost use Rattle.step.specs.Steps.{withClock, withBegun, withInstalled, clockAfter, publishStep, stepOf};
 

@@ -57,7 +57,6 @@ clear-same (judged.Bucket b captured present) = refl
 clear-same (judged.Row r p) = refl
 clear-same judged.Mark = refl
 
-
 module _ (w : Words) (z : Sized w) (g : Shaped w) where
   taken-needs : (p : ℕ) → 1 ≤ txnAt w p .number → anyTaken (w .tables .buckets) (txnAt w p .number) (listedNeeds w p) ≡ some-of (byAnother (view w .held .holder) (txnAt w p .number)) (neededBuckets (view w) (view w .txns p))
   taken-needs p l =

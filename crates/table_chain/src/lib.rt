@@ -6,12 +6,12 @@ ghost use lib.ListN.{take};
 ghost use Rattle.table.specs.Fields.{xminOf, xmaxOf};
 ghost use Rattle.table_chain.specs.Chain.{NoneBelow, seenBy, visibleTo, walkFrom, firstVisible};
 use base_limits::MOST_ACTIVE;
-use table_scans::active_contains;
-use table_scans::least_of;
 use table::VERSION_WORDS;
 use table::next_at;
 use table::xmax_at;
 use table::xmin_at;
+use table_scans::active_contains;
+use table_scans::least_of;
 
 // The active numbers are the first active_n of `active`; xmin is the least of them and of the own number.
 pub struct Snapshot {

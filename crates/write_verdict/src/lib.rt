@@ -1,11 +1,6 @@
 // The verdict on a transaction: the mark, the first index read whose bucket changed, the first read record that changed.
-use table_buckets::stamp_precedes_snapshot;
-use table_chain::Snapshot;
 use base_limits::MOST_ACTIVE;
 use base_protocol::Verdict;
-use txn::Transaction;
-use table_scans::Found;
-use table_scans::least_of;
 use table::lists::IndexRead;
 use table::lists::ReadRecord;
 use table::lists::read_at;
@@ -13,6 +8,11 @@ use table::lists::record_at;
 use table::stamp_at;
 use table::xmax_at;
 use table::xmin_at;
+use table_buckets::stamp_precedes_snapshot;
+use table_chain::Snapshot;
+use table_scans::Found;
+use table_scans::least_of;
+use txn::Transaction;
 ghost use mathlib.Core.Path.{_≡_};
 ghost use Rattle.txn.specs.View.{readView};
 ghost use Rattle.model.specs.Verdict.{badRead};
