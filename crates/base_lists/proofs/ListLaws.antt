@@ -144,7 +144,8 @@ least-own n (x ∷ xs) = cond-elim (λ m. least m xs ≤ n) (ltb x n) x n (λ e.
 
 pub least-each : (n : ℕ) (xs : List ℕ) (m : ℕ) → Among m xs → least n xs ≤ m
 unfolding least
-least-each n (x ∷ xs) m (inl d) = cond-elim (λ k. least k xs ≤ m) (ltb x n) x n (λ e. omega (arith, least-own x xs)) (λ e. omega (arith, least-own n xs, ltb-false x n e))
+least-each n (x ∷ xs) m (inl d) =
+    cond-elim (λ k. least k xs ≤ m) (ltb x n) x n (λ e. omega (arith, least-own x xs)) (λ e. omega (arith, least-own n xs, ltb-false x n e))
 least-each n (x ∷ xs) m (inr w) = least-each (cond (ltb x n) x n) xs m w
 
 -- so a number below the least is none of the list's
@@ -192,8 +193,11 @@ pick-same test also k zero h = refl
 pick-same test also k (suc n) h = rw (h k (omega arith) (omega arith), pick-same test also (suc k) n (λ r l u. h r (omega arith) (omega arith)))
 
 -- two picks of the same numbers are one
-pub pick-among : (test also : ℕ → Bool) (k n : ℕ) → ((r : ℕ) → Among r (pick test k n) → Among r (pick also k n)) → ((r : ℕ) → Among r (pick also k n) → Among r (pick test k n)) → pick test k n ≡ pick also k n
-pick-among test also k n f g = pick-same test also k n (λ r l u. same-test _ _ (λ e. pick-which also k n r (f r (which-pick test k n r l u e)) .2) (λ e. pick-which test k n r (g r (which-pick also k n r l u e)) .2))
+pub pick-among : (test also : ℕ → Bool) (k n : ℕ) → ((r : ℕ) → Among r (pick test k n) → Among r (pick also k n))
+    → ((r : ℕ) → Among r (pick also k n) → Among r (pick test k n)) → pick test k n ≡ pick also k n
+pick-among test also k n f g =
+    pick-same test also k n (λ r l u. same-test _ _ (λ e. pick-which also k n r (f r (which-pick test k n r l u e)) .2)
+    (λ e. pick-which test k n r (g r (which-pick also k n r l u e)) .2))
 
 pub pick-none : (test : ℕ → Bool) (k n : ℕ) → ((r : ℕ) → test r ≡ false) → pick test k n ≡ []
 unfolding pick
@@ -203,7 +207,8 @@ pick-none test k (suc n) h = rw (h k) (pick-none test (suc k) n h)
 pub pick-few : (test : ℕ → Bool) (k n : ℕ) → length (pick test k n) ≤ n
 unfolding pick
 pick-few test k zero = omega arith
-pick-few test k (suc n) = let ih = pick-few test (suc k) n in cond-elim (λ l. length l ≤ suc n) (test k) (k ∷ pick test (suc k) n) (pick test (suc k) n) (λ t. omega arith) (λ t. omega arith)
+pick-few test k (suc n) = let ih = pick-few test (suc k) n in
+    cond-elim (λ l. length l ≤ suc n) (test k) (k ∷ pick test (suc k) n) (pick test (suc k) n) (λ t. omega arith) (λ t. omega arith)
 
 -- a test that holds less often picks fewer
 pub pick-fewer : (test also : ℕ → Bool) (k n : ℕ) → ((r : ℕ) → test r ≡ true → also r ≡ true) → length (pick test k n) ≤ length (pick also k n)
@@ -240,7 +245,8 @@ first-free test k zero = λ l. absurd (omega arith)
 first-free test k (suc n) = go (test k) (first-free test (suc k) n)
   where
     go : (t : Bool) → (length (pick (λ i. not (test i)) (suc k) n) < n → first test (suc k) n < suc k + n)
-        → length (cond (not t) (k ∷ pick (λ i. not (test i)) (suc k) n) (pick (λ i. not (test i)) (suc k) n)) < suc n → cond t k (first test (suc k) n) < k + suc n
+        → length (cond (not t) (k ∷ pick (λ i. not (test i)) (suc k) n) (pick (λ i. not (test i)) (suc k) n)) < suc n
+        → cond t k (first test (suc k) n) < k + suc n
     go true ih l = omega arith
     go false ih l = omega (arith, ih (omega arith))
 

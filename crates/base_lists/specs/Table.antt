@@ -44,6 +44,7 @@ cond-elim P true x y p q = p refl
 cond-elim P false x y p q = q refl
 
 -- what holds of v at the entries named, and of the old ones elsewhere, holds of each entry
-pub updateAll-elim : {A : Type 0} (P : A → Type 0) (f : ℕ → A) (is : List ℕ) (v : A) (j : ℕ) → (member j is ≡ true → P v) → (member j is ≡ false → P (f j)) → P (updateAll f is v j)
+pub updateAll-elim : {A : Type 0} (P : A → Type 0) (f : ℕ → A) (is : List ℕ) (v : A) (j : ℕ) → (member j is ≡ true → P v)
+    → (member j is ≡ false → P (f j)) → P (updateAll f is v j)
 unfolding updateAll
 updateAll-elim P f is v j p q = cond-elim P (member j is) v (f j) p q

@@ -28,7 +28,8 @@ use Rattle.call.specs.declared.Called.{Called}
 use Rattle.call.specs.Calls.{Left, left, asker, Swept, sweptFor, callOf, placedOf, cleared}
 
 -- the list lent for the rows of a read is no part of the shape
-pub shape-found : (rows versions buckets lists found : List ℕ) (m : Machine) → shapeOf (wordsOf rows versions buckets lists found m) ≡ shapeOf (wordsOf rows versions buckets lists [] m)
+pub shape-found : (rows versions buckets lists found : List ℕ) (m : Machine)
+    → shapeOf (wordsOf rows versions buckets lists found m) ≡ shapeOf (wordsOf rows versions buckets lists [] m)
 unfolding shapeOf tablesFit
 shape-found rows versions buckets lists found m = refl
 
@@ -39,7 +40,8 @@ module _ (rows versions buckets lists found : List ℕ) (m : Machine) (s : Step)
   unfolding placeFor
   place-same = sym (place ∙ rw (others, asks))
 
-  moved-same : movedBy (wordsOf rows versions buckets lists found m) s ≡ stepOf (m .sizes) o (getD (m .txns) p d) (m .clock) (m .used) s (wordsOf rows versions buckets lists found m .tables)
+  moved-same : movedBy (wordsOf rows versions buckets lists found m) s ≡ stepOf (m .sizes) o (getD (m .txns) p d) (m .clock) (m .used) s
+      (wordsOf rows versions buckets lists found m .tables)
   unfolding movedBy
   moved-same = rw (place-same, others, default-any (m .txns) p (idleOf 0) d (omega arith))
 
@@ -97,6 +99,7 @@ lent-roomy rows versions buckets lists z e =
     }
 
 -- an empty list that was lent comes back empty
-pub lent-none : (r : Called) (rows versions buckets lists found : List ℕ) (x : Left) → length found ≡ 0 → left r rows versions buckets lists found ≡ x → left r rows versions buckets lists [] ≡ x
+pub lent-none : (r : Called) (rows versions buckets lists found : List ℕ) (x : Left) → length found ≡ 0 → left r rows versions buckets lists found ≡ x
+    → left r rows versions buckets lists [] ≡ x
 lent-none r rows versions buckets lists [] x n e = e
 lent-none r rows versions buckets lists (y ∷ found) x n e = absurd (omega arith)

@@ -105,4 +105,9 @@ unfoldable pub openOf : List ℕ → List ℕ → List ℕ → List ℕ → Size
 openOf rows versions buckets lists z clock =
     cond (not (canOpen (sizesView z) clock)) (refusedOpen (refusalNumber WrongSize) rows versions buckets lists)
     (cond (not (tablesLent rows versions buckets lists z)) (refusedOpen (refusalNumber WrongShape) rows versions buckets lists)
-    (record { answer = tell.Done; words = wordsOf (cleared (rowWords * z .rows) rows) (cleared (versionWords * suc (z .versions)) versions) (cleared (bucketWords * z .buckets) buckets) lists [] (freshOf z clock) }))
+    (record {
+      answer = tell.Done;
+      words =
+          wordsOf (cleared (rowWords * z .rows) rows) (cleared (versionWords * suc (z .versions)) versions) (cleared (bucketWords * z .buckets) buckets)
+          lists [] (freshOf z clock);
+    }))

@@ -89,7 +89,8 @@ refused-is (tell.Refused n) d = refl
 -- ---- a call
 
 module _ (w : Words) (c : Call) (any : AnyCall w c) where
-  refuses-words : numberOf (called w c .answer) ≢ 0 → (called w c .words ≡ lending w (c .lent)) ⊎ Marks (lending w (c .lent)) (c .asks) (called w c .words) (numberOf (called w c .answer))
+  refuses-words : numberOf (called w c .answer) ≢ 0
+      → (called w c .words ≡ lending w (c .lent)) ⊎ Marks (lending w (c .lent)) (c .asks) (called w c .words) (numberOf (called w c .answer))
   refuses-words d = refused-words (lending w (c .lent)) (c .asks) (numberOf (called w c .answer)) (refused-is (called w c .answer) d)
 
   refuses-values : numberOf (called w c .answer) ≢ 0 → valuesOf (called w c .answer) (called w c .words .tables .found) ≡ []
@@ -106,8 +107,10 @@ module _ (w : Words) (c : Call) (any : AnyCall w c) where
         let m = exact-answer (view w) (asking c) in
         let n = number-as in
         record {
-          given-when = λ q. let g = m .given-when q in ((λ e. inr ((λ u. true≢false (sym f ∙ u)), g .0 (sym n ∙ e))), (λ s. ⊎-elim (λ u. absurd (true≢false (sym f ∙ u .0))) (λ u. n ∙ g .1 (u .1)) s));
-          done-values = λ e. rw (k .answer, k .found) (told-values (step (view w) (asking c) .answer) (c .lent) ∙ ap answerValues (m .done-answers (sym n ∙ e)));
+          given-when = λ q. let g = m .given-when q in
+              ((λ e. inr ((λ u. true≢false (sym f ∙ u)), g .0 (sym n ∙ e))), (λ s. ⊎-elim (λ u. absurd (true≢false (sym f ∙ u .0))) (λ u. n ∙ g .1 (u .1)) s));
+          done-values = λ e. rw (k .answer, k .found) (told-values (step (view w) (asking c) .answer) (c .lent)
+              ∙ ap answerValues (m .done-answers (sym n ∙ e)));
           done-leaves = λ e. rw (k .store) (m .done-leaves (sym n ∙ e));
           done-lent = λ e. k .found ∙ ap (λ (a : machine.Answer). lentAfter a (c .lent)) (m .done-answers (sym n ∙ e));
           refused-values = refuses-values;
@@ -166,11 +169,19 @@ judges w t v y = by (tablesFit w) refl
 -- what open answers, by its two tests
 module _ (rows versions buckets lists : List ℕ) (words : Words) where
   abbrev tested : Bool → Bool → Left
-  tested a b = cond (not a) (refusedOpen 1 rows versions buckets lists) (cond (not b) (refusedOpen 16 rows versions buckets lists) (record { answer = tell.Done; words = words }))
+  tested a b = cond (not a) (refusedOpen 1 rows versions buckets lists)
+      (cond (not b) (refusedOpen 16 rows versions buckets lists) (record { answer = tell.Done; words = words }))
 
-  tested-given : {Cannot : Type 0} (n : ℕ) (a b : Bool) → (a ≡ false → Cannot) → (Cannot → a ≡ false) → numberOf (tested a b .answer) ≡ n ↔ given 1 Cannot n (given 16 (b ≡ false) n (n ≡ 0))
-  tested-given n true true why shut = ((λ e. inr ((λ s. true≢false (shut s)), inr (true≢false, sym e))), (λ s. ⊎-elim (λ u. absurd (true≢false (shut (u .0)))) (λ u. ⊎-elim (λ x. absurd (true≢false (x .0))) (λ x. sym (x .1)) (u .1)) s))
-  tested-given n true false why shut = ((λ e. inr ((λ s. true≢false (shut s)), inl (refl, sym e))), (λ s. ⊎-elim (λ u. absurd (true≢false (shut (u .0)))) (λ u. ⊎-elim (λ x. sym (x .1)) (λ x. absurd (x .0 refl)) (u .1)) s))
+  tested-given : {Cannot : Type 0} (n : ℕ) (a b : Bool) → (a ≡ false → Cannot) → (Cannot → a ≡ false) → numberOf (tested a b .answer) ≡ n
+      ↔ given 1 Cannot n (given 16 (b ≡ false) n (n ≡ 0))
+  tested-given n true true why shut = (
+    (λ e. inr ((λ s. true≢false (shut s)), inr (true≢false, sym e))),
+    (λ s. ⊎-elim (λ u. absurd (true≢false (shut (u .0)))) (λ u. ⊎-elim (λ x. absurd (true≢false (x .0))) (λ x. sym (x .1)) (u .1)) s),
+  )
+  tested-given n true false why shut = (
+    (λ e. inr ((λ s. true≢false (shut s)), inl (refl, sym e))),
+    (λ s. ⊎-elim (λ u. absurd (true≢false (shut (u .0)))) (λ u. ⊎-elim (λ x. sym (x .1)) (λ x. absurd (x .0 refl)) (u .1)) s),
+  )
   tested-given n false b why shut = ((λ e. inl (why refl, sym e)), (λ s. ⊎-elim (λ u. sym (u .1)) (λ u. absurd (u .0 (why refl))) s))
 
   tested-done : (a b : Bool) → numberOf (tested a b .answer) ≡ 0 → tested a b .answer ≡ tell.Done
@@ -180,7 +191,8 @@ module _ (rows versions buckets lists : List ℕ) (words : Words) where
 
 pub open-done : (o : Opening) → openNumber o ≡ 0 → openOf (o .rows) (o .versions) (o .buckets) (o .lists) (o .sizes) (o .clock) .answer ≡ tell.Done
 unfolding openOf
-open-done o = tested-done (o .rows) (o .versions) (o .buckets) (o .lists) _ (canOpen (sizesView (o .sizes)) (o .clock)) (tablesLent (o .rows) (o .versions) (o .buckets) (o .lists) (o .sizes))
+open-done o = tested-done (o .rows) (o .versions) (o .buckets) (o .lists) _ (canOpen (sizesView (o .sizes)) (o .clock))
+    (tablesLent (o .rows) (o .versions) (o .buckets) (o .lists) (o .sizes))
 
 open-given : (o : Opening) (n : ℕ) → openNumber o ≡ n
     ↔ given 1 (Outside (o .sizes .rows) mostRows ⊎ Outside (o .sizes .versions) mostVersions ⊎ Outside (o .sizes .buckets) mostBuckets ⊎ (o .clock ≡ 0)) n
@@ -188,7 +200,8 @@ open-given : (o : Opening) (n : ℕ) → openNumber o ≡ n
 unfolding openOf
 open-given o n =
     let c = cannot-open (sizesView (o .sizes)) (o .clock) in
-    tested-given (o .rows) (o .versions) (o .buckets) (o .lists) _ n (canOpen (sizesView (o .sizes)) (o .clock)) (tablesLent (o .rows) (o .versions) (o .buckets) (o .lists) (o .sizes)) (c .0) (c .1)
+    tested-given (o .rows) (o .versions) (o .buckets) (o .lists) _ n (canOpen (sizesView (o .sizes)) (o .clock))
+    (tablesLent (o .rows) (o .versions) (o .buckets) (o .lists) (o .sizes)) (c .0) (c .1)
 
 pub opens-exactly : (o : Opening) → ExactOpen o
 opens-exactly o = record {

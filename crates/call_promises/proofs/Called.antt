@@ -45,7 +45,8 @@ use Rattle.step_bridge.proofs.Freeing.{freedAt, clear-all, clear-length}
 use Rattle.step_bridge.proofs.Needing.{row-in}
 use Rattle.step_bridge.proofs.Pushing.{install-same}
 use Rattle.step_bridge.proofs.Aborting.{late-test, freedList, freed-in, freed-buckets, abort-chains, abort-index, ended-at}
-use Rattle.step_bridge.proofs.Publishing.{rowsAfter, bucketsAfter, stamped, stamped-is, freed-is, rows-long, buckets-long, publish-chains, publish-index, holders-freed, claims-freed, clock-below}
+use Rattle.step_bridge.proofs.Publishing.{rowsAfter, bucketsAfter, stamped, stamped-is, freed-is, rows-long, buckets-long, publish-chains, publish-index}
+use Rattle.step_bridge.proofs.Publishing.{holders-freed, claims-freed, clock-below}
 use Rattle.step_bridge.proofs.Writing.{end-same, put-same, erase-same}
 use Rattle.step_bridge.proofs.Judging.{validate-same}
 use Rattle.step_bridge.proofs.Capturing.{capture-same}
@@ -72,15 +73,25 @@ module _ (w : Words) (z : Sized w) (s : Step) where
   asker-unswept : (p : ℕ) (a : Answer) → placeFor (w .txns) s ≡ p → p < mostLive → sweptMoved (w .sizes) (asker w s .number) (unmoved w p a) ≡ unmoved w p a
   asker-unswept p a e l = rw (asker-at p e l) (number-unswept w p a)
 
-  asker-same : (p : ℕ) → placeFor (w .txns) s ≡ p → p < mostLive → (m : Moved) (out : machine.Stepped) → SameAt w p (sweptMoved (w .sizes) (txnAt w p .number) m) out → SameAt w p (sweptMoved (w .sizes) (asker w s .number) m) out
+  asker-same : (p : ℕ) → placeFor (w .txns) s ≡ p → p < mostLive → (m : Moved) (out : machine.Stepped)
+      → SameAt w p (sweptMoved (w .sizes) (txnAt w p .number) m) out → SameAt w p (sweptMoved (w .sizes) (asker w s .number) m) out
   asker-same p e l m out h = subst (λ (t : Transaction). SameAt w p (sweptMoved (w .sizes) (t .number) m) out) (sym (asker-at p e l)) h
 
 -- a record that ends, and the sweep after it: what its buckets and rows were freed of before does not matter
 module _ (w : Words) (z : Sized w) (p : ℕ) (l : p < mostLive) (a : 1 ≤ txnAt w p .number) where
   abbrev ended : List ℕ → List ℕ → Answer → ℕ → Moved
-  ended rows buckets t clock = record { stepped = record { answer = t; txn = idleOf (txnAt w p .slot); clock = clock; used = w .used }; rows = rows; versions = w .tables .versions; buckets = buckets; lists = w .tables .lists; found = w .tables .found }
+  ended rows buckets t clock =
+      record {
+        stepped = record { answer = t; txn = idleOf (txnAt w p .slot); clock = clock; used = w .used };
+        rows = rows;
+        versions = w .tables .versions;
+        buckets = buckets;
+        lists = w .tables .lists;
+        found = w .tables .found;
+      }
 
-  swept-ended : (rows buckets : List ℕ) (t : Answer) (clock : ℕ) → sweptMoved (w .sizes) (txnAt w p .number) (ended rows buckets t clock) ≡ ended (unclaimEvery rows (w .sizes .rows) (txnAt w p .number)) (releaseEvery buckets (w .sizes .buckets) (txnAt w p .number)) t clock
+  swept-ended : (rows buckets : List ℕ) (t : Answer) (clock : ℕ) → sweptMoved (w .sizes) (txnAt w p .number) (ended rows buckets t clock)
+      ≡ ended (unclaimEvery rows (w .sizes .rows) (txnAt w p .number)) (releaseEvery buckets (w .sizes .buckets) (txnAt w p .number)) t clock
   unfolding sweptFor
   swept-ended rows buckets t clock = rw (ne-eqb (txnAt w p .number) 0 (λ q. omega arith))
 
@@ -89,19 +100,24 @@ module _ (w : Words) (z : Sized w) (p : ℕ) (l : p < mostLive) (a : 1 ≤ txnAt
       → indexView (rowsPart (sizesView (w .sizes)) rows) (bucketsPart (sizesView (w .sizes)) buckets) ≡ x
       → freed (heldView (rowsPart (sizesView (w .sizes)) rows) (bucketsPart (sizesView (w .sizes)) buckets)) (txnAt w p .number) ≡ h
       → length rows ≡ length (w .tables .rows) → length buckets ≡ length (w .tables .buckets) → t ≡ told o → w .tables .found ≡ lentAfter o (w .tables .found)
-      → SameAt w p (sweptMoved (w .sizes) (txnAt w p .number) (ended rows buckets t clock)) (gives (record { sizes = view w .sizes; clock = clock′; chains = c; index = x; held = h; txns = update (view w .txns) p model.noTxn }) o)
+      → SameAt w p (sweptMoved (w .sizes) (txnAt w p .number) (ended rows buckets t clock))
+      (gives (record { sizes = view w .sizes; clock = clock′; chains = c; index = x; held = h; txns = update (view w .txns) p model.noTxn }) o)
   swept-at rows buckets t o clock clock′ c x h e₁ e₂ e₃ e₄ r b f g =
       let v = txnAt w p .number in
       rw (swept-ended rows buckets t clock)
-      (ended-at w z p l _ _ t o clock clock′ c x h e₁ (swept-chains (view w .sizes) v a rows buckets _ _ ∙ e₂) (swept-index (view w .sizes) v a rows buckets ∙ e₃) (swept-held (view w .sizes) v a rows buckets (rw r (z .rows)) (rw b (z .buckets)) ∙ e₄)
+      (ended-at w z p l _ _ t o clock clock′ c x h e₁ (swept-chains (view w .sizes) v a rows buckets _ _ ∙ e₂)
+      (swept-index (view w .sizes) v a rows buckets ∙ e₃) (swept-held (view w .sizes) v a rows buckets (rw r (z .rows)) (rw b (z .buckets)) ∙ e₄)
       (swept-rows-long (view w .sizes) v a rows buckets ∙ r) (swept-buckets-long (view w .sizes) v a rows buckets ∙ b) f g)
 
   -- freed in part, and then swept, is freed
-  swept-freed : (rows buckets rs bs : List ℕ) → field 2 1 (part 2 (w .sizes .buckets) buckets) ≡ freedAt (txnAt w p .number) (view w .held .holder) bs → field 4 1 (part 4 (w .sizes .rows) rows) ≡ freedAt (txnAt w p .number) (view w .held .claim) rs
-      → freed (heldView (rowsPart (sizesView (w .sizes)) rows) (bucketsPart (sizesView (w .sizes)) buckets)) (txnAt w p .number) ≡ freed (view w .held) (txnAt w p .number)
+  swept-freed : (rows buckets rs bs : List ℕ) → field 2 1 (part 2 (w .sizes .buckets) buckets) ≡ freedAt (txnAt w p .number) (view w .held .holder) bs
+      → field 4 1 (part 4 (w .sizes .rows) rows) ≡ freedAt (txnAt w p .number) (view w .held .claim) rs
+      → freed (heldView (rowsPart (sizesView (w .sizes)) rows) (bucketsPart (sizesView (w .sizes)) buckets)) (txnAt w p .number)
+      ≡ freed (view w .held) (txnAt w p .number)
   swept-freed rows buckets rs bs e f =
       let v = txnAt w p .number in
-      two-held _ _ _ _ (ap (λ (g : ℕ → ℕ). release v g) e ∙ release-freed v (view w .held .holder) bs) (ap (λ (g : ℕ → ℕ). release v g) f ∙ release-freed v (view w .held .claim) rs)
+      two-held _ _ _ _ (ap (λ (g : ℕ → ℕ). release v g) e ∙ release-freed v (view w .held .holder) bs)
+      (ap (λ (g : ℕ → ℕ). release v g) f ∙ release-freed v (view w .held .claim) rs)
 
 module _ (w : Words) (z : Sized w) (g : Shaped w) (n : ℕ) where
   -- abort
@@ -147,7 +163,11 @@ module _ (w : Words) (z : Sized w) (g : Shaped w) (n : ℕ) where
       (inPublished
       (publishedFrom
       (cond b (record { reply = refusedOf (txnAt w (standing w n)) (refusalNumber WrongPhase); rows = w .tables .rows; buckets = w .tables .buckets })
-      (record { reply = record { answer = tell.Stamp (w .clock); txn = idleOf (txnAt w (standing w n) .slot) }; rows = rowsAfter w (standing w n); buckets = bucketsAfter w (standing w n) }))
+      (record {
+        reply = record { answer = tell.Stamp (w .clock); txn = idleOf (txnAt w (standing w n) .slot) };
+        rows = rowsAfter w (standing w n);
+        buckets = bucketsAfter w (standing w n);
+      }))
       (w .clock) (w .used))
       (w .tables)))
       (carried (view w) (asked (ask.Publish n)) (cond b (some WrongPhase) none))
@@ -155,7 +175,8 @@ module _ (w : Words) (z : Sized w) (g : Shaped w) (n : ℕ) where
   published-at l a true e = rw (number-unswept w (standing w n) (tell.Refused (refusalNumber WrongPhase))) (refused-same w z (standing w n) WrongPhase)
   published-at l a false e =
       let q = standing w n in
-      swept-at w z q l a _ _ (tell.Stamp (w .clock)) (machine.Stamp (w .clock)) (oneMore (w .clock)) (suc (w .clock)) _ _ _ (one-up (w .clock) (clock-below w g q l a)) (publish-chains w z q) (publish-index w z g q a)
+      swept-at w z q l a _ _ (tell.Stamp (w .clock)) (machine.Stamp (w .clock)) (oneMore (w .clock)) (suc (w .clock)) _ _ _
+      (one-up (w .clock) (clock-below w g q l a)) (publish-chains w z q) (publish-index w z g q a)
       (swept-freed w z q l a _ _ _ _ (holders-freed w z g q a) (claims-freed w z g q a)) (rows-long w z q) (buckets-long w z q) refl refl
 
   publish-called : SameAs w (ask.Publish n) (calledBy w (ask.Publish n))

@@ -43,7 +43,8 @@ use Rattle.call_promises.proofs.Called.{call-same}
 module _ (w : Words) where
   rows-cut : (n room : ℕ) → movedBy w (ask.Rows n (min room (length (w .tables .found)))) ≡ movedBy w (ask.Rows n room)
   unfolding movedBy placeFor stepOf missesOf rowsOf readingOf
-  rows-cut n room = let e : roomFor (min room (length (w .tables .found))) (length (w .tables .found)) ≡ roomFor room (length (w .tables .found)) = omega arith in rw e
+  rows-cut n room = let e : roomFor (min room (length (w .tables .found))) (length (w .tables .found)) ≡ roomFor room (length (w .tables .found)) =
+      omega arith in rw e
 
   room-cut : (s : Step) → callOf w (roomWithin (length (w .tables .found)) s) ≡ callOf w s
   unfolding callOf placeFor
@@ -226,7 +227,8 @@ module _ (w : Words) (c : Call) where
       left false e = rw (called-wrong e) (record { eight = t .eight; seven = t .seven })
       left true e =
           let both = sym (shape-is w) ∙ e in
-          sized-typed (called w c .words) (right-sized (fit-sized w t (and-l (tablesFit w) (rightShape (view w)) both)) (and-r (tablesFit w) (rightShape (view w)) both))
+          sized-typed (called w c .words)
+          (right-sized (fit-sized w t (and-l (tablesFit w) (rightShape (view w)) both)) (and-r (tablesFit w) (rightShape (view w)) both))
 
 -- ---- any sequence of calls, from words that stand for a reached store
 
@@ -238,7 +240,10 @@ called-as w h c = right-as w c (h .sized) (right-shape (view w) (h .good))
 
 pub called-stands : (w : Words) → Stands w → (c : Call) → Stands (called w c .words)
 unfolding run
-called-stands w h c = record { sized = right-sized w c (h .sized) (right-shape (view w) (h .good)); good = subst (λ (v : Store). Good v) (sym (called-as w h c .store)) (good-run (view w) (h .good) (asking c ∷ [])) }
+called-stands w h c = record {
+  sized = right-sized w c (h .sized) (right-shape (view w) (h .good));
+  good = subst (λ (v : Store). Good v) (sym (called-as w h c .store)) (good-run (view w) (h .good) (asking c ∷ []));
+}
 
 pub calls-stand : (w : Words) → Stands w → (cs : List Call) → Stands (calls w cs)
 unfolding calls

@@ -17,7 +17,8 @@ use Rattle.base_protocol.specs.View.{sizesView}
 use Rattle.report_answers.specs.Answers.{numberOf}
 use Rattle.step.specs.Words.{Words, view}
 use Rattle.call_promises.specs.Calls.{Call, called, Typed, AnyCall}
-use Rattle.call_promises.specs.Demands.{ExactCall, Opening, openNumber, ExactOpen, after, storeAfter, Follows, reading, validating, preparing, MarkedCalls, JudgedCall, ReadCall}
+use Rattle.call_promises.specs.Demands.{ExactCall, Opening, openNumber, ExactOpen, after, storeAfter, Follows, reading, validating, preparing}
+use Rattle.call_promises.specs.Demands.{MarkedCalls, JudgedCall, ReadCall}
 use Rattle.call_promises.specs.InTurn.{CallsInTurn}
 use Rattle.call_promises.proofs.Calls.{any-call}
 use Rattle.call_promises.proofs.Answered.{exactly, judges, opens-exactly}
@@ -48,31 +49,39 @@ pub calls-xmin : (o : Opening) → openNumber o ≡ 0 → (cs : List Call) → L
 calls-xmin = least-xmins
 
 -- The claim keeps the head: install and publish see what an accepted prepare saw.
-pub calls-heads : (o : Opening) → openNumber o ≡ 0 → (cs : List Call) (t : ℕ) (more : List Call) → numberOf (called (after o cs) (preparing t) .answer) ≡ 0 → Lives (storeAfter o (cs ++ (preparing t ∷ more))) t
+pub calls-heads : (o : Opening) → openNumber o ≡ 0 → (cs : List Call) (t : ℕ) (more : List Call)
+    → numberOf (called (after o cs) (preparing t) .answer) ≡ 0 → Lives (storeAfter o (cs ++ (preparing t ∷ more))) t
     → HeadKept (storeAfter o cs) (storeAfter o (cs ++ (preparing t ∷ more))) t
 calls-heads = heads
 
--- An erase of nothing costs nothing: where every pending row erases nothing at prepare, install and publish leave every version, head, stamp and posting as they were.
-pub calls-nothing : (o : Opening) → openNumber o ≡ 0 → (cs : List Call) (t : ℕ) (more : List Call) → numberOf (called (after o cs) (preparing t) .answer) ≡ 0 → Lives (storeAfter o (cs ++ (preparing t ∷ more))) t
-    → ((r : ℕ) → Writes (storeAfter o cs .sizes) (txnOf (storeAfter o cs) t) r → ErasesNothing (storeAfter o cs .chains) (txnOf (storeAfter o cs) t) r) → CostsNothing (storeAfter o (cs ++ (preparing t ∷ more))) t
+-- An erase of nothing costs nothing: where every pending row erases nothing at prepare, install and publish leave every version, head, stamp and posting as
+-- they were.
+pub calls-nothing : (o : Opening) → openNumber o ≡ 0 → (cs : List Call) (t : ℕ) (more : List Call)
+    → numberOf (called (after o cs) (preparing t) .answer) ≡ 0 → Lives (storeAfter o (cs ++ (preparing t ∷ more))) t
+    → ((r : ℕ) → Writes (storeAfter o cs .sizes) (txnOf (storeAfter o cs) t) r → ErasesNothing (storeAfter o cs .chains) (txnOf (storeAfter o cs) t) r)
+    → CostsNothing (storeAfter o (cs ++ (preparing t ∷ more))) t
 calls-nothing = costless
 
 -- Every marked transaction is Open, so no call of rows meets one; and no more work is done in it, until it is aborted.
 pub calls-marked : (o : Opening) → openNumber o ≡ 0 → (cs : List Call) → MarkedOpen (view (after o cs))
 calls-marked = marked-open
 
-pub marked-calls : (o : Opening) → openNumber o ≡ 0 → (cs : List Call) (t : ℕ) → Lives (storeAfter o cs) t → txnOf (storeAfter o cs) t .marked ≡ true → MarkedCalls o cs t
+pub marked-calls : (o : Opening) → openNumber o ≡ 0 → (cs : List Call) (t : ℕ) → Lives (storeAfter o cs) t → txnOf (storeAfter o cs) t .marked ≡ true
+    → MarkedCalls o cs t
 marked-calls = stops
 
 -- DEMAND 2, the read: rows that a call answers are a finished read, at the front of its list.
-pub read-call : (o : Opening) → openNumber o ≡ 0 → (cs : List Call) (t : ℕ) (lent : List ℕ) (n : ℕ) → called (after o cs) (reading t lent) .answer ≡ tell.Rows n → ReadCall o cs t lent n
+pub read-call : (o : Opening) → openNumber o ≡ 0 → (cs : List Call) (t : ℕ) (lent : List ℕ) (n : ℕ)
+    → called (after o cs) (reading t lent) .answer ≡ tell.Rows n → ReadCall o cs t lent n
 read-call = reads
 
 -- DEMAND 3: the rows of such a read of a key, by a transaction with no pending write, stand where a later call of validate answers that there is no conflict.
-pub validated-call : (o : Opening) (e : openNumber o ≡ 0) (cs : List Call) (t k : ℕ) (lent : List ℕ) (n : ℕ) (q : called (after o cs) (reading t lent) .answer ≡ tell.Rows n) (between : List Call)
+pub validated-call : (o : Opening) (e : openNumber o ≡ 0) (cs : List Call) (t k : ℕ) (lent : List ℕ) (n : ℕ)
+    (q : called (after o cs) (reading t lent) .answer ≡ tell.Rows n) (between : List Call)
     → txnOf (storeAfter o cs) t .phase ≡ Collected k → txnOf (storeAfter o cs) t .writes ≡ []
     → called (after o (cs ++ (reading t lent ∷ between))) (validating t) .answer ≡ tell.Judged verdict.Clear
-    → StandingRead (sizesView (o .sizes)) (storeAfter o cs) (step (storeAfter o (cs ++ (reading t lent ∷ between))) (validate t) .store) t k (read-call o e cs t lent n q .found)
+    → StandingRead (sizesView (o .sizes)) (storeAfter o cs) (step (storeAfter o (cs ++ (reading t lent ∷ between))) (validate t) .store) t k
+    (read-call o e cs t lent n q .found)
 unfolding read-call
 validated-call = stands
 

@@ -59,7 +59,8 @@ publish-asked (t ∷ ts) = ap (λ l. publish t ∷ l) (publish-asked ts)
 -- ---- an accepted call is the model's accepted step
 
 -- the rows at the front of the list are the ones of the model's answer
-front-told : (a : machine.Answer) (lent : List ℕ) (s : Store) (t : ℕ) → map (λ r. (r, shownTo (s .chains) (txnOf s t) r)) (front (told a) (lentAfter a lent)) ≡ returned s t a
+front-told : (a : machine.Answer) (lent : List ℕ) (s : Store) (t : ℕ)
+    → map (λ r. (r, shownTo (s .chains) (txnOf s t) r)) (front (told a) (lentAfter a lent)) ≡ returned s t a
 front-told machine.Done lent s t = refl
 front-told (machine.Number n) lent s t = refl
 front-told (machine.Stamp n) lent s t = refl
@@ -81,14 +82,16 @@ module _ (w : Words) (h : Stands w) (c : Call) where
 
   entry-told : toldEntry w c ≡ entryOf (view w) (asking c)
   entry-told =
-      let read = ap (map (λ r. (r, shownTo (view w .chains) (txnOf (view w) (actor (asking c))) r))) handed-told ∙ front-told (step (view w) (asking c) .answer) (c .lent) (view w) (actor (asking c)) in
+      let read = ap (map (λ r. (r, shownTo (view w .chains) (txnOf (view w) (actor (asking c))) r))) handed-told
+      ∙ front-told (step (view w) (asking c) .answer) (c .lent) (view w) (actor (asking c)) in
       ap (λ (l : List (ℕ × Content)). record { who = whose (view w) (asking c); what = asking c; read = l }) read
 
 done-told : (w : Words) → Stands w → (cs : List Call) → callsDone w cs ≡ entries (view w) (stepsOf cs)
 unfolding callsDone entries
 done-told w h [] = refl
 done-told w h (c ∷ cs) =
-    goes-on _ _ _ _ _ _ (number-told w h c) (entry-told w h c) (done-told (called w c .words) (called-stands w h c) cs ∙ ap (λ (v : Store). entries v (stepsOf cs)) (called-as w h c .store))
+    goes-on _ _ _ _ _ _ (number-told w h c) (entry-told w h c) (done-told (called w c .words) (called-stands w h c) cs
+    ∙ ap (λ (v : Store). entries v (stepsOf cs)) (called-as w h c .store))
 
 -- ---- after an accepted open
 
@@ -114,7 +117,8 @@ module _ (o : Opening) (e : openNumber o ≡ 0) where
   turn-store cs = follows o e (turnCalls o cs) .stands-for ∙ ap (run start) (turn-asked cs)
 
   published-store : (cs : List Call) (ts : List ℕ) → view (after o (cs ++ publishing ts)) ≡ run start (stepsOf cs ++ map publish ts)
-  published-store cs ts = follows o e (cs ++ publishing ts) .stands-for ∙ ap (run start) (map-append asking cs (publishing ts) ∙ ap (λ l. stepsOf cs ++ l) (publish-asked ts))
+  published-store cs ts = follows o e (cs ++ publishing ts) .stands-for
+      ∙ ap (run start) (map-append asking cs (publishing ts) ∙ ap (λ l. stepsOf cs ++ l) (publish-asked ts))
 
   pub turns : (cs : List Call) → CallsInTurn o cs
   turns cs =
@@ -122,5 +126,6 @@ module _ (o : Opening) (e : openNumber o ≡ 0) where
       record {
         same-reads = done-after (turnCalls o cs) ∙ (ap (entries start) (turn-asked cs) ∙ (m .same-reads ∙ sym (turn-after cs)));
         none-live = λ i l. ap (λ (s : Store). s .txns i .number) (turn-store cs) ∙ m .none-live i;
-        same-rows = λ published r l. ap (λ (s : Store). liveRow s r) (turn-store cs) ∙ (m .same-rows published r l ∙ sym (ap (λ (s : Store). liveRow s r) (published-store cs published)));
+        same-rows = λ published r l. ap (λ (s : Store). liveRow s r) (turn-store cs)
+            ∙ (m .same-rows published r l ∙ sym (ap (λ (s : Store). liveRow s r) (published-store cs published)));
       }

@@ -37,10 +37,12 @@ cleared-long n xs = omega (arith, length-append (replicate n 0) (drop n xs), len
 module _ (rows versions buckets lists : List ℕ) (z : Sizes) (clock : ℕ) (l : clock ≤ lastNumber) where
   -- the words of a fresh machine over cleared tables
   abbrev pub freshWords : Words
-  freshWords = wordsOf (cleared (rowWords * z .rows) rows) (cleared (versionWords * suc (z .versions)) versions) (cleared (bucketWords * z .buckets) buckets) lists [] (freshOf z clock)
+  freshWords = wordsOf (cleared (rowWords * z .rows) rows) (cleared (versionWords * suc (z .versions)) versions)
+      (cleared (bucketWords * z .buckets) buckets) lists [] (freshOf z clock)
 
   done-by : (a b : Bool)
-      → cond (not a) (refusedOpen 1 rows versions buckets lists) (cond (not b) (refusedOpen 16 rows versions buckets lists) (record { answer = tell.Done; words = freshWords })) .answer ≡ tell.Done
+      → cond (not a) (refusedOpen 1 rows versions buckets lists)
+      (cond (not b) (refusedOpen 16 rows versions buckets lists) (record { answer = tell.Done; words = freshWords })) .answer ≡ tell.Done
       → (a ≡ true) × (b ≡ true)
   done-by true true e = (refl, refl)
   done-by true false e = let q : _≡_ {A = ℕ} 0 1 = cc in absurd (omega arith)

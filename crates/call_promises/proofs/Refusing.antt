@@ -1,4 +1,5 @@
--- Each refusal leaves state and lent list as found, except that a stale stamp marks its transaction: every lent word, also past a size and in free slots, and the machine.
+-- Each refusal leaves state and lent list as found, except that a stale stamp marks its transaction: every lent word, also past a size and in free slots, and
+-- the machine.
 -- Assumes nothing.
 use Prim.Native.Nat.{ℕ, _+_, _%_, _<_}
 use mathlib.Core.Path.{_≡_, refl, sym, ap, subst, _∙_}
@@ -152,23 +153,27 @@ module _ (z : Sizes) (t : Transaction) (clock used : ℕ) (b : Tables) where
   unfolding beginOf
   begin-kept o =
       guard (not (eqb (t .number) 0)) (λ e. rw e (inl refl))
-      (λ e. let free = eqb-true (t .number) 0 (not-false (eqb (t .number) 0) e) in rw e (guard (spent clock (liveIn (o .numbers))) (λ e. rw e (inl refl)) (λ e. rw e free)))
+      (λ e. let free = eqb-true (t .number) 0 (not-false (eqb (t .number) 0) e) in
+      rw e (guard (spent clock (liveIn (o .numbers))) (λ e. rw e (inl refl)) (λ e. rw e free)))
 
-  capture-kept : (i k : ℕ) → i ≡ k % z .buckets → t .number ≢ 0 → KeptBy (ask.Capture (t .number) k) (inBuckets (captureAt t i k (b .buckets) (b .lists)) clock used b)
+  capture-kept : (i k : ℕ) → i ≡ k % z .buckets → t .number ≢ 0
+      → KeptBy (ask.Capture (t .number) k) (inBuckets (captureAt t i k (b .buckets) (b .lists)) clock used b)
   unfolding captureAt
   capture-kept i k d l =
       guard (wrongPhase t phaseOpen) (λ e. rw e (inl refl))
       (λ e. rw e (guard (t .marked) (λ m. rw m (inl refl))
       (λ m. rw m (guard (takenBy (holderOf (b .buckets) i) (t .number)) (λ e. rw e (inl refl))
       (λ e. rw e (guard (precedes (stampOf (b .buckets) i) (t .number))
-      (λ p. rw p (guard (tooMany (readPrefix (b .lists) (t .slot) (t .«reads_n») i) (t .«reads_n»)) (λ e. rw e (inl refl)) (λ e. rw e (hold-number _ (readPrefix (b .lists) (t .slot) (t .«reads_n») i) i k (stampOf (b .buckets) i) (b .lists)))))
+      (λ p. rw p (guard (tooMany (readPrefix (b .lists) (t .slot) (t .«reads_n») i) (t .«reads_n»)) (λ e. rw e (inl refl))
+      (λ e. rw e (hold-number _ (readPrefix (b .lists) (t .slot) (t .«reads_n») i) i k (stampOf (b .buckets) i) (b .lists)))))
       (λ p. rw p (inr (record { key = k; captures = refl; live = l; refusal = refl; unmarked = refl; stale = rw d at p; moved = refl })))))))))
 
   collect-kept : (o : Others) (n : ℕ) → KeptBy (ask.Collect n) (doneBy z o t clock used (ask.Collect n) b)
   unfolding collectOf
   collect-kept o n = guard (wrongPhase t phaseHolding) (λ e. rw e (inl refl)) (λ e. rw e refl)
 
-  write-kept : (s : Step) (w : Write) → Kept s (writeOf (z .rows) t w (b .lists) .reply .txn .number ≡ t .number) (inLists (writeOf (z .rows) t w (b .lists)) clock used b)
+  write-kept : (s : Step) (w : Write)
+      → Kept s (writeOf (z .rows) t w (b .lists) .reply .txn .number ≡ t .number) (inLists (writeOf (z .rows) t w (b .lists)) clock used b)
   unfolding writeOf
   write-kept s w =
       guard (wrongPhase t phaseOpen) (λ e. rw e (inl refl))
@@ -201,13 +206,18 @@ module _ (z : Sizes) (t : Transaction) (clock used : ℕ) (b : Tables) where
   unfolding prepareOf prepareWith
   prepare-kept o n =
       guard (wrongPhase t phaseOpen) (λ e. rw e (inl refl))
-      (λ e. rw e (guard (anyTaken (b .buckets) (t .number) (front (neededInto (b .rows) (b .versions) (b .lists) (z .buckets) (t .slot) (t .«reads_n») (t .«writes_n») (replicate mostNeeded 0)))) (λ e. rw e (inl refl))
+      (λ e. rw e (guard (anyTaken (b .buckets) (t .number)
+      (front (neededInto (b .rows) (b .versions) (b .lists) (z .buckets) (t .slot) (t .«reads_n») (t .«writes_n») (replicate mostNeeded 0))))
+      (λ e. rw e (inl refl))
       (λ e. rw e (guard (anyClaimed (b .rows) (t .number) (rowsWritten (b .lists) (t .slot) (t .«writes_n»))) (λ e. rw e (inl refl))
       (λ e. rw e (guard (isClear (verdictOf (b .versions) (b .buckets) (b .lists) t))
-      (λ e. rw e (guard (lacks (b .rows) (b .versions) (b .lists) (o .prepared) (t .slot) (t .«writes_n») used (z .versions)) (λ e. rw e (inl refl)) (λ e. rw e refl)))
+      (λ e. rw e (guard (lacks (b .rows) (b .versions) (b .lists) (o .prepared) (t .slot) (t .«writes_n») used (z .versions)) (λ e. rw e (inl refl))
+      (λ e. rw e refl)))
       (λ e. rw e (inl refl))))))))
 
-  answer-kept : (s : Step) (room : ℕ) (rs : List ℕ) (new : List ReadRecord) → Kept s (answerOf (b .lists) (b .found) t room rs new .reply .txn .number ≡ t .number) (inFound (answerOf (b .lists) (b .found) t room rs new) clock used b)
+  answer-kept : (s : Step) (room : ℕ) (rs : List ℕ) (new : List ReadRecord)
+      → Kept s (answerOf (b .lists) (b .found) t room rs new .reply .txn .number ≡ t .number)
+      (inFound (answerOf (b .lists) (b .found) t room rs new) clock used b)
   answer-kept s room rs new =
       guard (ltb (roomFor room (length (b .found))) (length rs)) (λ e. rw e (inl refl))
       (λ e. rw e (guard (ltb mostRecords (t .«records_n» + length new)) (λ e. rw e (inl refl)) (λ e. rw e refl)))
@@ -217,7 +227,8 @@ module _ (z : Sizes) (t : Transaction) (clock used : ℕ) (b : Tables) where
   rows-kept o n room =
       let l = look (b .rows) (b .versions) (b .lists) used t (keyIn (phaseView (t .phase))) in
       guard (wrongPhase t phaseCollected) (λ e. rw e (inl refl))
-      (λ e. rw e (answer-kept (ask.Rows n room) room (matchedRows l (z .rows)) (newRecords l (knownPointers (b .lists) (t .slot) (t .«records_n»)) (matchedRows l (z .rows)))))
+      (λ e. rw e (answer-kept (ask.Rows n room) room (matchedRows l (z .rows))
+      (newRecords l (knownPointers (b .lists) (t .slot) (t .«records_n»)) (matchedRows l (z .rows)))))
 
   -- the record that came in is the one that the step names
   done-kept : (o : Others) (s : Step) → missesOf (t .number) s ≡ false → KeptBy s (doneBy z o t clock used s b)
@@ -225,7 +236,8 @@ module _ (z : Sizes) (t : Transaction) (clock used : ℕ) (b : Tables) where
   done-kept o ask.Begin h = begin-kept o
   done-kept o (ask.Capture n k) h =
       let d : t .number ≡ n = eqb-true (t .number) n (not-false (eqb (t .number) n) (or-r (eqb n 0) (not (eqb (t .number) n)) h)) in
-      subst (λ (m : ℕ). KeptBy (ask.Capture m k) (doneBy z o t clock used (ask.Capture m k) b)) d (capture-kept (k % z .buckets) k refl (λ q. eqb-false n 0 (or-l (eqb n 0) (not (eqb (t .number) n)) h) (sym d ∙ q)))
+      subst (λ (m : ℕ). KeptBy (ask.Capture m k) (doneBy z o t clock used (ask.Capture m k) b)) d
+      (capture-kept (k % z .buckets) k refl (λ q. eqb-false n 0 (or-l (eqb n 0) (not (eqb (t .number) n)) h) (sym d ∙ q)))
   done-kept o (ask.Collect n) h = collect-kept o n
   done-kept o (ask.Rows n room) h = rows-kept o n room
   done-kept o (ask.Put n r k payload) h = write-kept (ask.Put n r k payload) (record { row = r; keyed = 1; key = k; payload = payload })
@@ -242,7 +254,8 @@ module _ (z : Sizes) (t : Transaction) (clock used : ℕ) (b : Tables) where
   step-kept o s = guard (missesOf (t .number) s) (λ e. rw e (inl refl)) (λ e. rw e (done-kept o s e))
 
   step-refused : (o : Others) (s : Step) (n : ℕ) → stepOf z o t clock used s b .stepped .answer ≡ tell.Refused n → Refuses s n (stepOf z o t clock used s b)
-  step-refused o s n e = subst (λ (a : Answer). Outcome a (λ n. Refuses s n (stepOf z o t clock used s b)) (Stays s (stepOf z o t clock used s b))) e (step-kept o s)
+  step-refused o s n e = subst (λ (a : Answer). Outcome a (λ n. Refuses s n (stepOf z o t clock used s b)) (Stays s (stepOf z o t clock used s b))) e
+      (step-kept o s)
 
   -- a refused step ends no record, and neither does any but publish and abort
   refused-stays : (s : Step) (n : ℕ) (m : Moved) → Refuses s n m → hasEnded (t .number) (m .stepped .txn .number) ≡ false
@@ -288,18 +301,33 @@ module _ (w : Words) (s : Step) (n : ℕ) where
 
   -- past the last record there is none
   live-there : asker w s .number ≢ 0 → placeFor (w .txns) s < length (w .txns)
-  live-there d = elim (decLt (placeFor (w .txns) s) (length (w .txns))) [ yes l ↦ l | no l ↦ absurd (d (ap (λ (t : Transaction). t .number) (List·getD-eq-default (w .txns) (idleOf 0) {n = placeFor (w .txns) s} (omega (arith, l))))) ]
+  live-there d = elim (decLt (placeFor (w .txns) s) (length (w .txns))) [
+    | yes l ↦ l
+    | no l ↦ absurd
+        (d (ap (λ (t : Transaction). t .number) (List·getD-eq-default (w .txns) (idleOf 0) {n = placeFor (w .txns) s} (omega (arith, l)))))
+  ]
 
   called-refused : movedBy w s .stepped .answer ≡ tell.Refused n → calledBy w s ≡ movedBy w s
   unfolding movedBy
-  called-refused e = unswept w s (refused-stays (w .sizes) (asker w s) (w .clock) (w .used) (w .tables) s n _ (step-refused (w .sizes) (asker w s) (w .clock) (w .used) (w .tables) (othersIn (w .txns)) s n e))
+  called-refused e = unswept w s
+      (refused-stays (w .sizes) (asker w s) (w .clock) (w .used) (w .tables) s n _
+      (step-refused (w .sizes) (asker w s) (w .clock) (w .used) (w .tables) (othersIn (w .txns)) s n e))
 
   moved-words : movedBy w s .stepped .answer ≡ tell.Refused n → (wordsAfter w s ≡ w) ⊎ Marks w s (wordsAfter w s) n
   unfolding movedBy
   moved-words e =
       ⊎-elim
       (λ q. inl (ap placed q ∙ rw (set-getD (w .txns) (placeFor (w .txns) s) (idleOf 0))))
-      (λ c. inr (record { key = c .key; captures = c .captures; live = c .live; there = live-there (c .live); refusal = c .refusal; unmarked = c .unmarked; stale = ltb-false _ _ (c .stale); marks = ap placed (c .moved) }))
+      (λ c. inr (record {
+        key = c .key;
+        captures = c .captures;
+        live = c .live;
+        there = live-there (c .live);
+        refusal = c .refusal;
+        unmarked = c .unmarked;
+        stale = ltb-false _ _ (c .stale);
+        marks = ap placed (c .moved);
+      }))
       (step-refused (w .sizes) (asker w s) (w .clock) (w .used) (w .tables) (othersIn (w .txns)) s n e)
 
   called-words : movedBy w s .stepped .answer ≡ tell.Refused n → (wordsCalled w s ≡ w) ⊎ Marks w s (wordsCalled w s) n
@@ -316,5 +344,6 @@ pub refused-open : (rows versions buckets lists : List ℕ) (z : Sizes) (clock n
 unfolding openOf
 refused-open rows versions buckets lists z clock n =
     guard (canOpen (sizesView z) clock)
-    (λ e. rw e (guard (tablesLent rows versions buckets lists z) (λ e. rw e (λ q. let c : _≡_ {A = ℕ} 0 1 = cc in absurd (omega arith))) (λ e. rw e (λ q. refl))))
+    (λ e. rw e (guard (tablesLent rows versions buckets lists z) (λ e. rw e (λ q. let c : _≡_ {A = ℕ} 0 1 = cc in absurd (omega arith)))
+    (λ e. rw e (λ q. refl))))
     (λ e. rw e (λ q. refl))

@@ -1,4 +1,6 @@
--- An open and calls that meet the premises of the page of statements: a read that finds a row, another transaction that publishes meanwhile, a clear verdict; a prepare of erases of something and of nothing, and one of nothing alone; a capture that finds a stale stamp; and a transaction that reads before another publishes, and comes to end after it. Assumes nothing.
+-- An open and calls that meet the premises of the page of statements: a read that finds a row, another transaction that publishes meanwhile, a clear verdict; a
+-- prepare of erases of something and of nothing, and one of nothing alone; a capture that finds a stale stamp; and a transaction that reads before another
+-- publishes, and comes to end after it. Assumes nothing.
 use Prim.Native.Nat.{ℕ}
 use mathlib.Core.Path.{_≡_, refl, ap, _∙_}
 use mathlib.Core.Bool.{true}
@@ -70,9 +72,11 @@ pub validated : called (after o (before ++ (reading 3 list ∷ between))) (valid
 unfolding run
 validated = answer-after o opens (before ++ (reading 3 list ∷ between)) (validating 3) ∙ ap told (reached.met .4)
 
--- transaction 3 erases the empty rows 0 and 1, this one after a put, and row 2, which is live; once it is prepared another is installed, and then it is itself: the premises of calls-heads
+-- transaction 3 erases the empty rows 0 and 1, this one after a put, and row 2, which is live; once it is prepared another is installed, and then it is itself:
+-- the premises of calls-heads
 abbrev pub erasing : List Call
-erasing = without (ask.Begin ∷ ask.Put 1 2 6 10 ∷ ask.Prepare 1 ∷ ask.Install 1 ∷ ask.End 1 ∷ ask.Publish 1 ∷ ask.Begin ∷ ask.Erase 3 0 ∷ ask.Put 3 1 5 8 ∷ ask.Erase 3 1 ∷ ask.Erase 3 2 ∷ [])
+erasing = without (ask.Begin ∷ ask.Put 1 2 6 10 ∷ ask.Prepare 1 ∷ ask.Install 1 ∷ ask.End 1 ∷ ask.Publish 1 ∷ ask.Begin ∷ ask.Erase 3 0 ∷ ask.Put 3 1 5 8
+    ∷ ask.Erase 3 1 ∷ ask.Erase 3 2 ∷ [])
 
 abbrev pub meanwhile : List Call
 meanwhile = without (ask.Begin ∷ ask.Put 4 3 3 7 ∷ ask.Prepare 4 ∷ ask.Install 4 ∷ ask.Install 3 ∷ [])
@@ -85,14 +89,17 @@ claimed = (number-after o opens erasing (preparing 3) ∙ reached.met-heads .0, 
 abbrev pub emptying : List Call
 emptying = without (ask.Begin ∷ ask.Erase 1 0 ∷ ask.Put 1 1 5 8 ∷ ask.Erase 1 1 ∷ [])
 
-pub emptied : (numberOf (called (after o emptying) (preparing 1) .answer) ≡ 0) × Lives (storeAfter o (emptying ++ (preparing 1 ∷ without (ask.Install 1 ∷ ask.End 1 ∷ [])))) 1
-    × ((r : ℕ) → Writes (storeAfter o emptying .sizes) (txnOf (storeAfter o emptying) 1) r → ErasesNothing (storeAfter o emptying .chains) (txnOf (storeAfter o emptying) 1) r)
+pub emptied : (numberOf (called (after o emptying) (preparing 1) .answer) ≡ 0)
+    × Lives (storeAfter o (emptying ++ (preparing 1 ∷ without (ask.Install 1 ∷ ask.End 1 ∷ [])))) 1
+    × ((r : ℕ) → Writes (storeAfter o emptying .sizes) (txnOf (storeAfter o emptying) 1) r
+    → ErasesNothing (storeAfter o emptying .chains) (txnOf (storeAfter o emptying) 1) r)
 unfolding run
 emptied = (number-after o opens emptying (preparing 1) ∙ reached.met-nothing .0, reached.met-nothing .1, reached.met-nothing .2)
 
 -- the calls after which transaction 3 is marked: the premises of marked-calls
 abbrev pub stale : List Call
-stale = without (ask.Begin ∷ ask.Put 1 2 6 10 ∷ ask.Prepare 1 ∷ ask.Install 1 ∷ ask.End 1 ∷ ask.Publish 1 ∷ ask.Begin ∷ ask.Begin ∷ ask.Put 4 0 2 7 ∷ ask.Prepare 4 ∷ ask.Install 4 ∷ ask.End 4 ∷ ask.Publish 4 ∷ ask.Capture 3 6 ∷ [])
+stale = without (ask.Begin ∷ ask.Put 1 2 6 10 ∷ ask.Prepare 1 ∷ ask.Install 1 ∷ ask.End 1 ∷ ask.Publish 1 ∷ ask.Begin ∷ ask.Begin ∷ ask.Put 4 0 2 7
+    ∷ ask.Prepare 4 ∷ ask.Install 4 ∷ ask.End 4 ∷ ask.Publish 4 ∷ ask.Capture 3 6 ∷ [])
 
 pub marked : Lives (storeAfter o stale) 3 × (txnOf (storeAfter o stale) 3 .marked ≡ true)
 unfolding run
@@ -104,9 +111,15 @@ ending = before ++ (reading 3 list ∷ (between ++ without (ask.Put 3 1 5 8 ∷ 
 
 -- their call: 1, then 4 as number 3, and then 3 as number 5
 abbrev pub call : List Asked
-call = begin ∷ put 1 2 6 10 ∷ prepare 1 ∷ install 1 ∷ end 1 ∷ publish 1 ∷ begin ∷ put 3 0 3 7 ∷ prepare 3 ∷ install 3 ∷ end 3 ∷ publish 3 ∷ begin ∷ capture 5 6 ∷ collect 5 ∷ rows 5 4 ∷ put 5 1 5 8 ∷ prepare 5 ∷ install 5 ∷ end 5 ∷ publish 5 ∷ []
+call = begin ∷ put 1 2 6 10 ∷ prepare 1 ∷ install 1 ∷ end 1 ∷ publish 1 ∷ begin ∷ put 3 0 3 7 ∷ prepare 3 ∷ install 3 ∷ end 3 ∷ publish 3 ∷ begin
+    ∷ capture 5 6 ∷ collect 5 ∷ rows 5 4 ∷ put 5 1 5 8 ∷ prepare 5 ∷ install 5 ∷ end 5 ∷ publish 5 ∷ []
 
 -- what calls-in-turn speaks of there: its read, the sixteenth, is to hand over row 2 with key 6 and payload 10
-pub taking-turns : (endOrder (callsDone (opened o) ending) ≡ 1 ∷ 4 ∷ 3 ∷ []) × (stepsIn (callsOneByOne o ending) ≡ call) × (take 1 (drop 15 (callsOneByOne o ending)) ≡ record { who = 5; what = rows 5 4; read = (2, some (6, 10)) ∷ [] } ∷ [])
+pub taking-turns : (endOrder (callsDone (opened o) ending) ≡ 1 ∷ 4 ∷ 3 ∷ []) × (stepsIn (callsOneByOne o ending) ≡ call)
+    × (take 1 (drop 15 (callsOneByOne o ending)) ≡ record { who = 5; what = rows 5 4; read = (2, some (6, 10)) ∷ [] } ∷ [])
 unfolding computes entries endOrder doneBy inTurn shownTo contentOf
-taking-turns = (ap endOrder (done-after o opens ending), ap stepsIn (turn-after o opens ending), ap (λ (es : List Entry). take 1 (drop 15 es)) (turn-after o opens ending))
+taking-turns = (
+  ap endOrder (done-after o opens ending),
+  ap stepsIn (turn-after o opens ending),
+  ap (λ (es : List Entry). take 1 (drop 15 es)) (turn-after o opens ending),
+)

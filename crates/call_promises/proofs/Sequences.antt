@@ -1,4 +1,5 @@
--- Any sequence of calls after an accepted open: the words fit and stand for the model's run; a read that is told, and a validation that finds it good. Assumes nothing.
+-- Any sequence of calls after an accepted open: the words fit and stand for the model's run; a read that is told, and a validation that finds it good. Assumes
+-- nothing.
 use Prim.Native.Nat.{ℕ, min}
 use mathlib.Core.Path.{_≡_, refl, sym, ap, subst, _∙_}
 use mathlib.Core.Bool.{true}
@@ -56,9 +57,11 @@ module _ (o : Opening) (e : openNumber o ≡ 0) where
 
   -- calls behind calls
   joined : (cs more : List Call) → storeAfter o (cs ++ more) ≡ run (storeAfter o cs) (stepsOf more)
-  joined cs more = ap (run (fresh (sizesView (o .sizes)) (o .clock))) (map-append asking cs more) ∙ run-append (fresh (sizesView (o .sizes)) (o .clock)) (stepsOf cs) (stepsOf more)
+  joined cs more = ap (run (fresh (sizesView (o .sizes)) (o .clock))) (map-append asking cs more)
+      ∙ run-append (fresh (sizesView (o .sizes)) (o .clock)) (stepsOf cs) (stepsOf more)
 
-  steps-after : (cs : List Call) (c : Call) (between : List Call) → storeAfter o (cs ++ (c ∷ between)) ≡ run (step (storeAfter o cs) (asking c) .store) (stepsOf between)
+  steps-after : (cs : List Call) (c : Call) (between : List Call)
+      → storeAfter o (cs ++ (c ∷ between)) ≡ run (step (storeAfter o cs) (asking c) .store) (stepsOf between)
   unfolding run
   steps-after cs c between = joined cs (c ∷ between)
 
@@ -81,7 +84,8 @@ module _ (o : Opening) (e : openNumber o ≡ 0) where
       record {
         found = w .0;
         count = w .2;
-        handed = rw (reading-asks t lent) at (found-after cs (reading t lent)) ∙ (ap (λ (a : machine.Answer). lentAfter a lent) (w .1) ∙ ap (λ (m : ℕ). w .0 ++ drop m lent) (sym (w .2)));
+        handed = rw (reading-asks t lent) at (found-after cs (reading t lent))
+            ∙ (ap (λ (a : machine.Answer). lentAfter a lent) (w .1) ∙ ap (λ (m : ℕ). w .0 ++ drop m lent) (sym (w .2)));
         finished = finished-read (sizesView (o .sizes)) (o .clock) (stepsOf cs) t (length lent) (w .0) (w .1);
       }
 
@@ -95,16 +99,23 @@ module _ (o : Opening) (e : openNumber o ≡ 0) where
 
   -- ---- what prepare saw
 
-  pub heads : (cs : List Call) (t : ℕ) (more : List Call) → numberOf (called (after o cs) (preparing t) .answer) ≡ 0 → Lives (storeAfter o (cs ++ (preparing t ∷ more))) t → HeadKept (storeAfter o cs) (storeAfter o (cs ++ (preparing t ∷ more))) t
+  pub heads : (cs : List Call) (t : ℕ) (more : List Call) → numberOf (called (after o cs) (preparing t) .answer) ≡ 0
+      → Lives (storeAfter o (cs ++ (preparing t ∷ more))) t → HeadKept (storeAfter o cs) (storeAfter o (cs ++ (preparing t ∷ more))) t
   heads cs t more z l =
       let same = steps-after cs (preparing t) more in
-      subst (λ (s : Store). HeadKept (storeAfter o cs) s t) (sym same) (kept-heads (sizesView (o .sizes)) (o .clock) (stepsOf cs) opens (o .clock-in) t (stepsOf more) (sym (number-after cs (preparing t)) ∙ z) (subst (λ (s : Store). Lives s t) same l))
+      subst (λ (s : Store). HeadKept (storeAfter o cs) s t) (sym same)
+      (kept-heads (sizesView (o .sizes)) (o .clock) (stepsOf cs) opens (o .clock-in) t (stepsOf more) (sym (number-after cs (preparing t)) ∙ z)
+      (subst (λ (s : Store). Lives s t) same l))
 
-  pub costless : (cs : List Call) (t : ℕ) (more : List Call) → numberOf (called (after o cs) (preparing t) .answer) ≡ 0 → Lives (storeAfter o (cs ++ (preparing t ∷ more))) t
-      → ((r : ℕ) → Writes (storeAfter o cs .sizes) (txnOf (storeAfter o cs) t) r → ErasesNothing (storeAfter o cs .chains) (txnOf (storeAfter o cs) t) r) → CostsNothing (storeAfter o (cs ++ (preparing t ∷ more))) t
+  pub costless : (cs : List Call) (t : ℕ) (more : List Call) → numberOf (called (after o cs) (preparing t) .answer) ≡ 0
+      → Lives (storeAfter o (cs ++ (preparing t ∷ more))) t
+      → ((r : ℕ) → Writes (storeAfter o cs .sizes) (txnOf (storeAfter o cs) t) r → ErasesNothing (storeAfter o cs .chains) (txnOf (storeAfter o cs) t) r)
+      → CostsNothing (storeAfter o (cs ++ (preparing t ∷ more))) t
   costless cs t more z l nothing =
       let same = steps-after cs (preparing t) more in
-      subst (λ (s : Store). CostsNothing s t) (sym same) (nothing-costs (sizesView (o .sizes)) (o .clock) (stepsOf cs) opens (o .clock-in) t (stepsOf more) (sym (number-after cs (preparing t)) ∙ z) (subst (λ (s : Store). Lives s t) same l) nothing)
+      subst (λ (s : Store). CostsNothing s t) (sym same)
+      (nothing-costs (sizesView (o .sizes)) (o .clock) (stepsOf cs) opens (o .clock-in) t (stepsOf more) (sym (number-after cs (preparing t)) ∙ z)
+      (subst (λ (s : Store). Lives s t) same l) nothing)
 
   -- ---- a marked transaction
 
@@ -123,14 +134,16 @@ module _ (o : Opening) (e : openNumber o ≡ 0) where
   -- ---- a read, and a validation that finds it good
 
   -- the rows that were told are the ones found
-  same-found : (cs : List Call) (t : ℕ) (lent : List ℕ) (n : ℕ) (q : called (after o cs) (reading t lent) .answer ≡ tell.Rows n) → reads cs t lent n q .found ≡ found-by cs t lent n q .0
+  same-found : (cs : List Call) (t : ℕ) (lent : List ℕ) (n : ℕ) (q : called (after o cs) (reading t lent) .answer ≡ tell.Rows n)
+      → reads cs t lent n q .found ≡ found-by cs t lent n q .0
   unfolding reads
   same-found cs t lent n q = refl
 
   pub stands : (cs : List Call) (t k : ℕ) (lent : List ℕ) (n : ℕ) (q : called (after o cs) (reading t lent) .answer ≡ tell.Rows n) (between : List Call)
       → txnOf (storeAfter o cs) t .phase ≡ Collected k → txnOf (storeAfter o cs) t .writes ≡ []
       → called (after o (cs ++ (reading t lent ∷ between))) (validating t) .answer ≡ tell.Judged verdict.Clear
-      → StandingRead (sizesView (o .sizes)) (storeAfter o cs) (step (storeAfter o (cs ++ (reading t lent ∷ between))) (validate t) .store) t k (reads cs t lent n q .found)
+      → StandingRead (sizesView (o .sizes)) (storeAfter o cs) (step (storeAfter o (cs ++ (reading t lent ∷ between))) (validate t) .store) t k
+      (reads cs t lent n q .found)
   stands cs t k lent n q between c w v =
       let all = cs ++ (reading t lent ∷ between) in
       let f = found-by cs t lent n q in
@@ -138,4 +151,5 @@ module _ (o : Opening) (e : openNumber o ≡ 0) where
       let same = rw (reading-asks t lent) at (steps-after cs (reading t lent) between) in
       rw (same-found cs t lent n q)
       (subst (λ (s : Store). StandingRead (sizesView (o .sizes)) (storeAfter o cs) (step s (validate t) .store) t k (f .0)) (sym same)
-      (validated-read (sizesView (o .sizes)) (o .clock) (stepsOf cs) t (length lent) k (f .0) (stepsOf between) (f .1) c w (subst (λ (s : Store). step s (validate t) .answer ≡ machine.Judged judged.Clear) same clear)))
+      (validated-read (sizesView (o .sizes)) (o .clock) (stepsOf cs) t (length lent) k (f .0) (stepsOf between) (f .1) c w
+      (subst (λ (s : Store). step s (validate t) .answer ≡ machine.Judged judged.Clear) same clear)))

@@ -34,7 +34,8 @@ below-in (suc n) i m = ⊎-elim (λ a. omega (arith, below-in n i a)) (λ e. ome
 
 among-below : (n i : ℕ) → i < n → Among i (below n)
 among-below zero i h = absurd (omega arith)
-among-below (suc n) i h = elim (decLt i n) [ yes l ↦ among-left i (below n) (n ∷ []) (among-below n i l) | no l ↦ among-right i (below n) (n ∷ []) (inl (omega (arith, l))) ]
+among-below (suc n) i h =
+    elim (decLt i n) [ yes l ↦ among-left i (below n) (n ∷ []) (among-below n i l) | no l ↦ among-right i (below n) (n ∷ []) (inl (omega (arith, l))) ]
 
 -- a sweep frees one after another
 clear-append : (w k v : ℕ) (xs is js : List ℕ) → clearFields w k xs v (is ++ js) ≡ clearFields w k (clearFields w k xs v is) v js
@@ -69,7 +70,8 @@ release-freed v f is = fun-ext λ j. by j (member j is) (eqb (f j) v) refl
 
 module _ (z : model.Sizes) (v : ℕ) (l : 1 ≤ v) (rows buckets : List ℕ) where
   pub swept-held : 4 * z .rows ≤ length rows → 2 * z .buckets ≤ length buckets
-      → heldView (rowsPart z (unclaimEvery rows (z .rows) v)) (bucketsPart z (releaseEvery buckets (z .buckets) v)) ≡ freed (heldView (rowsPart z rows) (bucketsPart z buckets)) v
+      → heldView (rowsPart z (unclaimEvery rows (z .rows) v)) (bucketsPart z (releaseEvery buckets (z .buckets) v))
+      ≡ freed (heldView (rowsPart z rows) (bucketsPart z buckets)) v
   swept-held r b =
       rw (release-all v (z .buckets) buckets, unclaim-all-below v (z .rows) rows)
       (two-held _ _ _ _
@@ -78,11 +80,13 @@ module _ (z : model.Sizes) (v : ℕ) (l : 1 ≤ v) (rows buckets : List ℕ) whe
       (clear-all 4 1 (omega arith) (z .rows) v rows (below (z .rows)) (below-in (z .rows)) r
       ∙ freed-release v _ (below (z .rows)) (part-below 4 1 (z .rows) rows v l)))
 
-  pub swept-chains : (versions : List ℕ) (used : ℕ) → chainsView (rowsPart z (unclaimEvery rows (z .rows) v)) versions used ≡ chainsView (rowsPart z rows) versions used
+  pub swept-chains : (versions : List ℕ) (used : ℕ)
+      → chainsView (rowsPart z (unclaimEvery rows (z .rows) v)) versions used ≡ chainsView (rowsPart z rows) versions used
   swept-chains versions used =
       rw (unclaim-all-below v (z .rows) rows, clear-other 4 1 (omega arith) (z .rows) v rows (below (z .rows)) 0 (omega arith) (omega arith))
 
-  pub swept-index : indexView (rowsPart z (unclaimEvery rows (z .rows) v)) (bucketsPart z (releaseEvery buckets (z .buckets) v)) ≡ indexView (rowsPart z rows) (bucketsPart z buckets)
+  pub swept-index : indexView (rowsPart z (unclaimEvery rows (z .rows) v)) (bucketsPart z (releaseEvery buckets (z .buckets) v))
+      ≡ indexView (rowsPart z rows) (bucketsPart z buckets)
   swept-index = rw (
     release-all v (z .buckets) buckets,
     unclaim-all-below v (z .rows) rows,

@@ -34,14 +34,17 @@ use Rattle.call_promises.specs.Refused.{Marks}
 abbrev pub GivenTo : Words → Call → ℕ → Type 0
 GivenTo w c n = given 16 (tablesFit w ≡ false) n (Given (view w) (asking c) n)
 
--- a call on any words: its number, exactly when and in which order; its values; what it leaves of the store and of the lent list; and where it is refused every word as found, but that a stale stamp marks
+-- a call on any words: its number, exactly when and in which order; its values; what it leaves of the store and of the lent list; and where it is refused every
+-- word as found, but that a stale stamp marks
 pub record ExactCall (w : Words) (c : Call) : Type 0 where
   pub given-when : (n : ℕ) → numberOf (called w c .answer) ≡ n ↔ GivenTo w c n
-  pub done-values : numberOf (called w c .answer) ≡ 0 → valuesOf (called w c .answer) (called w c .words .tables .found) ≡ answerValues (documented (view w) (asking c))
+  pub done-values : numberOf (called w c .answer) ≡ 0
+      → valuesOf (called w c .answer) (called w c .words .tables .found) ≡ answerValues (documented (view w) (asking c))
   pub done-leaves : numberOf (called w c .answer) ≡ 0 → Leaves (view w) (asking c) (view (called w c .words))
   pub done-lent : numberOf (called w c .answer) ≡ 0 → called w c .words .tables .found ≡ lentAfter (documented (view w) (asking c)) (c .lent)
   pub refused-values : numberOf (called w c .answer) ≢ 0 → valuesOf (called w c .answer) (called w c .words .tables .found) ≡ []
-  pub refused-leaves : numberOf (called w c .answer) ≢ 0 → (called w c .words ≡ lending w (c .lent)) ⊎ Marks (lending w (c .lent)) (c .asks) (called w c .words) (numberOf (called w c .answer))
+  pub refused-leaves : numberOf (called w c .answer) ≢ 0
+      → (called w c .words ≡ lending w (c .lent)) ⊎ Marks (lending w (c .lent)) (c .asks) (called w c .words) (numberOf (called w c .answer))
 
 -- what is lent to open, in any state, and what it is asked for; a clock is a 64-bit number
 pub record Opening : Type 0 where
@@ -92,7 +95,8 @@ validating t = record { asks = ask.Validate t; lent = [] }
 abbrev pub preparing : ℕ → Call
 preparing t = record { asks = ask.Prepare t; lent = [] }
 
--- no more work in a marked transaction, after an accepted open and any calls: the number of each call that names it, and validate's verdict; its record stays as it is, whatever calls come, until one aborts it
+-- no more work in a marked transaction, after an accepted open and any calls: the number of each call that names it, and validate's verdict; its record stays
+-- as it is, whatever calls come, until one aborts it
 pub record MarkedCalls (o : Opening) (cs : List Call) (t : ℕ) : Type 0 where
   pub gives : (c : Call) → Names (asking c) → actor (asking c) ≡ t → MarkedGives (storeAfter o cs) (asking c) (numberOf (called (after o cs) c .answer))
   pub judged : numberOf (called (after o cs) (validating t) .answer) ≡ 0 → called (after o cs) (validating t) .answer ≡ tell.Judged verdict.Mark
@@ -100,10 +104,12 @@ pub record MarkedCalls (o : Opening) (cs : List Call) (t : ℕ) : Type 0 where
 
 -- DEMAND 2
 
--- a validation of any words answers v exactly when they fit, it is ready, no bucket of an index read is another's, and v has its cause, the first in document 01's order
+-- a validation of any words answers v exactly when they fit, it is ready, no bucket of an index read is another's, and v has its cause, the first in document
+-- 01's order
 abbrev pub JudgedCall : Words → ℕ → Verdict → Type 0
 JudgedCall w t v = called w (validating t) .answer ≡ tell.Judged (verdictTold v)
-    ↔ (tablesFit w ≡ true) and Ready (view w) (validate t) and BucketsFree (view w) t (readBuckets (txnOf (view w) t)) and Cause (view w .chains) (view w .index) (txnOf (view w) t) v
+    ↔ (tablesFit w ≡ true) and Ready (view w) (validate t) and BucketsFree (view w) t (readBuckets (txnOf (view w) t))
+    and Cause (view w .chains) (view w .index) (txnOf (view w) t) v
 
 -- a call of rows that answers n rows has handed them over at the front of its list, and they are a finished read
 pub record ReadCall (o : Opening) (cs : List Call) (t : ℕ) (lent : List ℕ) (n : ℕ) : Type 0 where

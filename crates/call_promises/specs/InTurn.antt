@@ -57,7 +57,11 @@ handed l = front (l .answer) (l .words .tables .found)
 
 -- an accepted call: whose it is, its step, and each row that it handed over with what the words show of it to the transaction
 abbrev pub toldEntry : Words → Call → Entry
-toldEntry w c = record { who = whose (view w) (asking c); what = asking c; read = map (λ r. (r, shownTo (view w .chains) (txnOf (view w) (actor (asking c))) r)) (handed (called w c)) }
+toldEntry w c = record {
+  who = whose (view w) (asking c);
+  what = asking c;
+  read = map (λ r. (r, shownTo (view w .chains) (txnOf (view w) (actor (asking c))) r)) (handed (called w c));
+}
 
 -- the accepted calls, in their order, the tables handed on as the last call left them
 unfoldable pub callsDone : Words → List Call → List Entry
@@ -76,9 +80,12 @@ turnCalls o cs = map callFor (stepsIn (callsOneByOne o cs))
 abbrev pub publishing : List ℕ → List Call
 publishing ts = map (λ t. bare (ask.Publish t)) ts
 
--- Were the payments as if made in turn? After the same open every call of the turn is accepted, and every call of rows hands over the same rows with the same keys and payloads;
--- then none is live, and the live rows are those after the calls, once any transactions that reached end have published. Numbers, stamps and pointers may differ, and so may what begin, capture, collect, validate and publish answer.
+-- Were the payments as if made in turn? After the same open every call of the turn is accepted, and every call of rows hands over the same rows with the same
+-- keys and payloads;
+-- then none is live, and the live rows are those after the calls, once any transactions that reached end have published. Numbers, stamps and pointers may
+-- differ, and so may what begin, capture, collect, validate and publish answer.
 pub record CallsInTurn (o : Opening) (cs : List Call) : Type 0 where
   pub same-reads : callsDone (opened o) (turnCalls o cs) ≡ callsOneByOne o cs
   pub none-live : (i : ℕ) → i < mostLive → txnAt (after o (turnCalls o cs)) i .number ≡ 0
-  pub same-rows : (published : List ℕ) (r : ℕ) → r < o .sizes .rows → liveRow (view (after o (turnCalls o cs))) r ≡ liveRow (view (after o (cs ++ publishing published))) r
+  pub same-rows : (published : List ℕ) (r : ℕ) → r < o .sizes .rows
+      → liveRow (view (after o (turnCalls o cs))) r ≡ liveRow (view (after o (cs ++ publishing published))) r

@@ -20,4 +20,10 @@ pub record Marks (w : Words) (s : Step) (after : Words) (n : ℕ) : Type 0 where
   pub refusal : n ≡ 8
   pub unmarked : asker w s .marked ≡ false
   pub stale : asker w s .number ≤ stampOf (w .tables .buckets) (key % w .sizes .buckets)
-  pub marks : after ≡ record { tables = w .tables; txns = set (w .txns) (placeFor (w .txns) s) (withMark (asker w s)); sizes = w .sizes; clock = w .clock; used = w .used }
+  pub marks : after ≡ record {
+    tables = w .tables;
+    txns = set (w .txns) (placeFor (w .txns) s) (withMark (asker w s));
+    sizes = w .sizes;
+    clock = w .clock;
+    used = w .used;
+  }

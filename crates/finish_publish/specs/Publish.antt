@@ -40,7 +40,8 @@ stampedIn rows versions lists count number slot n stamp buckets =
 
 -- what a transaction needs of the buckets
 unfoldable pub neededIn : List ℕ → List ℕ → List ℕ → ℕ → Bool → ℕ → ℕ → ℕ → ℕ → List ℕ
-neededIn rows versions lists count installed bucket slot reads writes = (bucket ∷ []) ++ readsNeed lists slot reads ++ writesNeed rows versions lists count installed slot writes
+neededIn rows versions lists count installed bucket slot reads writes =
+    (bucket ∷ []) ++ readsNeed lists slot reads ++ writesNeed rows versions lists count installed slot writes
 
 unfoldable pub freedIn : List ℕ → List ℕ → List ℕ → ℕ → Bool → ℕ → ℕ → ℕ → ℕ → ℕ → List ℕ → List ℕ
 freedIn rows versions lists count installed bucket slot reads writes number buckets =
@@ -60,7 +61,8 @@ publishOf versions lists count clock t rows buckets =
       reply = record { answer = tell.Stamp clock; txn = idleOf (t .slot) };
       rows = clearClaims (postedAll lists (t .slot) (t .«writes_n») rows (rowsWritten lists (t .slot) (t .«writes_n»))) (t .number)
           (rowsWritten lists (t .slot) (t .«writes_n»));
-      buckets = freedIn rows versions lists count true (bucketIn (phaseView (t .phase))) (t .slot) (t .«reads_n») (t .«writes_n») (t .number) (stampedIn rows versions lists count (t .number) (t .slot) (t .«writes_n») clock buckets);
+      buckets = freedIn rows versions lists count true (bucketIn (phaseView (t .phase))) (t .slot) (t .«reads_n») (t .«writes_n») (t .number)
+          (stampedIn rows versions lists count (t .number) (t .slot) (t .«writes_n») clock buckets);
     })
 
 -- abort: wrong phase; else buckets and claims are freed, and the record ends

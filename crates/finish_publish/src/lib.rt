@@ -76,7 +76,8 @@ fn stamp_changes(
     count: u32,
     stamp: u64,
 )
-    ensures { λ _. ⌜ now (buckets .exit) ≡ stampedIn (now (rows .entry)) (now (versions .entry)) (now (lists .entry)) «bucket_count» number slot count stamp (now (buckets .entry)) ⌝ }
+    ensures { λ _. ⌜ now (buckets .exit) ≡ stampedIn (now (rows .entry)) (now (versions .entry)) (now (lists .entry)) «bucket_count» number slot count
+        stamp (now (buckets .entry)) ⌝ }
 {
     let mut list = [0u64; MOST_HELD];
     let n = push_changes(
@@ -107,7 +108,8 @@ fn free_needed(
     writes_n: u32,
     number: u64,
 )
-    ensures { λ _. ⌜ now (buckets .exit) ≡ freedIn (now (rows .entry)) (now (versions .entry)) (now (lists .entry)) «bucket_count» installed bucket slot «reads_n» «writes_n» number (now (buckets .entry)) ⌝ }
+    ensures { λ _. ⌜ now (buckets .exit) ≡ freedIn (now (rows .entry)) (now (versions .entry)) (now (lists .entry)) «bucket_count» installed bucket slot
+        «reads_n» «writes_n» number (now (buckets .entry)) ⌝ }
 {
     let mut list = [0u64; MOST_HELD];
     let held = push(&mut list, 0, bucket);
@@ -136,7 +138,8 @@ pub fn publish(
     clock: u64,
     t: Transaction,
 ) -> Answered
-    ensures { λ r. ⌜ record { reply = r; rows = now (rows .exit); buckets = now (buckets .exit) } ≡ publishOf (now (versions .entry)) (now (lists .entry)) «bucket_count» clock t (now (rows .entry)) (now (buckets .entry)) ⌝ }
+    ensures { λ r. ⌜ record { reply = r; rows = now (rows .exit); buckets = now (buckets .exit) } ≡ publishOf (now (versions .entry)) (now (lists .entry))
+        «bucket_count» clock t (now (rows .entry)) (now (buckets .entry)) ⌝ }
 {
     let phase = t.phase;
     if phase_rank(phase) != ENDED {
@@ -183,7 +186,8 @@ pub fn abort(
     bucket_count: u64,
     t: Transaction,
 ) -> Answered
-    ensures { λ r. ⌜ record { reply = r; rows = now (rows .exit); buckets = now (buckets .exit) } ≡ abortOf (now (versions .entry)) (now (lists .entry)) «bucket_count» t (now (rows .entry)) (now (buckets .entry)) ⌝ }
+    ensures { λ r. ⌜ record { reply = r; rows = now (rows .exit); buckets = now (buckets .exit) } ≡ abortOf (now (versions .entry)) (now (lists .entry))
+        «bucket_count» t (now (rows .entry)) (now (buckets .entry)) ⌝ }
 {
     let phase = t.phase;
     if phase_rank(phase) >= INSTALLED {

@@ -56,7 +56,8 @@ unfolding commandsFor spoken
 none-left zero s text = record { steps = []; read = refl; fit = tt; says = sym (append-nil text) ∙ ap (λ w. text ++ w) (sym written-none) }
 none-left (suc k) s text = record { steps = []; read = rw none-read refl; fit = tt; says = sym (append-nil text) ∙ ap (λ w. text ++ w) (sym written-none) }
 
-went : (room k : ℕ) (log : List ℕ) (s : Store) (text : List ℕ) → Bytes log → length log ≤ k → replayFor room k log (some s) text .status ≡ 0 → Went k log s text (replayFor room k log (some s) text .text)
+went : (room k : ℕ) (log : List ℕ) (s : Store) (text : List ℕ) → Bytes log → length log ≤ k → replayFor room k log (some s) text .status ≡ 0
+    → Went k log s text (replayFor room k log (some s) text .text)
 unfolding replayFor turn commandsFor spoken
 went room zero [] s text bs h e = none-left zero s text
 went room (suc k) [] s text bs h e = none-left (suc k) s text
@@ -66,7 +67,8 @@ went room (suc k) (b ∷ log) s text bs h e = go (readRecord (b ∷ log)) refl (
     on : List ℕ → Store → List ℕ → Replayed
     on rest s′ w = replayFor room k rest (some s′) w
 
-    go : (o : Option (Command × List ℕ)) → readRecord (b ∷ log) ≡ o → ((rest : List ℕ) (s′ : Store) (w : List ℕ) → Bytes rest → length rest ≤ k → on rest s′ w .status ≡ 0 → Went k rest s′ w (on rest s′ w .text))
+    go : (o : Option (Command × List ℕ)) → readRecord (b ∷ log) ≡ o
+        → ((rest : List ℕ) (s′ : Store) (w : List ℕ) → Bytes rest → length rest ≤ k → on rest s′ w .status ≡ 0 → Went k rest s′ w (on rest s′ w .text))
         → reads room text (some s) o on .status ≡ 0 → Went (suc k) (b ∷ log) s text (reads room text (some s) o on .text)
     go none r ih e = absurd (stopped room text (line badWord (refusalNumber Malformed ∷ [])) 15 (omega arith) e)
     go (some (Opening z clock, rest)) r ih e = absurd (stopped room text (line badWord (refusalNumber Malformed ∷ [])) 15 (omega arith) e)
@@ -74,20 +76,24 @@ went room (suc k) (b ∷ log) s text bs h e = go (readRecord (b ∷ log)) refl (
         let next = answerLine a (step s a .answer) in
         let s′ = step s a .store in
         let on-is = went-on room text next (on rest s′) e in
-        let w = ih rest s′ (text ++ next) (rest-bytes (b ∷ log) (Asking a) rest bs r) (rest-fewer (b ∷ log) (Asking a) rest bs r k h) (sym (ap (λ r. r .status) on-is) ∙ e) in
+        let w = ih rest s′ (text ++ next) (rest-bytes (b ∷ log) (Asking a) rest bs r) (rest-fewer (b ∷ log) (Asking a) rest bs r k h)
+        (sym (ap (λ r. r .status) on-is) ∙ e) in
         record {
           steps = a ∷ w .steps;
           read = rw r (ap (λ cs. Asking a ∷ cs) (w .read));
           fit = (read-exact (b ∷ log) bs (Asking a) rest r .1, w .fit);
-          says = ap (λ r. r .text) on-is ∙ (w .says ∙ (append-assoc text next (written (spoken s′ (w .steps))) ∙ ap (λ w. text ++ w) (sym (written-more next (spoken s′ (w .steps))))));
+          says = ap (λ r. r .text) on-is
+              ∙ (w .says ∙ (append-assoc text next (written (spoken s′ (w .steps))) ∙ ap (λ w. text ++ w) (sym (written-more next (spoken s′ (w .steps))))));
         }
 
 -- a whole log
 pub data Ended (log out : List ℕ) : Type 0 where
   empty : commandsIn log ≡ [] → out ≡ [] → Ended log out
-  ran : (z : Sizes) (clock : ℕ) (steps : List Step) → commandsIn log ≡ Opening z clock ∷ map Asking steps → canOpen z clock ≡ true → AllFit (Opening z clock ∷ map Asking steps) → out ≡ written (openLine ∷ spoken (fresh z clock) steps) → Ended log out
+  ran : (z : Sizes) (clock : ℕ) (steps : List Step) → commandsIn log ≡ Opening z clock ∷ map Asking steps → canOpen z clock ≡ true
+      → AllFit (Opening z clock ∷ map Asking steps) → out ≡ written (openLine ∷ spoken (fresh z clock) steps) → Ended log out
 
-ended-from : (room : ℕ) (log : List ℕ) → Bytes log → replayFor room (length log) log none [] .status ≡ 0 → Ended log (replayFor room (length log) log none [] .text)
+ended-from : (room : ℕ) (log : List ℕ) → Bytes log → replayFor room (length log) log none [] .status ≡ 0
+    → Ended log (replayFor room (length log) log none [] .text)
 unfolding replayFor turn commandsFor commandsIn
 ended-from room [] bs e = empty refl refl
 ended-from room (b ∷ log) bs e = go (readRecord (b ∷ log)) refl e
@@ -100,13 +106,18 @@ ended-from room (b ∷ log) bs e = go (readRecord (b ∷ log)) refl e
     go (some (Asking a, rest)) r e = absurd (stopped room [] (line badWord (refusalNumber Malformed ∷ [])) 15 (omega arith) e)
     go (some (Opening z clock, rest)) r e = opens (canOpen z clock) refl e
       where
-        opens : (t : Bool) → canOpen z clock ≡ t → cond t (writeThen room [] openLine (on rest (fresh z clock))) (writeThen room [] (line openWord (refusalNumber WrongSize ∷ [])) (stops 1)) .status ≡ 0
-            → Ended (b ∷ log) (cond t (writeThen room [] openLine (on rest (fresh z clock))) (writeThen room [] (line openWord (refusalNumber WrongSize ∷ [])) (stops 1)) .text)
+        opens : (t : Bool) → canOpen z clock ≡ t
+            → cond t (writeThen room [] openLine (on rest (fresh z clock)))
+            (writeThen room [] (line openWord (refusalNumber WrongSize ∷ [])) (stops 1)) .status ≡ 0
+            → Ended (b ∷ log) (cond t (writeThen room [] openLine (on rest (fresh z clock)))
+            (writeThen room [] (line openWord (refusalNumber WrongSize ∷ [])) (stops 1)) .text)
         opens true o e =
             let s = fresh z clock in
             let on-is = went-on room [] openLine (on rest s) e in
-            let w = went room (length log) rest s openLine (rest-bytes (b ∷ log) (Opening z clock) rest bs r) (rest-fewer (b ∷ log) (Opening z clock) rest bs r (length log) (omega arith)) (sym (ap (λ r. r .status) on-is) ∙ e) in
-            ran z clock (w .steps) (rw r (ap (λ cs. Opening z clock ∷ cs) (w .read))) o (read-exact (b ∷ log) bs (Opening z clock) rest r .1, w .fit) (ap (λ r. r .text) on-is ∙ (w .says ∙ sym (written-more openLine (spoken s (w .steps)))))
+            let w = went room (length log) rest s openLine (rest-bytes (b ∷ log) (Opening z clock) rest bs r)
+            (rest-fewer (b ∷ log) (Opening z clock) rest bs r (length log) (omega arith)) (sym (ap (λ r. r .status) on-is) ∙ e) in
+            ran z clock (w .steps) (rw r (ap (λ cs. Opening z clock ∷ cs) (w .read))) o (read-exact (b ∷ log) bs (Opening z clock) rest r .1, w .fit)
+            (ap (λ r. r .text) on-is ∙ (w .says ∙ sym (written-more openLine (spoken s (w .steps)))))
         opens false o e = absurd (stopped room [] (line openWord (refusalNumber WrongSize ∷ [])) 1 (omega arith) e)
 
 pub ended : (log : List ℕ) → Bytes log → (room : ℕ) → replay log room .status ≡ 0 → Ended log (replay log room .text)

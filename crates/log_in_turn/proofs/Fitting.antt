@@ -43,7 +43,8 @@ module _ (s : Store) (g : Good s) where
   whose-small (abort t) e = live-small t (abort-0 s t .0 e .1)
 
 -- a fact of every accepted step of a run
-each-entry : (P : Entry → Type 0) (s : Store) (a : Step) (more : List Step) → (number s a ≡ 0 → P (entryOf s a)) → ((e : Entry) → Among e (entries (step s a .store) more) → P e) → (e : Entry) → Among e (entries s (a ∷ more)) → P e
+each-entry : (P : Entry → Type 0) (s : Store) (a : Step) (more : List Step) → (number s a ≡ 0 → P (entryOf s a))
+    → ((e : Entry) → Among e (entries (step s a .store) more) → P e) → (e : Entry) → Among e (entries s (a ∷ more)) → P e
 unfolding entries
 each-entry P s a more h later e = go (eqb (number s a) 0) refl
   where
@@ -98,7 +99,8 @@ among-done n (d ∷ es) e m = go (eqb (d .who) n && not (isPublish (d .what))) (
 module _ (es : List Entry) (f : (e : Entry) → Among e es → Fits e) where
   whole-fits : (m n : ℕ) (e : Entry) → Among e (wholeOf m n es) → e .who ≤ lastNumber → Fits e
   whole-fits m n e a l = ⊎-elim
-      (λ b. let d = map-among (asNumber m) (doneBy n es) e b in rw (d .2) (renumbered-fits m (d .0 .what) (rw (d .2) at l) (f (d .0) (among-done n es (d .0) (d .1)))))
+      (λ b. let d = map-among (asNumber m) (doneBy n es) e b in
+      rw (d .2) (renumbered-fits m (d .0 .what) (rw (d .2) at l) (f (d .0) (among-done n es (d .0) (d .1)))))
       last
       (among-cases e (map (asNumber m) (doneBy n es)) _ a)
     where
@@ -109,7 +111,8 @@ module _ (es : List Entry) (f : (e : Entry) → Among e es → Fits e) where
   turn-fits : (clock : ℕ) (ns : List ℕ) (e : Entry) → Among e (inTurn clock ns es) → e .who ≤ lastNumber → Fits e
   unfolding inTurn
   turn-fits clock [] e a l = absurd a
-  turn-fits clock (n ∷ ns) e a l = ⊎-elim (λ b. whole-fits clock n e b l) (λ b. turn-fits (2 + clock) ns e b l) (among-cases e (wholeOf clock n es) (inTurn (2 + clock) ns es) a)
+  turn-fits clock (n ∷ ns) e a l =
+      ⊎-elim (λ b. whole-fits clock n e b l) (λ b. turn-fits (2 + clock) ns e b l) (among-cases e (wholeOf clock n es) (inTurn (2 + clock) ns es) a)
 
 each-fits : (es : List Entry) → ((e : Entry) → Among e es → Fits e) → AllFit (map Asking (stepsIn es))
 each-fits [] f = tt
@@ -119,7 +122,8 @@ clock-small : (z : Sizes) (clock : ℕ) → Fit (fieldsIn (Opening z clock)) →
 clock-small z clock (one-fits a (one-fits b (one-fits c (one-fits d none-left)))) = omega arith
 
 -- the numbers of the turn are those of its run, where every step is accepted
-pub turn-fit : (z : Sizes) (clock : ℕ) (steps : List Step) → canOpen z clock ≡ true → AllFit (Opening z clock ∷ map Asking steps) → AllFit (map Asking (turnOf (fresh z clock) steps))
+pub turn-fit : (z : Sizes) (clock : ℕ) (steps : List Step) → canOpen z clock ≡ true → AllFit (Opening z clock ∷ map Asking steps)
+    → AllFit (map Asking (turnOf (fresh z clock) steps))
 unfolding run
 turn-fit z clock steps o f =
     let s = fresh z clock in

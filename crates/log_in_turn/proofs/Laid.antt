@@ -29,7 +29,12 @@ record-long : (c : Command) → 1 ≤ length (bytesOf c)
 unfolding bytesOf framed
 record-long c =
     let size = 2 + length (laidOut (fieldsIn c)) in
-    omega (arith, length-append (inBytes 2 size ++ inBytes 2 (kindOf c)) (laidOut (fieldsIn c)), length-append (inBytes 2 size) (inBytes 2 (kindOf c)), in-long 2 size)
+    omega (
+      arith,
+      length-append (inBytes 2 size ++ inBytes 2 (kindOf c)) (laidOut (fieldsIn c)),
+      length-append (inBytes 2 size) (inBytes 2 (kindOf c)),
+      in-long 2 size,
+    )
 
 -- so what is left of the log is shorter
 pub rest-short : (c : Command) (rest : List ℕ) (k : ℕ) → length (bytesOf c ++ rest) ≤ suc k → length rest ≤ k
@@ -47,26 +52,31 @@ laid-read zero (c ∷ cs) f h = absurd (omega (arith, record-long c, length-appe
 laid-read (suc k) (c ∷ cs) f h = rw (command-read c (join bytesOf cs) (f .0)) (ap (λ ds. c ∷ ds) (laid-read k cs (f .1) (rest-short c (join bytesOf cs) k h)))
 
 -- a record at the front decides the turn
-turn-reads : (room : ℕ) (on : List ℕ → Store → List ℕ → Replayed) (log : List ℕ) (so : Option Store) (text : List ℕ) → 1 ≤ length log → turn room on log so text ≡ reads room text so (readRecord log) on
+turn-reads : (room : ℕ) (on : List ℕ → Store → List ℕ → Replayed) (log : List ℕ) (so : Option Store) (text : List ℕ) → 1 ≤ length log
+    → turn room on log so text ≡ reads room text so (readRecord log) on
 unfolding turn
 turn-reads room on [] so text h = absurd (omega arith)
 turn-reads room on (b ∷ bs) so text h = refl
 
-turn-command : (room : ℕ) (on : List ℕ → Store → List ℕ → Replayed) (c : Command) (rest : List ℕ) (so : Option Store) (text : List ℕ) → Fit (fieldsIn c) → turn room on (bytesOf c ++ rest) so text ≡ reads room text so (some (c, rest)) on
+turn-command : (room : ℕ) (on : List ℕ → Store → List ℕ → Replayed) (c : Command) (rest : List ℕ) (so : Option Store) (text : List ℕ) → Fit (fieldsIn c)
+    → turn room on (bytesOf c ++ rest) so text ≡ reads room text so (some (c, rest)) on
 turn-command room on c rest so text f =
-    turn-reads room on (bytesOf c ++ rest) so text (omega (arith, record-long c, length-append (bytesOf c) rest)) ∙ ap (λ r. reads room text so r on) (command-read c rest f)
+    turn-reads room on (bytesOf c ++ rest) so text (omega (arith, record-long c, length-append (bytesOf c) rest))
+    ∙ ap (λ r. reads room text so r on) (command-read c rest f)
 
 -- a line that fits is written
 fits-on : (room : ℕ) (text next : List ℕ) (go : List ℕ → Replayed) → length text + length next ≤ room → writeThen room text next go ≡ go (text ++ next)
 unfolding writeThen
 fits-on room text next go h = rw (le-leb (length text + length next) room h) refl
 
-steps-replay : (room k : ℕ) (s : Store) (text : List ℕ) (steps : List Step) → AllFit (map Asking steps) → length (join bytesOf (map Asking steps)) ≤ k → length text + length (written (spoken s steps)) ≤ room
+steps-replay : (room k : ℕ) (s : Store) (text : List ℕ) (steps : List Step) → AllFit (map Asking steps) → length (join bytesOf (map Asking steps)) ≤ k
+    → length text + length (written (spoken s steps)) ≤ room
     → replayFor room k (join bytesOf (map Asking steps)) (some s) text ≡ stops 0 (text ++ written (spoken s steps))
 unfolding replayFor turn join spoken
 steps-replay room zero s text [] f h l = ap (stops 0) (sym (append-nil text) ∙ ap (λ w. text ++ w) (sym written-none))
 steps-replay room (suc k) s text [] f h l = ap (stops 0) (sym (append-nil text) ∙ ap (λ w. text ++ w) (sym written-none))
-steps-replay room zero s text (a ∷ more) f h l = absurd (omega (arith, record-long (Asking a), length-append (bytesOf (Asking a)) (join bytesOf (map Asking more))))
+steps-replay room zero s text (a ∷ more) f h l =
+    absurd (omega (arith, record-long (Asking a), length-append (bytesOf (Asking a)) (join bytesOf (map Asking more))))
 steps-replay room (suc k) s text (a ∷ more) f h l =
     let next = answerLine a (step s a .answer) in
     let s′ = step s a .store in
@@ -78,14 +88,17 @@ steps-replay room (suc k) s text (a ∷ more) f h l =
     ∙ ap (stops 0) (append-assoc text next (written (spoken s′ more)) ∙ ap (λ w. text ++ w) (sym (written-more next (spoken s′ more))))))
 
 -- an open that is not refused, and steps
-pub laid-replay : (room k : ℕ) (z : Sizes) (clock : ℕ) (steps : List Step) → canOpen z clock ≡ true → AllFit (Opening z clock ∷ map Asking steps) → length (join bytesOf (Opening z clock ∷ map Asking steps)) ≤ k → length (written (openLine ∷ spoken (fresh z clock) steps)) ≤ room
+pub laid-replay : (room k : ℕ) (z : Sizes) (clock : ℕ) (steps : List Step) → canOpen z clock ≡ true → AllFit (Opening z clock ∷ map Asking steps)
+    → length (join bytesOf (Opening z clock ∷ map Asking steps)) ≤ k → length (written (openLine ∷ spoken (fresh z clock) steps)) ≤ room
     → replayFor room k (join bytesOf (Opening z clock ∷ map Asking steps)) none [] ≡ stops 0 (written (openLine ∷ spoken (fresh z clock) steps))
 unfolding replayFor join
-laid-replay room zero z clock steps o f h l = absurd (omega (arith, record-long (Opening z clock), length-append (bytesOf (Opening z clock)) (join bytesOf (map Asking steps))))
+laid-replay room zero z clock steps o f h l =
+    absurd (omega (arith, record-long (Opening z clock), length-append (bytesOf (Opening z clock)) (join bytesOf (map Asking steps))))
 laid-replay room (suc k) z clock steps o f h l =
     let s = fresh z clock in
     let rest = join bytesOf (map Asking steps) in
     let long = ap length (written-more openLine (spoken s steps)) ∙ length-append openLine (written (spoken s steps)) in
     turn-command room (λ left s written. replayFor room k left (some s) written) (Opening z clock) rest none [] (f .0)
     ∙ (rw o (fits-on room [] openLine (λ w. replayFor room k rest (some s) w) (omega (arith, long)))
-    ∙ (steps-replay room k s openLine steps (f .1) (rest-short (Opening z clock) rest k h) (omega (arith, long)) ∙ ap (stops 0) (sym (written-more openLine (spoken s steps)))))
+    ∙ (steps-replay room k s openLine steps (f .1) (rest-short (Opening z clock) rest k h) (omega (arith, long))
+    ∙ ap (stops 0) (sym (written-more openLine (spoken s steps)))))

@@ -11,7 +11,9 @@ use lib.Seq.{getD-append-add}
 use borrow.Author.Tests.{not-true, ne-eqb}
 use Rattle.base_lists.specs.Lists.{all-of}
 use Rattle.base_lists.proofs.ListLaws.{and-l, and-r, and-both}
-use Rattle.model.specs.Refusals.{Refusal, WrongSize, NoNumbers, Full, NoSuch, WrongPhase, NoRow, Taken, Stale, Marked, ManyReads, NoRoom, ManyRecords, ManyWrites, NoVersions, Conflict, Malformed, WrongShape, refusalNumber, Step, begin, capture, collect, rows, write, prepare, install, end, publish, validate, abort}
+use Rattle.model.specs.Refusals.{Refusal, WrongSize, NoNumbers, Full, NoSuch, WrongPhase, NoRow, Taken, Stale, Marked, ManyReads, NoRoom, ManyRecords}
+use Rattle.model.specs.Refusals.{ManyWrites, NoVersions, Conflict, Malformed, WrongShape, refusalNumber, Step, begin, capture, collect, rows, write, prepare}
+use Rattle.model.specs.Refusals.{install, end, publish, validate, abort}
 use Rattle.model.specs.Machine.{Answer, Done, Number, Stamp, Count, Rows, Judged, Refused, answerNumber, answerValues}
 use Rattle.model.specs.Log.{Asking}
 use Rattle.model.specs.Report.{digitsStep, digitsFor, decimal, openWord, wordOf, spaced, line, answerLine}
@@ -76,7 +78,8 @@ first-line (b ∷ w) rest p = rw (not-true (eqb b 10) (and-l (not (eqb b 10)) _ 
 
 line-front : (word ns rest : List ℕ) → Unbroken word → linesIn (line word ns ++ rest) ≡ line word ns ∷ linesIn rest
 unfolding line
-line-front word ns rest p = ap linesIn (append-assoc (word ++ spaced ns) (10 ∷ []) rest) ∙ first-line (word ++ spaced ns) rest (both-unbroken word (spaced ns) p (spaced-unbroken ns))
+line-front word ns rest p = ap linesIn (append-assoc (word ++ spaced ns) (10 ∷ []) rest)
+    ∙ first-line (word ++ spaced ns) rest (both-unbroken word (spaced ns) p (spaced-unbroken ns))
 
 -- a step's line before the rest of a report
 pub answer-front : (a : Step) (r : Answer) (rest : List ℕ) → linesIn (answerLine a r ++ rest) ≡ answerLine a r ∷ linesIn rest

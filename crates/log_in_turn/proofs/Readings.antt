@@ -37,7 +37,8 @@ ends-said s [] = refl
 ends-said s (a ∷ more) = rw (says-number a (step s a .answer)) (go (eqb (number s a) 0) (ends-said (step s a .store) more))
   where
     go : (b : Bool) → endsTold (said (step s a .store) more) ≡ endOrder (entries (step s a .store) more)
-        → cond b (endIn a ++ endsTold (said (step s a .store) more)) (endsTold (said (step s a .store) more)) ≡ endOrder (cond b (entryOf s a ∷ entries (step s a .store) more) (entries (step s a .store) more))
+        → cond b (endIn a ++ endsTold (said (step s a .store) more)) (endsTold (said (step s a .store) more))
+        ≡ endOrder (cond b (entryOf s a ∷ entries (step s a .store) more) (entries (step s a .store) more))
     go true h = ap (λ l. endIn a ++ l) h
     go false h = h
 
@@ -119,18 +120,23 @@ reads-done s (a ∷ more) n = go (eqb (number s a) 0) (reads-done (step s a .sto
     own-line = readLine (entryOf s a .read)
 
     kept : (r b : Bool) → readsOf (λ m. eqb m n) rest-done ≡ readsOf (λ m. true) (doneBy n rest-done)
-        → cond (r && b) (own-line ∷ readsOf (λ m. eqb m n) rest-done) (readsOf (λ m. eqb m n) rest-done) ≡ cond b (cond r (own-line ∷ readsOf (λ m. true) (doneBy n rest-done)) (readsOf (λ m. true) (doneBy n rest-done))) (readsOf (λ m. true) (doneBy n rest-done))
+        → cond (r && b) (own-line ∷ readsOf (λ m. eqb m n) rest-done) (readsOf (λ m. eqb m n) rest-done)
+        ≡ cond b (cond r (own-line ∷ readsOf (λ m. true) (doneBy n rest-done)) (readsOf (λ m. true) (doneBy n rest-done)))
+        (readsOf (λ m. true) (doneBy n rest-done))
     kept true true h = ap (λ l. own-line ∷ l) h
     kept true false h = h
     kept false true h = h
     kept false false h = h
 
-    picked : (b : Bool) → cond b (readsOf (λ m. true) (entryOf s a ∷ doneBy n rest-done)) (readsOf (λ m. true) (doneBy n rest-done)) ≡ readsOf (λ m. true) (cond b (entryOf s a ∷ doneBy n rest-done) (doneBy n rest-done))
+    picked : (b : Bool) → cond b (readsOf (λ m. true) (entryOf s a ∷ doneBy n rest-done)) (readsOf (λ m. true) (doneBy n rest-done))
+        ≡ readsOf (λ m. true) (cond b (entryOf s a ∷ doneBy n rest-done) (doneBy n rest-done))
     picked true = refl
     picked false = refl
 
-    go : (b : Bool) → readsOf (λ m. eqb m n) rest-done ≡ readsOf (λ m. true) (doneBy n rest-done) → readsOf (λ m. eqb m n) (cond b (entryOf s a ∷ rest-done) rest-done) ≡ readsOf (λ m. true) (doneBy n (cond b (entryOf s a ∷ rest-done) rest-done))
-    go true h = rw (read-by s n a) (kept (isRead (λ m. true) (Asking a)) (eqb (whose s a) n && not (isPublish a)) h) ∙ picked (eqb (whose s a) n && not (isPublish a))
+    go : (b : Bool) → readsOf (λ m. eqb m n) rest-done ≡ readsOf (λ m. true) (doneBy n rest-done)
+        → readsOf (λ m. eqb m n) (cond b (entryOf s a ∷ rest-done) rest-done) ≡ readsOf (λ m. true) (doneBy n (cond b (entryOf s a ∷ rest-done) rest-done))
+    go true h = rw (read-by s n a) (kept (isRead (λ m. true) (Asking a)) (eqb (whose s a) n && not (isPublish a)) h)
+        ∙ picked (eqb (whose s a) n && not (isPublish a))
     go false h = h
 
 -- the reads of the turn
@@ -142,7 +148,8 @@ reads-both (e ∷ xs) ys = go (isRead (λ m. true) (Asking (e .what))) (reads-bo
     all : List Entry → List (List ℕ)
     all es = readsOf (λ m. true) es
 
-    go : (b : Bool) → all (xs ++ ys) ≡ all xs ++ all ys → cond b (readLine (e .read) ∷ all (xs ++ ys)) (all (xs ++ ys)) ≡ cond b (readLine (e .read) ∷ all xs) (all xs) ++ all ys
+    go : (b : Bool) → all (xs ++ ys) ≡ all xs ++ all ys
+        → cond b (readLine (e .read) ∷ all (xs ++ ys)) (all (xs ++ ys)) ≡ cond b (readLine (e .read) ∷ all xs) (all xs) ++ all ys
     go true h = ap (λ l. readLine (e .read) ∷ l) h
     go false h = h
 
@@ -167,7 +174,8 @@ reads-again m (e ∷ es) = rw (still-read m (e .what), reads-again m es) refl
 
 reads-whole : (m n : ℕ) (es : List Entry) → readsOf (λ k. true) (wholeOf m n es) ≡ readsOf (λ k. true) (doneBy n es)
 unfolding readsOf
-reads-whole m n es = reads-both (map (asNumber m) (doneBy n es)) (record { who = m; what = publish m; read = [] } ∷ []) ∙ (append-nil _ ∙ reads-again m (doneBy n es))
+reads-whole m n es = reads-both (map (asNumber m) (doneBy n es)) (record { who = m; what = publish m; read = [] } ∷ [])
+    ∙ (append-nil _ ∙ reads-again m (doneBy n es))
 
 reads-turn : (clock : ℕ) (ns : List ℕ) (es : List Entry) → readsOf (λ m. true) (inTurn clock ns es) ≡ flatMap (λ n. readsOf (λ m. true) (doneBy n es)) ns
 unfolding readsOf inTurn flatMap
@@ -180,12 +188,14 @@ each-same f g [] h = refl
 each-same f g (n ∷ ns) h = rw (h n, each-same f g ns h) refl
 
 -- the turn's lines tell the reads of those that reached end
-pub same-said : (z : Sizes) (clock : ℕ) (steps : List Step) → readsTold (said (fresh z clock) (turnOf (fresh z clock) steps)) ≡ readsInTurn (said (fresh z clock) steps)
+pub same-said : (z : Sizes) (clock : ℕ) (steps : List Step)
+    → readsTold (said (fresh z clock) (turnOf (fresh z clock) steps)) ≡ readsInTurn (said (fresh z clock) steps)
 same-said z clock steps =
     let s = fresh z clock in
     let es = entries s steps in
     reads-said (λ m. true) s (turnOf s steps)
     ∙ (ap (readsOf (λ m. true)) (one-after-another z clock steps .same-reads)
     ∙ (reads-turn clock (endOrder es) es
-    ∙ (each-same (λ n. readsOf (λ m. true) (doneBy n es)) (λ n. readsBy n (said s steps)) (endOrder es) (λ n. sym (reads-said (λ m. eqb m n) s steps ∙ reads-done s steps n))
+    ∙ (each-same (λ n. readsOf (λ m. true) (doneBy n es)) (λ n. readsBy n (said s steps)) (endOrder es)
+    (λ n. sym (reads-said (λ m. eqb m n) s steps ∙ reads-done s steps n))
     ∙ ap (flatMap (λ n. readsBy n (said s steps))) (sym (ends-said s steps)))))

@@ -1,4 +1,5 @@
--- A log to see it at work: two that overlap and end in the other order, one not published, a read refused, an end refused, and a reader that gives up. Assumes nothing.
+-- A log to see it at work: two that overlap and end in the other order, one not published, a read refused, an end refused, and a reader that gives up. Assumes
+-- nothing.
 use mathlib.Core.Path.{_≡_, refl}
 use mathlib.Core.List.{List, [], _∷_, map, zip, flatMap}
 use mathlib.Core.Bool.{true}
@@ -23,7 +24,8 @@ use Rattle.log_in_turn.proofs.Promises.{replayed-in-turn}
 abbrev logOf : List Step → List ℕ
 logOf steps = join bytesOf (Opening (record { rows = 4; versions = 8; buckets = 4 }) 1 ∷ map Asking steps)
 
--- 1 writes row 2; 3 and 4 begin; 4 reads it, at first with too little room, and ends unpublished; 3 reads, writes row 0 and ends, once more in vain; 6 reads and aborts
+-- 1 writes row 2; 3 and 4 begin; 4 reads it, at first with too little room, and ends unpublished; 3 reads, writes row 0 and ends, once more in vain; 6 reads
+-- and aborts
 abbrev log : List ℕ
 log = logOf (
     begin ∷ put 1 2 6 10 ∷ prepare 1 ∷ install 1 ∷ end 1 ∷ publish 1
@@ -51,7 +53,9 @@ reads = (114 ∷ 111 ∷ 119 ∷ 115 ∷ 32 ∷ 48 ∷ 32 ∷ 49 ∷ 32 ∷ 50 �
 
 -- one name that opens all that is computed of a log
 unfoldable reckons : Unit {0}
-unfolding computes number widths total fields commandOf whole readRecord digitsStep digitsFor decimal spaced line writeThen turn replayFor replayFrom replay inBytes laidOut framed bytesOf zip flatMap entries endOrder doneBy inTurn commandsFor commandsIn linesIn told saysDone endsTold readsWhere askedIn turnCommands turnLog
+unfolding computes number widths total fields commandOf whole readRecord digitsStep digitsFor decimal spaced line writeThen turn replayFor replayFrom
+    replay inBytes laidOut framed bytesOf zip flatMap entries endOrder doneBy inTurn commandsFor commandsIn linesIn told saysDone endsTold readsWhere
+    askedIn turnCommands turnLog
 reckons = tt
 
 -- its replay ends with 0, and so the statement is of this log

@@ -40,7 +40,8 @@ written-none = refl
 lines-spoken : (s : Store) (steps : List Step) → linesIn (written (spoken s steps)) ≡ spoken s steps
 unfolding spoken written join linesIn
 lines-spoken s [] = refl
-lines-spoken s (a ∷ more) = answer-front a (step s a .answer) (written (spoken (step s a .store) more)) ∙ ap (λ ls. answerLine a (step s a .answer) ∷ ls) (lines-spoken (step s a .store) more)
+lines-spoken s (a ∷ more) = answer-front a (step s a .answer) (written (spoken (step s a .store) more))
+    ∙ ap (λ ls. answerLine a (step s a .answer) ∷ ls) (lines-spoken (step s a .store) more)
 
 spoken-long : (s : Store) (steps : List Step) → length (spoken s steps) ≡ length (map Asking steps)
 unfolding spoken
@@ -53,9 +54,11 @@ beside s [] = refl
 beside s (a ∷ more) = ap (λ qs. (Asking a, answerLine a (step s a .answer)) ∷ qs) (beside (step s a .store) more)
 
 -- a log of an open and steps, with what was written of them
-module _ (log report : List ℕ) (z : Sizes) (clock : ℕ) (steps : List Step) (read : commandsIn log ≡ Opening z clock ∷ map Asking steps) (says : report ≡ written (openLine ∷ spoken (fresh z clock) steps)) where
+module _ (log report : List ℕ) (z : Sizes) (clock : ℕ) (steps : List Step) (read : commandsIn log ≡ Opening z clock ∷ map Asking steps)
+    (says : report ≡ written (openLine ∷ spoken (fresh z clock) steps)) where
   lines-are : linesIn report ≡ openLine ∷ spoken (fresh z clock) steps
-  lines-are = ap linesIn (says ∙ written-more openLine _) ∙ (open-front (written (spoken (fresh z clock) steps)) ∙ ap (λ ls. openLine ∷ ls) (lines-spoken (fresh z clock) steps))
+  lines-are = ap linesIn (says ∙ written-more openLine _)
+      ∙ (open-front (written (spoken (fresh z clock) steps)) ∙ ap (λ ls. openLine ∷ ls) (lines-spoken (fresh z clock) steps))
 
   pub each-told : length (linesIn report) ≡ length (commandsIn log)
   each-told = rw (lines-are, read) (ap suc (spoken-long (fresh z clock) steps))

@@ -36,7 +36,8 @@ unfolding entries
 few-entries s [] = omega arith
 few-entries s (a ∷ more) = go (eqb (number s a) 0) (few-entries (step s a .store) more)
   where
-    go : (b : Bool) → length (entries (step s a .store) more) ≤ length more → length (cond b (entryOf s a ∷ entries (step s a .store) more) (entries (step s a .store) more)) ≤ length (a ∷ more)
+    go : (b : Bool) → length (entries (step s a .store) more) ≤ length more
+        → length (cond b (entryOf s a ∷ entries (step s a .store) more) (entries (step s a .store) more)) ≤ length (a ∷ more)
     go true h = omega arith
     go false h = omega arith
 
@@ -47,14 +48,16 @@ all-said s [] h = refl
 all-said s (a ∷ more) h = rw (says-number a (step s a .answer)) (go (eqb (number s a) 0) (all-said (step s a .store) more) h)
   where
     go : (b : Bool) → (length more ≤ length (entries (step s a .store) more) → all-of done (said (step s a .store) more) ≡ true)
-        → length (a ∷ more) ≤ length (cond b (entryOf s a ∷ entries (step s a .store) more) (entries (step s a .store) more)) → b && all-of done (said (step s a .store) more) ≡ true
+        → length (a ∷ more) ≤ length (cond b (entryOf s a ∷ entries (step s a .store) more) (entries (step s a .store) more))
+        → b && all-of done (said (step s a .store) more) ≡ true
     go true later h = later (omega arith)
     go false later h = absurd (omega (arith, few-entries (step s a .store) more))
 
 turn-accepted : (z : Sizes) (clock : ℕ) (steps : List Step) → all-of done (said (fresh z clock) (turnOf (fresh z clock) steps)) ≡ true
 turn-accepted z clock steps =
     let s = fresh z clock in
-    all-said s (turnOf s steps) (omega (arith, length-map (oneByOne (s .clock) (entries s steps)) (λ (e : Entry). e .what), ap length (one-after-another z clock steps .same-reads)))
+    all-said s (turnOf s steps)
+    (omega (arith, length-map (oneByOne (s .clock) (entries s steps)) (λ (e : Entry). e .what), ap length (one-after-another z clock steps .same-reads)))
 
 -- the open's line says 0, and is neither an end nor a read
 module _ (z : Sizes) (clock : ℕ) where
@@ -87,7 +90,8 @@ asked-again [] = refl
 asked-again (a ∷ more) = ap (λ l. a ∷ l) (asked-again more)
 
 -- a log of an open and steps
-module _ (log : List ℕ) (z : Sizes) (clock : ℕ) (steps : List Step) (read : commandsIn log ≡ Opening z clock ∷ map Asking steps) (o : canOpen z clock ≡ true) (f : AllFit (Opening z clock ∷ map Asking steps)) where
+module _ (log : List ℕ) (z : Sizes) (clock : ℕ) (steps : List Step) (read : commandsIn log ≡ Opening z clock ∷ map Asking steps)
+    (o : canOpen z clock ≡ true) (f : AllFit (Opening z clock ∷ map Asking steps)) where
   abbrev taken : List Step
   taken = turnOf (fresh z clock) steps
 
@@ -116,7 +120,8 @@ module _ (log : List ℕ) (z : Sizes) (clock : ℕ) (steps : List Step) (read : 
   turned : (room : ℕ) → replay log room .text ≡ written (openLine ∷ spoken (fresh z clock) steps) → ReplayedInTurn log room
   turned room says =
       let text = replay log room .text in
-      let turn-told : told (turnLog log) report-is ≡ opened z clock ∷ said (fresh z clock) taken = told-is (turnLog log) report-is z clock taken read-back refl in
+      let turn-told : told (turnLog log) report-is ≡ opened z clock ∷ said (fresh z clock) taken =
+      told-is (turnLog log) report-is z clock taken read-back refl in
       let log-told : told log text ≡ opened z clock ∷ said (fresh z clock) steps = told-is log text z clock steps read says in
       record {
         report = report-is;
@@ -125,7 +130,8 @@ module _ (log : List ℕ) (z : Sizes) (clock : ℕ) (steps : List Step) (read : 
         all-done = ap (all-of done) turn-told ∙ open-all z clock (said (fresh z clock) taken) (turn-accepted z clock steps);
         run-told = each-told log text z clock steps read says;
         same-reads = ap readsTold turn-told
-            ∙ (open-reads z clock (λ n. true) (said (fresh z clock) taken) ∙ (same-said z clock steps ∙ sym (ap readsInTurn log-told ∙ open-turn z clock (said (fresh z clock) steps))));
+            ∙ (open-reads z clock (λ n. true) (said (fresh z clock) taken)
+            ∙ (same-said z clock steps ∙ sym (ap readsInTurn log-told ∙ open-turn z clock (said (fresh z clock) steps))));
       }
 
 -- the empty log

@@ -29,7 +29,8 @@ turnCommands (Asking a ∷ cs) = []
 unfoldable pub turnLog : List ℕ → List ℕ
 turnLog log = join bytesOf (turnCommands (commandsIn log))
 
--- Were a log's payments as if made in turn? With room enough the replay of the turn's log ends with 0 and this report, which tells every record of it, each as done; and its reads are those of the log's transactions that reached end, line for line.
+-- Were a log's payments as if made in turn? With room enough the replay of the turn's log ends with 0 and this report, which tells every record of it, each as
+-- done; and its reads are those of the log's transactions that reached end, line for line.
 pub record ReplayedInTurn (log : List ℕ) (room : ℕ) : Type 0 where
   pub report : List ℕ
   pub ends-well : (more : ℕ) → length report ≤ min more mostRoom → replay (turnLog log) more ≡ stops 0 report

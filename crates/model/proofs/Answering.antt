@@ -31,18 +31,21 @@ exact s a = record {
 }
 
 -- validate answers the verdict that has its cause
-pub judges : (s : Store) (t : ℕ) (v : Verdict) → step s (validate t) .answer ≡ Judged v ↔ Ready s (validate t) and BucketsFree s t (readBuckets (txnOf s t)) and Cause (s .chains) (s .index) (txnOf s t) v
+pub judges : (s : Store) (t : ℕ) (v : Verdict) → step s (validate t) .answer ≡ Judged v
+    ↔ Ready s (validate t) and BucketsFree s t (readBuckets (txnOf s t)) and Cause (s .chains) (s .index) (txnOf s t) v
 judges s t v = (forth, back)
   where
     given : step s (validate t) .answer ≡ Judged v → Judged (verdict (s .chains) (s .index) (txnOf s t)) ≡ Judged v
     given e = sym (answers s (validate t) (ap answerNumber e)) ∙ e
 
-    forth : step s (validate t) .answer ≡ Judged v → Ready s (validate t) and BucketsFree s t (readBuckets (txnOf s t)) and Cause (s .chains) (s .index) (txnOf s t) v
+    forth : step s (validate t) .answer ≡ Judged v
+        → Ready s (validate t) and BucketsFree s t (readBuckets (txnOf s t)) and Cause (s .chains) (s .index) (txnOf s t) v
     forth e =
         let w = validate-0 s t .0 (ap answerNumber e) in
         let f = given e in
         let g : verdict (s .chains) (s .index) (txnOf s t) ≡ v = cc in
         (w .0, (w .1, verdict-cause (s .chains) (s .index) (txnOf s t) v .0 g))
 
-    back : Ready s (validate t) and BucketsFree s t (readBuckets (txnOf s t)) and Cause (s .chains) (s .index) (txnOf s t) v → step s (validate t) .answer ≡ Judged v
+    back : Ready s (validate t) and BucketsFree s t (readBuckets (txnOf s t)) and Cause (s .chains) (s .index) (txnOf s t) v
+        → step s (validate t) .answer ≡ Judged v
     back w = answers s (validate t) (validate-0 s t .1 (w .0, w .1 .0)) ∙ ap Judged (verdict-cause (s .chains) (s .index) (txnOf s t) v .1 (w .1 .1))

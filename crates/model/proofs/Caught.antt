@@ -7,7 +7,8 @@ use Prim.Native.Nat.{ℕ}
 use Rattle.base_lists.specs.Table.{update}
 use Rattle.model.specs.Store.{Store, Txn, Open, noTxn, fresh}
 use Rattle.model.specs.Verdict.{Row}
-use Rattle.model.specs.Refusals.{Step, begin, capture, collect, rows, put, erase, prepare, install, end, publish, validate, Taken, Stale, NoVersions, txnOf}
+use Rattle.model.specs.Refusals.{Step, begin, capture, collect, rows, put, erase, prepare, install, end, publish, validate, Taken, Stale, NoVersions}
+use Rattle.model.specs.Refusals.{txnOf}
 use Rattle.model.specs.Machine.{Done, Stamp, Rows, Judged, Refused, step, run}
 use Rattle.model.proofs.Computes.{computes}
 
@@ -36,9 +37,25 @@ erasedTwice = erased ++ (begin ∷ erase 5 2 ∷ prepare 5 ∷ install 5 ∷ end
 -- transaction 5 is open, and every bucket has this stamp
 abbrev pub stamped : ℕ → Store
 stamped n =
-    let x : Txn = record { number = 5; snapshot = record { xmin = 5; xmax = 6; active = [] }; marked = false; phase = Open; reads = []; writes = []; records = []; candidates = [] } in
+    let x : Txn = record {
+      number = 5;
+      snapshot = record { xmin = 5; xmax = 6; active = [] };
+      marked = false;
+      phase = Open;
+      reads = [];
+      writes = [];
+      records = [];
+      candidates = [];
+    } in
     let s = after [] in
-    record { sizes = s .sizes; clock = 6; chains = s .chains; index = record { stamp = λ b. n; posted = λ r. none }; held = s .held; txns = update (λ i. noTxn) 0 x }
+    record {
+      sizes = s .sizes;
+      clock = 6;
+      chains = s .chains;
+      index = record { stamp = λ b. n; posted = λ r. none };
+      held = s .held;
+      txns = update (λ i. noTxn) 0 x;
+    }
 
 pub record Caught : Type 0 where
   -- accepting a stamp equal to the number
@@ -60,21 +77,28 @@ pub record Caught : Type 0 where
   -- finding candidates alone, without own pending rows
   pub own-row : step (after (begin ∷ put 1 2 6 10 ∷ capture 1 6 ∷ collect 1 ∷ [])) (rows 1 4) .answer ≡ Rows (2 ∷ [])
   -- recording only rows of the first read
-  pub second-read : txnOf (after (begin ∷ put 1 2 6 10 ∷ put 1 0 3 7 ∷ prepare 1 ∷ install 1 ∷ end 1 ∷ publish 1 ∷ begin ∷ capture 3 6 ∷ collect 3 ∷ rows 3 4 ∷ capture 3 3 ∷ collect 3 ∷ rows 3 4 ∷ [])) 3 .records
+  pub second-read : txnOf (after (begin ∷ put 1 2 6 10 ∷ put 1 0 3 7 ∷ prepare 1 ∷ install 1 ∷ end 1 ∷ publish 1 ∷ begin ∷ capture 3 6 ∷ collect 3
+      ∷ rows 3 4 ∷ capture 3 3 ∷ collect 3 ∷ rows 3 4 ∷ [])) 3 .records
       ≡ record { row = 2; ptr = 2; xmin = 1 } ∷ record { row = 0; ptr = 1; xmin = 1 } ∷ []
   -- judging under a bucket that another holds
-  pub held-verdict : step (after (wrote ++ (begin ∷ capture 3 6 ∷ collect 3 ∷ rows 3 4 ∷ begin ∷ put 4 0 2 7 ∷ prepare 4 ∷ []))) (validate 3) .answer ≡ Refused Taken
+  pub held-verdict : step (after (wrote ++ (begin ∷ capture 3 6 ∷ collect 3 ∷ rows 3 4 ∷ begin ∷ put 4 0 2 7 ∷ prepare 4 ∷ []))) (validate 3) .answer
+      ≡ Refused Taken
   -- a record that passes since its xmax is below the snapshot's, though it was active
-  pub active-xmax : step (after (wrote ++ (begin ∷ begin ∷ capture 4 6 ∷ collect 4 ∷ rows 4 4 ∷ put 3 2 6 11 ∷ prepare 3 ∷ install 3 ∷ end 3 ∷ publish 3 ∷ []))) (validate 4) .answer ≡ Judged (Row 2 1)
+  pub active-xmax : step (after
+      (wrote ++ (begin ∷ begin ∷ capture 4 6 ∷ collect 4 ∷ rows 4 4 ∷ put 3 2 6 11 ∷ prepare 3 ∷ install 3 ∷ end 3 ∷ publish 3 ∷ [])))
+      (validate 4) .answer ≡ Judged (Row 2 1)
   -- forgetting what others have reserved
-  pub reserved-version : step (run (fresh (record { rows = 4; versions = 1; buckets = 4 }) 1) (begin ∷ put 1 0 1 7 ∷ prepare 1 ∷ begin ∷ put 2 1 2 8 ∷ [])) (prepare 2) .answer ≡ Refused NoVersions
+  pub reserved-version : step
+      (run (fresh (record { rows = 4; versions = 1; buckets = 4 }) 1) (begin ∷ put 1 0 1 7 ∷ prepare 1 ∷ begin ∷ put 2 1 2 8 ∷ [])) (prepare 2) .answer
+      ≡ Refused NoVersions
   -- a version for an erase of nothing, a bucket for a put before it, or no claim
   pub nothing-installed : after (erasing ++ (install 1 ∷ [])) .chains .used ≡ 0
   pub nothing-held : after erasing .held .holder 2 ≡ 0
   pub nothing-claimed : after erasing .held .claim 2 ≡ 1
   -- counting an erase of nothing, the own or another's
   pub nothing-counted : step (run (fresh (record { rows = 4; versions = 1; buckets = 4 }) 1) (begin ∷ erase 1 0 ∷ put 1 1 2 8 ∷ [])) (prepare 1) .answer ≡ Done
-  pub nothing-reserved : step (run (fresh (record { rows = 4; versions = 1; buckets = 4 }) 1) (begin ∷ erase 1 0 ∷ prepare 1 ∷ begin ∷ put 2 1 2 8 ∷ [])) (prepare 2) .answer ≡ Done
+  pub nothing-reserved : step (run (fresh (record { rows = 4; versions = 1; buckets = 4 }) 1) (begin ∷ erase 1 0 ∷ prepare 1 ∷ begin ∷ put 2 1 2 8 ∷ []))
+      (prepare 2) .answer ≡ Done
   -- taking an erased head for a live one, by the version under it; an erase of a live row gets its version, and stamps
   pub erased-once : (after erased .chains .used ≡ 2) × (after erased .index .stamp 2 ≡ 4)
   pub erased-twice : (after erasedTwice .chains .used ≡ 2) × (after erasedTwice .index .stamp 2 ≡ 4)

@@ -10,7 +10,8 @@ use Rattle.base_lists.specs.Table.{update-elim, update-same, update-other}
 use Rattle.model.specs.Store.{Chains, Store, Sizes, Txn, fresh}
 use Rattle.model.specs.Seeing.{lastWrite}
 use Rattle.model.specs.Steps.{push, pushAll, versionRows, newKey, writtenPayload}
-use Rattle.model.proofs.Move.{Move, stay, did-begin, did-mark, did-capture, did-collect, did-rows, did-write, did-prepare, did-install, did-end, did-publish, did-abort}
+use Rattle.model.proofs.Move.{Move, stay, did-begin, did-mark, did-capture, did-collect, did-rows, did-write, did-prepare, did-install, did-end}
+use Rattle.model.proofs.Move.{did-publish, did-abort}
 
 pub record Chained (c : Chains) : Type 0 where
   pub next-falls : (p : ℕ) → 1 ≤ p → p ≤ c .used → c .next p < p
@@ -42,7 +43,8 @@ module _ (n r : ℕ) (k : Option ℕ) (payload : ℕ) (c : Chains) (g : Chained 
   old-xmax p h d = let f : p ≢ suc (c .used) = fresh-pointer p h in simp update-other
 
   push-next : (p : ℕ) → 1 ≤ p → p ≤ c′ .used → c′ .next p < p
-  push-next p l u = update-elim (_< p) (c .next) (suc (c .used)) (c .head r) p (λ e. omega (arith, g .heads-in r)) (λ d. omega (arith, g .next-falls p l (omega arith)))
+  push-next p l u = update-elim (_< p) (c .next) (suc (c .used)) (c .head r) p (λ e. omega (arith, g .heads-in r))
+      (λ d. omega (arith, g .next-falls p l (omega arith)))
 
   push-open : (q : ℕ) → c′ .head q ≢ 0 → c′ .xmax (c′ .head q) ≡ 0
   push-open q = update-elim (λ h. h ≢ 0 → c′ .xmax h ≡ 0) (c .head) r (suc (c .used)) q
@@ -52,20 +54,26 @@ module _ (n r : ℕ) (k : Option ℕ) (payload : ℕ) (c : Chains) (g : Chained 
   push-closed : (q : ℕ) → 1 ≤ q → q ≤ c′ .used → c′ .next q ≢ 0 → c′ .xmax (c′ .next q) ≡ c′ .xmin q
   push-closed q l u = elim (ℕ-discrete q (suc (c .used))) [
     | yes e ↦ simp (e, update-same) (λ z. refl)
-    | no d ↦ rw (update-other (c .next) (suc (c .used)) (c .head r) q d, update-other (c .xmin) (suc (c .used)) n q d) (λ z. old-xmax (c .next q) (omega (arith, g .next-falls q l (omega arith))) (top c g q r l (omega arith) z) ∙ g .closed-by q l (omega arith) z)
+    | no d ↦ rw (update-other (c .next) (suc (c .used)) (c .head r) q d, update-other (c .xmin) (suc (c .used)) n q d)
+        (λ z. old-xmax (c .next q) (omega (arith, g .next-falls q l (omega arith))) (top c g q r l (omega arith) z) ∙ g .closed-by q l (omega arith) z)
   ]
 
   push-one-head : (p q : ℕ) → c′ .head p ≢ 0 → c′ .head p ≡ c′ .head q → p ≡ q
   push-one-head p q z e = elim (ℕ-discrete p r) [
     | yes a ↦ elim (ℕ-discrete q r) [ yes b ↦ a ∙ sym b | no b ↦ absurd (omega (arith, simp (a, update-same, update-other) at e, g .heads-in q)) ]
-    | no a ↦ elim (ℕ-discrete q r) [ yes b ↦ absurd (omega (arith, simp (b, update-same, update-other) at e, g .heads-in p)) | no b ↦ g .one-head p q (simp update-other at z) (simp update-other at e) ]
+    | no a ↦ elim (ℕ-discrete q r) [
+      | yes b ↦ absurd (omega (arith, simp (b, update-same, update-other) at e, g .heads-in p))
+      | no b ↦ g .one-head p q (simp update-other at z)
+          (simp update-other at e)
+    ]
   ]
 
   push-one-above : (p q : ℕ) → 1 ≤ p → p ≤ c′ .used → 1 ≤ q → q ≤ c′ .used → c′ .next p ≢ 0 → c′ .next p ≡ c′ .next q → p ≡ q
   push-one-above p q lp up lq uq z e = elim (ℕ-discrete p (suc (c .used))) [
     | yes a ↦ elim (ℕ-discrete q (suc (c .used))) [
       | yes b ↦ a ∙ sym b
-      | no b ↦ let f : c .head r ≡ c .next q = simp (a, update-same, update-other) at e in absurd (top c g q r lq (omega arith) (λ y. simp (a, update-same) at z (f ∙ y)) (sym f))
+      | no b ↦ let f : c .head r ≡ c .next q = simp (a, update-same, update-other) at e in
+          absurd (top c g q r lq (omega arith) (λ y. simp (a, update-same) at z (f ∙ y)) (sym f))
     ]
     | no a ↦ elim (ℕ-discrete q (suc (c .used))) [
       | yes b ↦ absurd (top c g p r lp (omega arith) (simp update-other at z) (simp (b, update-same, update-other) at e))
@@ -85,7 +93,8 @@ module _ (n r : ℕ) (k : Option ℕ) (payload : ℕ) (c : Chains) (g : Chained 
   }
 
 -- what each push keeps holds after all
-pub pushAll-all : (P : Chains → Type 0) (x : Txn) → ((r : ℕ) (k : Option ℕ) (payload : ℕ) (c : Chains) → P c → P (push (x .number) r k payload c)) → (rs : List ℕ) (c : Chains) → P c → P (pushAll x rs c)
+pub pushAll-all : (P : Chains → Type 0) (x : Txn) → ((r : ℕ) (k : Option ℕ) (payload : ℕ) (c : Chains) → P c → P (push (x .number) r k payload c))
+    → (rs : List ℕ) (c : Chains) → P c → P (pushAll x rs c)
 unfolding pushAll
 pushAll-all P x h [] c p = p
 pushAll-all P x h (r ∷ rs) c p = pushAll-all P x h rs (push (x .number) r (newKey x r) (writtenPayload (lastWrite (x .writes) r)) c) (h r _ _ c p)
@@ -99,7 +108,9 @@ chained-move s s′ g (did-collect i a b) = g
 chained-move s s′ g (did-rows i a b c) = g
 chained-move s s′ g (did-write i w a b c d) = g
 chained-move s s′ g (did-prepare i a b c) = g
-chained-move s s′ g (did-install i a b) = pushAll-all Chained (s .txns i) (λ r k payload c h. chained-push (s .txns i .number) r k payload c h a) (versionRows (s .sizes) (s .chains) (s .txns i .writes)) (s .chains) g
+chained-move s s′ g (did-install i a b) =
+    pushAll-all Chained (s .txns i) (λ r k payload c h. chained-push (s .txns i .number) r k payload c h a)
+    (versionRows (s .sizes) (s .chains) (s .txns i .writes)) (s .chains) g
 chained-move s s′ g (did-end i a b) = g
 chained-move s s′ g (did-publish i a b) = g
 chained-move s s′ g (did-abort i a b) = g

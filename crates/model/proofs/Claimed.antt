@@ -1,4 +1,5 @@
--- The claim keeps the head: from an accepted prepare on nobody else gives a version to its pending rows, so install and publish see what prepare saw; and one that erases nothing leaves nothing. Assumes nothing.
+-- The claim keeps the head: from an accepted prepare on nobody else gives a version to its pending rows, so install and publish see what prepare saw; and one
+-- that erases nothing leaves nothing. Assumes nothing.
 use mathlib.Core.Path.{_≡_, refl, sym, ap, _∙_}
 use mathlib.Core.Bool.{true}
 use mathlib.Core.Logic.{_≢_, inl, ⊎-elim}
@@ -17,7 +18,8 @@ use Rattle.model.specs.Machine.{at, accepted, step, run, canOpen}
 use Rattle.model.specs.Holding.{Writes, Gets, Made, ErasesNothing}
 use Rattle.model.specs.Given.{number, Lives}
 use Rattle.model.specs.Demands.{HeadKept, CostsNothing}
-use Rattle.model.proofs.Move.{Move, stay, did-begin, did-mark, did-capture, did-collect, did-rows, did-write, did-prepare, did-install, did-end, did-publish, did-abort, step-move, run-inv}
+use Rattle.model.proofs.Move.{Move, stay, did-begin, did-mark, did-capture, did-collect, did-rows, did-write, did-prepare, did-install, did-end}
+use Rattle.model.proofs.Move.{did-publish, did-abort, step-move, run-inv}
 use Rattle.model.proofs.Numbers.{clock-move}
 use Rattle.model.proofs.Holders.{one-claim, repost-elim}
 use Rattle.model.proofs.Made.{gets-writes, made-writes, made-head, which-made, gets-or-not, nothing-got, versionRows-same}
@@ -83,7 +85,8 @@ module _ (c₁ : Chains) (x₁ : Txn) where
   made-as-seen z c x k none-own a = pick-among _ _ 0 (z .rows) forth back
     where
       forth : (r : ℕ) → Made z c x₁ r → Gets z c₁ x₁ r
-      forth r m = let w = made-writes z c x₁ r m in ⊎-elim (λ g. g) (λ e. absurd (not-own (k .stays a r w (nothing-got z c₁ x₁ r e)) (made-head z c x₁ r m))) (gets-or-not z c₁ x₁ r w)
+      forth r m = let w = made-writes z c x₁ r m in
+          ⊎-elim (λ g. g) (λ e. absurd (not-own (k .stays a r w (nothing-got z c₁ x₁ r e)) (made-head z c x₁ r m))) (gets-or-not z c₁ x₁ r w)
         where
           not-own : SameHead c₁ c r → (1 ≤ c .head r) × (c .xmin (c .head r) ≡ x₁ .number) → ⊥
           not-own h p = none-own r (omega (arith, h .head-is, p .0)) (sym (h .xmin-is) ∙ p .1)
@@ -92,8 +95,10 @@ module _ (c₁ : Chains) (x₁ : Txn) where
       back r m = let h = k .over a r m in which-made z c x₁ r (gets-writes z c₁ x₁ r m) (h .head-pos) (h .xmin-is)
 
   -- one place is filled by another, or freed
-  keeps-other : (s : Store) (i : ℕ) (x : Txn) → KeepsAt c₁ x₁ s → x .number ≢ x₁ .number → (j : ℕ) → update (s .txns) i x j .number ≡ x₁ .number → Keeps c₁ x₁ (s .sizes) (s .chains) (update (s .txns) i x j)
-  keeps-other s i x w e j = update-elim (λ y. y .number ≡ x₁ .number → Keeps c₁ x₁ (s .sizes) (s .chains) y) (s .txns) i x j (λ d p. absurd (e p)) (λ d p. w .here j p)
+  keeps-other : (s : Store) (i : ℕ) (x : Txn) → KeepsAt c₁ x₁ s → x .number ≢ x₁ .number → (j : ℕ) → update (s .txns) i x j .number ≡ x₁ .number
+      → Keeps c₁ x₁ (s .sizes) (s .chains) (update (s .txns) i x j)
+  keeps-other s i x w e j =
+      update-elim (λ y. y .number ≡ x₁ .number → Keeps c₁ x₁ (s .sizes) (s .chains) y) (s .txns) i x j (λ d p. absurd (e p)) (λ d p. w .here j p)
 
   -- one goes on that is not yet Prepared, so it is another
   keeps-early : (s : Store) (i : ℕ) (x : Txn) → KeepsAt c₁ x₁ s → x .number ≡ s .txns i .number → rank (s .txns i .phase) < phasePrepared → (j : ℕ)
@@ -103,7 +108,14 @@ module _ (c₁ : Chains) (x₁ : Txn) where
   keeps-end : (s : Store) (i : ℕ) → KeepsAt c₁ x₁ s → rank (s .txns i .phase) ≡ phaseInstalled → let x = withPhase (s .txns i) Ended in (j : ℕ)
       → update (s .txns) i x j .number ≡ x₁ .number → Keeps c₁ x₁ (s .sizes) (s .chains) (update (s .txns) i x j)
   keeps-end s i w a j = update-elim (λ y. y .number ≡ x₁ .number → Keeps c₁ x₁ (s .sizes) (s .chains) y) (s .txns) i (withPhase (s .txns i) Ended) j
-      (λ d p. let k = w .here i p in record { writes-are = k .writes-are; late = omega arith; waits = λ b. absurd (omega arith); over = λ b. k .over (omega arith); stays = λ b. k .stays (omega arith) })
+      (λ d p. let k = w .here i p in
+      record {
+        writes-are = k .writes-are;
+        late = omega arith;
+        waits = λ b. absurd (omega arith);
+        over = λ b. k .over (omega arith);
+        stays = λ b. k .stays (omega arith);
+      })
       (λ d p. w .here j p)
 
   module _ (s : Store) (i : ℕ) (g : Good s) (a : rank (s .txns i .phase) ≡ phasePrepared) where
@@ -113,18 +125,25 @@ module _ (c₁ : Chains) (x₁ : Txn) where
     same-on : (r : ℕ) → installed s i .chains .head r ≡ s .chains .head r → SameHead c₁ (s .chains) r → SameHead c₁ (installed s i .chains) r
     same-on r e = same-grown (s .txns i) _ c₁ (s .chains) (installed s i .chains) gr r (g .chained .heads-in r) e
 
-    over-on : (r : ℕ) → installed s i .chains .head r ≡ s .chains .head r → OverHead c₁ (x₁ .number) (s .chains) r → OverHead c₁ (x₁ .number) (installed s i .chains) r
+    over-on : (r : ℕ) → installed s i .chains .head r ≡ s .chains .head r → OverHead c₁ (x₁ .number) (s .chains) r
+        → OverHead c₁ (x₁ .number) (installed s i .chains) r
     over-on r e = over-grown (s .txns i) _ c₁ (s .chains) (installed s i .chains) gr r (g .chained .heads-in r) e (x₁ .number)
 
     -- its own install: over the heads that prepare saw
-    keeps-own : s .txns i .number ≡ x₁ .number → Keeps c₁ x₁ (s .sizes) (s .chains) (s .txns i) → Keeps c₁ x₁ (s .sizes) (installed s i .chains) (withPhase (s .txns i) Installed)
+    keeps-own : s .txns i .number ≡ x₁ .number → Keeps c₁ x₁ (s .sizes) (s .chains) (s .txns i)
+        → Keeps c₁ x₁ (s .sizes) (installed s i .chains) (withPhase (s .txns i) Installed)
     keeps-own p k =
         let same = gets-as-seen (s .sizes) (s .chains) (s .txns i) k a in
         record {
           writes-are = k .writes-are;
           late = omega arith;
           waits = λ b. absurd (omega arith);
-          over = λ b r m. let h = gr .head-new r (rw same m) in record { head-pos = omega (arith, h .above); xmin-is = h .xmin-is ∙ p; next-is = h .next-is ∙ k .waits a r (gets-writes (s .sizes) c₁ x₁ r m) .head-is };
+          over = λ b r m. let h = gr .head-new r (rw same m) in
+              record {
+                head-pos = omega (arith, h .above);
+                xmin-is = h .xmin-is ∙ p;
+                next-is = h .next-is ∙ k .waits a r (gets-writes (s .sizes) c₁ x₁ r m) .head-is;
+              };
           stays = λ b r w no. same-on r (gr .head-old r (λ m. no (rw same at m))) (k .waits a r w);
         }
 
@@ -139,14 +158,19 @@ module _ (c₁ : Chains) (x₁ : Txn) where
     }
       where
         alone : (r : ℕ) → Writes (s .sizes) x₁ r → installed s i .chains .head r ≡ s .chains .head r
-        alone r w = gr .head-old r (λ m. d (one-claim s i (g .numbers) (g .holders) j i r (k .late, rw (k .writes-are) w) (omega arith, gets-writes (s .sizes) (s .chains) (s .txns i) r m)))
+        alone r w = gr .head-old r
+            (λ m. d (one-claim s i (g .numbers) (g .holders) j i r (k .late, rw (k .writes-are) w)
+            (omega arith, gets-writes (s .sizes) (s .chains) (s .txns i) r m)))
 
-    keeps-install : KeepsAt c₁ x₁ s → (j : ℕ) → installed s i .txns j .number ≡ x₁ .number → Keeps c₁ x₁ (s .sizes) (installed s i .chains) (installed s i .txns j)
-    keeps-install w j = update-elim (λ y. y .number ≡ x₁ .number → Keeps c₁ x₁ (s .sizes) (installed s i .chains) y) (s .txns) i (withPhase (s .txns i) Installed) j
+    keeps-install : KeepsAt c₁ x₁ s → (j : ℕ) → installed s i .txns j .number ≡ x₁ .number
+        → Keeps c₁ x₁ (s .sizes) (installed s i .chains) (installed s i .txns j)
+    keeps-install w j = update-elim (λ y. y .number ≡ x₁ .number → Keeps c₁ x₁ (s .sizes) (installed s i .chains) y) (s .txns) i
+        (withPhase (s .txns i) Installed) j
         (λ d p. keeps-own p (w .here i p))
         (λ d p. keeps-apart j d (w .here j p))
 
-  here-move : (s s′ : Store) {a : ℕ} → Good s → KeepsAt c₁ x₁ s → Move s a s′ → (j : ℕ) → s′ .txns j .number ≡ x₁ .number → Keeps c₁ x₁ (s′ .sizes) (s′ .chains) (s′ .txns j)
+  here-move : (s s′ : Store) {a : ℕ} → Good s → KeepsAt c₁ x₁ s → Move s a s′ → (j : ℕ) → s′ .txns j .number ≡ x₁ .number
+      → Keeps c₁ x₁ (s′ .sizes) (s′ .chains) (s′ .txns j)
   here-move s s′ g w (stay i) = w .here
   here-move s s′ g w (did-begin i a b c d) = keeps-other s i (newTxn s) w (λ e. omega (arith, w .number-old))
   here-move s s′ g w (did-mark i a b) = keeps-early s i _ w refl (omega arith)
@@ -175,8 +199,15 @@ module _ (s₁ : Store) (t : ℕ) (g : Good s₁) (l : Lives s₁ t) (a : rank (
   keeps-prepared = record {
     number-pos = omega (arith, numbered, l .3);
     number-old = g .numbers .below (at s₁ t);
-    here = λ j. update-elim (λ y. y .number ≡ txnOf s₁ t .number → Keeps (s₁ .chains) (txnOf s₁ t) (s₁ .sizes) (s₁ .chains) y) (s₁ .txns) (at s₁ t) (withPhase (txnOf s₁ t) Prepared) j
-        (λ e p. record { writes-are = refl; late = omega arith; waits = λ b r w. record { head-is = refl; key-is = refl; xmin-is = refl }; over = λ b. absurd (omega arith); stays = λ b. absurd (omega arith) })
+    here = λ j. update-elim (λ y. y .number ≡ txnOf s₁ t .number → Keeps (s₁ .chains) (txnOf s₁ t) (s₁ .sizes) (s₁ .chains) y) (s₁ .txns) (at s₁ t)
+        (withPhase (txnOf s₁ t) Prepared) j
+        (λ e p. record {
+          writes-are = refl;
+          late = omega arith;
+          waits = λ b r w. record { head-is = refl; key-is = refl; xmin-is = refl };
+          over = λ b. absurd (omega arith);
+          stays = λ b. absurd (omega arith);
+        })
         (λ d p. absurd (d (sym (g .numbers .distinct (at s₁ t) j (omega (arith, numbered, l .3)) (sym p)))));
   }
 
@@ -191,7 +222,8 @@ module _ (s₁ : Store) (t : ℕ) (g : Good s₁) (l : Lives s₁ t) (a : rank (
     from-prepared = k .late;
     head-waits = λ b r w. k .waits b r w .head-is;
     gets-same = λ b. rw e (gets-as-seen (s₁ .chains) (txnOf s₁ t) (s₁ .sizes) (s .chains) (txnOf s t) k b);
-    made-same = λ b. rw (e, k .writes-are) (ap (λ m. madeRows (s₁ .sizes) (s .chains) m (txnOf s₁ t .writes)) (sym numbered) ∙ made-as-seen (s₁ .chains) (txnOf s₁ t) (s₁ .sizes) (s .chains) (txnOf s t) k none-own b);
+    made-same = λ b. rw (e, k .writes-are) (ap (λ m. madeRows (s₁ .sizes) (s .chains) m (txnOf s₁ t .writes)) (sym numbered)
+        ∙ made-as-seen (s₁ .chains) (txnOf s₁ t) (s₁ .sizes) (s .chains) (txnOf s t) k none-own b);
     made-over = λ b r m. k .over b r m .next-is;
     head-stays = λ b r w no. k .stays b r w no .head-is;
   }
@@ -239,8 +271,10 @@ module _ (s : Store) (t : ℕ) (g : Good s) (l : Lives s t) where
 
     nothing-posted : (r : ℕ) → step s (publish t) .store .index .posted r ≡ s .index .posted r
     unfolding accepted
-    nothing-posted r = ap (λ w. w .store .index .posted r) (done-does s (publish t) z) ∙ repost-elim (λ o. o ≡ s .index .posted r) (txnOf s t) (pendingRows (s .sizes) (txnOf s t .writes)) (s .index .posted) r
-        (λ w. sym (posted-new s (g .numbers) (g .holders) (g .written) (at s t) r (omega (arith, lives-number s t l, l .3)) (omega (arith, publish-0 s t .0 z .2)) w (λ m. rw made-none at m)))
+    nothing-posted r = ap (λ w. w .store .index .posted r) (done-does s (publish t) z)
+        ∙ repost-elim (λ o. o ≡ s .index .posted r) (txnOf s t) (pendingRows (s .sizes) (txnOf s t .writes)) (s .index .posted) r
+        (λ w. sym (posted-new s (g .numbers) (g .holders) (g .written) (at s t) r (omega (arith, lives-number s t l, l .3))
+        (omega (arith, publish-0 s t .0 z .2)) w (λ m. rw made-none at m)))
         (λ d. refl)
 
 pub costs-nothing : (z : Sizes) (clock : ℕ) (before : List Step) → canOpen z clock ≡ true → clock ≤ lastNumber → (t : ℕ) (more : List Step) →
@@ -252,8 +286,10 @@ costs-nothing z clock before e c t more o l nothing =
     let s = run (step s₁ (prepare t) .store) more in
     let k = head-kept z clock before e c t more o l in
     let g = good-run _ (good-move s₁ _ (opened-good z clock before e c) (step-move s₁ (prepare t))) more in
-    let none = no-entries (versionRows (s₁ .sizes) (s₁ .chains) (txnOf s₁ t .writes)) (λ r m. nothing-got (s₁ .sizes) (s₁ .chains) (txnOf s₁ t) r (nothing r (gets-writes (s₁ .sizes) (s₁ .chains) (txnOf s₁ t) r m)) m) in
-    let made : number s (publish t) ≡ 0 → madeRows (s .sizes) (s .chains) t (txnOf s t .writes) ≡ [] = λ d. k .made-same (omega (arith, publish-0 s t .0 d .2)) ∙ none in
+    let none = no-entries (versionRows (s₁ .sizes) (s₁ .chains) (txnOf s₁ t .writes))
+    (λ r m. nothing-got (s₁ .sizes) (s₁ .chains) (txnOf s₁ t) r (nothing r (gets-writes (s₁ .sizes) (s₁ .chains) (txnOf s₁ t) r m)) m) in
+    let made : number s (publish t) ≡ 0 → madeRows (s .sizes) (s .chains) t (txnOf s t .writes) ≡ [] =
+    λ d. k .made-same (omega (arith, publish-0 s t .0 d .2)) ∙ none in
     record {
       installs-none = λ d. nothing-installed s t g l (k .gets-same (install-0 s t .0 d .2) ∙ none) d;
       publishes-none = λ d. nothing-published s t g l (made d) d;

@@ -31,5 +31,6 @@ pub read-below : (ix : Index) (n : ℕ) (q : IndexRead) → badRead ix n q ≡ f
 read-below ix n q e = read-bad ix n q .fails e .1
 
 -- a good record's version has xmax 0, or the own number, or one that is seen
-pub record-open : (c : Chains) (x : Txn) (q : ReadRecord) → badRecord c (x .number) (x .snapshot) q ≡ false → (c .xmax (q .ptr) ≡ 0) ⊎ ((c .xmax (q .ptr) ≡ x .number) ⊎ (seen (x .snapshot) (c .xmax (q .ptr)) ≡ true))
+pub record-open : (c : Chains) (x : Txn) (q : ReadRecord) → badRecord c (x .number) (x .snapshot) q ≡ false
+    → (c .xmax (q .ptr) ≡ 0) ⊎ ((c .xmax (q .ptr) ≡ x .number) ⊎ (seen (x .snapshot) (c .xmax (q .ptr)) ≡ true))
 record-open c x q e = ⊎-elim (λ o. ⊎-elim inl (λ f. inr (inl f)) o) (λ w. inr (inr (which-seen (x .snapshot) _ (w .0) (w .1)))) (record-bad c x q .fails e .1)

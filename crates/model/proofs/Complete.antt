@@ -46,7 +46,8 @@ key-down c v k no-turn p q (down l u t m) e = key-down c v k no-turn (c .next p)
 
 module _ (s : Store) (n : Numbers (s .clock) (s .txns)) (h : HoldersAt s) (w : WrittenAt s) where
   -- the live maker of a version wants the buckets of its key and of the key under it
-  pub maker-wants : (q m k : ℕ) → 1 ≤ q → q ≤ s .chains .used → Live (s .txns m) → s .chains .xmin q ≡ s .txns m .number → Carries (s .chains) q k → Wants (s .sizes) (s .index .posted) (s .txns m) (bucketOf (s .sizes) k)
+  pub maker-wants : (q m k : ℕ) → 1 ≤ q → q ≤ s .chains .used → Live (s .txns m) → s .chains .xmin q ≡ s .txns m .number → Carries (s .chains) q k
+      → Wants (s .sizes) (s .index .posted) (s .txns m) (bucketOf (s .sizes) k)
   maker-wants q m k p u l f carries =
       let o = w .made q m p u l f in
       let r = o .1 .0 in
@@ -54,38 +55,48 @@ module _ (s : Store) (n : Numbers (s .clock) (s .txns)) (h : HoldersAt s) (w : W
       inr (
         omega (arith, o .0),
         ⊎-elim
-            (λ e. needs-new (s .sizes) (s .index .posted) (s .txns m) r k (made-writes (s .sizes) (s .chains) (s .txns m) r (o .1 .1)) (sym (mine .key-is) ∙ (ap (keyAt (s .chains)) (o .1 .2) ∙ e)))
-            (λ e. needs-old (s .sizes) (s .index .posted) (s .txns m) r k (made-writes (s .sizes) (s .chains) (s .txns m) r (o .1 .1)) (sym (mine .before) ∙ (ap (λ a. keyAt (s .chains) (s .chains .next a)) (o .1 .2) ∙ e)))
+            (λ e. needs-new (s .sizes) (s .index .posted) (s .txns m) r k (made-writes (s .sizes) (s .chains) (s .txns m) r (o .1 .1))
+            (sym (mine .key-is) ∙ (ap (keyAt (s .chains)) (o .1 .2) ∙ e)))
+            (λ e. needs-old (s .sizes) (s .index .posted) (s .txns m) r k (made-writes (s .sizes) (s .chains) (s .txns m) r (o .1 .1))
+            (sym (mine .before) ∙ (ap (λ a. keyAt (s .chains) (s .chains .next a)) (o .1 .2) ∙ e)))
             carries,
       )
 
   pub untold : ToldAt s → (i k : ℕ) → Live (s .txns i) → rank (s .txns i .phase) < phaseInstalled → s .index .stamp (bucketOf (s .sizes) k) < s .txns i .number
-      → (s .held .holder (bucketOf (s .sizes) k) ≡ 0) ⊎ (s .held .holder (bucketOf (s .sizes) k) ≡ s .txns i .number) → NoTurn (s .chains) (s .txns i .snapshot) k
-  untold told i k l a below whose q turn carries unseen = ⊎-elim (λ o. maker (o .0) (o .1) (o .2) whose) (λ t. omega (arith, t k carries)) (told q i turn l unseen)
+      → (s .held .holder (bucketOf (s .sizes) k) ≡ 0) ⊎ (s .held .holder (bucketOf (s .sizes) k) ≡ s .txns i .number)
+      → NoTurn (s .chains) (s .txns i .snapshot) k
+  untold told i k l a below whose q turn carries unseen =
+      ⊎-elim (λ o. maker (o .0) (o .1) (o .2) whose) (λ t. omega (arith, t k carries)) (told q i turn l unseen)
     where
-      maker : (m : ℕ) → Live (s .txns m) → s .chains .xmin q ≡ s .txns m .number → (s .held .holder (bucketOf (s .sizes) k) ≡ 0) ⊎ (s .held .holder (bucketOf (s .sizes) k) ≡ s .txns i .number) → ⊥
+      maker : (m : ℕ) → Live (s .txns m) → s .chains .xmin q ≡ s .txns m .number
+          → (s .held .holder (bucketOf (s .sizes) k) ≡ 0) ⊎ (s .held .holder (bucketOf (s .sizes) k) ≡ s .txns i .number) → ⊥
       maker m v f (inl z) = omega (arith, h .buckets .owns m (bucketOf (s .sizes) k) (maker-wants q m k (turn .from) (turn .in-use) v f carries))
       maker m v f (inr z) =
-          let e : m ≡ i = n .distinct m i v (sym (h .buckets .owns m (bucketOf (s .sizes) k) (maker-wants q m k (turn .from) (turn .in-use) v f carries)) ∙ z) in
+          let e : m ≡ i = n .distinct m i v (sym (h .buckets .owns m (bucketOf (s .sizes) k) (maker-wants q m k (turn .from) (turn .in-use) v f carries))
+          ∙ z) in
           omega (arith, rw e at (w .made q m (turn .from) (turn .in-use) v f .0))
 
   -- who holds the bucket of k, stamped below its number, finds every row that it sees with k among the posted ones
-  pub complete : Chained (s .chains) → ToldAt s → (i k : ℕ) → Live (s .txns i) → s .txns i .phase ≡ Holding (bucketOf (s .sizes) k) k → s .index .stamp (bucketOf (s .sizes) k) < s .txns i .number
+  pub complete : Chained (s .chains) → ToldAt s → (i k : ℕ) → Live (s .txns i) → s .txns i .phase ≡ Holding (bucketOf (s .sizes) k) k
+      → s .index .stamp (bucketOf (s .sizes) k) < s .txns i .number
       → (r : ℕ) → r < s .sizes .rows → keyAt (s .chains) (versionOf (s .chains) (s .txns i .snapshot) r) ≡ some k → Among r (postedRows s k)
   unfolding postedRows
-  complete ch told i k l ph below r inside e = which-pick (λ q. sameKey (s .index .posted q) (some k)) 0 (s .sizes .rows) r (omega arith) (omega arith) (key-same _ _ (posted (w .posts r)))
+  complete ch told i k l ph below r inside e =
+      which-pick (λ q. sameKey (s .index .posted q) (some k)) 0 (s .sizes .rows) r (omega arith) (omega arith) (key-same _ _ (posted (w .posts r)))
     where
       mine : s .held .holder (bucketOf (s .sizes) k) ≡ s .txns i .number
       mine = h .buckets .owns i (bucketOf (s .sizes) k) (inl (k, ph))
 
       head-key : keyAt (s .chains) (s .chains .head r) ≡ some k
-      head-key = key-up (s .chains) (s .txns i .snapshot) k (untold told i k l (omega (arith, ap rank ph)) below (inr mine)) (s .chains .head r) _ (version-finds (s .chains) (s .txns i .snapshot) ch r) e
+      head-key = key-up (s .chains) (s .txns i .snapshot) k (untold told i k l (omega (arith, ap rank ph)) below (inr mine)) (s .chains .head r) _
+          (version-finds (s .chains) (s .txns i .snapshot) ch r) e
 
       posted : (s .index .posted r ≡ keyAt (s .chains) (s .chains .head r))
           ⊎ ((j : ℕ) × Live (s .txns j) × (phaseInstalled ≤ rank (s .txns j .phase)) × Made (s .sizes) (s .chains) (s .txns j) r) → s .index .posted r ≡ some k
       posted (inl f) = f ∙ head-key
       posted (inr o) =
-          let v = needs-new (s .sizes) (s .index .posted) (s .txns (o .0)) r k (made-writes (s .sizes) (s .chains) (s .txns (o .0)) r (o .3)) (sym (w .mine (o .0) r (o .1) (o .2) (o .3) .key-is) ∙ head-key) in
+          let v = needs-new (s .sizes) (s .index .posted) (s .txns (o .0)) r k (made-writes (s .sizes) (s .chains) (s .txns (o .0)) r (o .3))
+          (sym (w .mine (o .0) r (o .1) (o .2) (o .3) .key-is) ∙ head-key) in
           let f : o .0 ≡ i = n .distinct (o .0) i (o .1) (sym (h .buckets .owns (o .0) (bucketOf (s .sizes) k) (inr (omega (arith, o .2), v))) ∙ mine) in
           absurd (omega (arith, ap rank ph, rw f at (o .2)))
 
@@ -100,12 +111,19 @@ module _ (s : Store) (n : Numbers (s .clock) (s .txns)) (h : HoldersAt s) (w : W
       → Wants (s .sizes) (s .index .posted) (s .txns i) b
   unfolding changedBuckets
   changed-wants i b l a m =
-      let o = join-which (λ q. cond (sameKey (keyBefore (s .chains) q) (newKey (s .txns i) q)) [] (keyBuckets (s .sizes) (keyBefore (s .chains) q) ++ keyBuckets (s .sizes) (newKey (s .txns i) q))) (madeRows (s .sizes) (s .chains) (s .txns i .number) (s .txns i .writes)) b m in
+      let o = join-which (λ q. cond (sameKey (keyBefore (s .chains) q) (newKey (s .txns i) q)) []
+      (keyBuckets (s .sizes) (keyBefore (s .chains) q) ++ keyBuckets (s .sizes) (newKey (s .txns i) q)))
+      (madeRows (s .sizes) (s .chains) (s .txns i .number) (s .txns i .writes)) b m in
       inr (omega arith, row (o .0) (o .1) (sameKey (keyBefore (s .chains) (o .0)) (newKey (s .txns i) (o .0))) (o .2))
     where
-      row : (r : ℕ) → Made (s .sizes) (s .chains) (s .txns i) r → (t : Bool) → Among b (cond t [] (keyBuckets (s .sizes) (keyBefore (s .chains) r) ++ keyBuckets (s .sizes) (newKey (s .txns i) r))) → Among b (needs (s .sizes) (s .index .posted) (s .txns i))
+      row : (r : ℕ) → Made (s .sizes) (s .chains) (s .txns i) r → (t : Bool)
+          → Among b (cond t [] (keyBuckets (s .sizes) (keyBefore (s .chains) r) ++ keyBuckets (s .sizes) (newKey (s .txns i) r)))
+          → Among b (needs (s .sizes) (s .index .posted) (s .txns i))
       row r v true c = absurd c
       row r v false c = ⊎-elim
-          (λ d. let k = key-which (keyBefore (s .chains) r) b d in rw (k .2) (needs-old (s .sizes) (s .index .posted) (s .txns i) r (k .0) (made-writes (s .sizes) (s .chains) (s .txns i) r v) (sym (w .mine i r l a v .before) ∙ k .1)))
-          (λ d. let k = key-which (newKey (s .txns i) r) b d in rw (k .2) (needs-new (s .sizes) (s .index .posted) (s .txns i) r (k .0) (made-writes (s .sizes) (s .chains) (s .txns i) r v) (k .1)))
+          (λ d. let k = key-which (keyBefore (s .chains) r) b d in
+          rw (k .2) (needs-old (s .sizes) (s .index .posted) (s .txns i) r (k .0) (made-writes (s .sizes) (s .chains) (s .txns i) r v)
+          (sym (w .mine i r l a v .before) ∙ k .1)))
+          (λ d. let k = key-which (newKey (s .txns i) r) b d in
+          rw (k .2) (needs-new (s .sizes) (s .index .posted) (s .txns i) r (k .0) (made-writes (s .sizes) (s .chains) (s .txns i) r v) (k .1)))
           (among-cases b (keyBuckets (s .sizes) (keyBefore (s .chains) r)) (keyBuckets (s .sizes) (newKey (s .txns i) r)) c)

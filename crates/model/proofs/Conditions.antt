@@ -16,10 +16,14 @@ use Rattle.base_lists.specs.Table.{cond-elim}
 use Rattle.base_lists.proofs.ListLaws.{and-l, and-r, or-cases, is-false, or-r}
 use Rattle.model.specs.Store.{Sizes, Store}
 use Rattle.model.specs.Steps.{hasRead, pendingRows, neededBuckets}
-use Rattle.model.specs.Refusals.{Refusal, WrongSize, NoNumbers, Full, NoSuch, WrongPhase, NoRow, Taken, Stale, Marked, ManyReads, NoRoom, ManyRecords, ManyWrites, NoVersions, Conflict, Malformed, WrongShape, refusalNumber, Step, rows, placeOf, txnOf, byAnother, found, bucketsTaken, rowsClaimed, refusal}
+use Rattle.model.specs.Refusals.{Refusal, WrongSize, NoNumbers, Full, NoSuch, WrongPhase, NoRow, Taken, Stale, Marked, ManyReads, NoRoom, ManyRecords}
+use Rattle.model.specs.Refusals.{ManyWrites, NoVersions, Conflict, Malformed, WrongShape, refusalNumber, Step, rows, placeOf, txnOf, byAnother, found}
+use Rattle.model.specs.Refusals.{bucketsTaken, rowsClaimed, refusal}
 use Rattle.model.specs.Shape.{within, goodSizes, distinctNumbers, rightShape}
-use Rattle.model.specs.Machine.{Answer, Done, Number, Stamp, Count, Rows, Judged, Refused, answerNumber, actor, gives, checks, accepted, carried, step, stepIn, canOpen, rule}
-use Rattle.model.specs.Given.{_and_, number, Outside, ByAnother, Shaped, Lives, bucketFor, RowTaken, stampFor, BucketTaken, Free, Ready, Seventeenth, RowsFree, RoomForRead, BucketsFree, Names}
+use Rattle.model.specs.Machine.{Answer, Done, Number, Stamp, Count, Rows, Judged, Refused, answerNumber, actor, gives, checks, accepted, carried, step}
+use Rattle.model.specs.Machine.{stepIn, canOpen, rule}
+use Rattle.model.specs.Given.{_and_, number, Outside, ByAnother, Shaped, Lives, bucketFor, RowTaken, stampFor, BucketTaken, Free, Ready, Seventeenth}
+use Rattle.model.specs.Given.{RowsFree, RoomForRead, BucketsFree, Names}
 use Rattle.model.proofs.Move.{place-number, live-test}
 use Rattle.model.proofs.Ruled.{refuses, ruled, phase-of, own-tests}
 use Rattle.model.proofs.FirstTest.{Test, itself, opposite, either, both, less, at-most, equal, any, code, skip}
@@ -106,13 +110,20 @@ found-first : (test : ℕ → Bool) (k n i : ℕ) → k ≤ i → i < k + n → 
 unfolding first
 found-first test k zero i l u e = absurd (omega arith)
 found-first test k (suc n) i l u e = cond-elim (λ p. p < k + suc n) (test k) k (first test (suc k) n) (λ t. omega arith)
-    (λ t. elim (ℕ-discrete i k) [ yes d ↦ absurd (true≢false (sym e ∙ (rw d t))) | no d ↦ omega (arith, found-first test (suc k) n i (omega arith) (omega arith) e) ])
+    (λ t. elim (ℕ-discrete i k)
+    [ yes d ↦ absurd (true≢false (sym e ∙ (rw d t))) | no d ↦ omega (arith, found-first test (suc k) n i (omega arith) (omega arith) e) ])
 
-placed : (s : Store) (t : ℕ) → Test (not (ltb (placeOf (s .txns) t) mostLive)) ((i : ℕ) × (i < mostLive) × (s .txns i .number ≡ t) → ⊥) ((i : ℕ) × (i < mostLive) × (s .txns i .number ≡ t))
+placed : (s : Store) (t : ℕ)
+    → Test (not (ltb (placeOf (s .txns) t) mostLive)) ((i : ℕ) × (i < mostLive) × (s .txns i .number ≡ t) → ⊥)
+    ((i : ℕ) × (i < mostLive) × (s .txns i .number ≡ t))
 unfolding placeOf
 placed s t = opposite (record {
   holds = λ e. let l = ltb-true _ _ e in (placeOf (s .txns) t, l, place-number s t l);
-  fails = λ e w. omega (arith, ltb-false (placeOf (s .txns) t) mostLive e, found-first (λ i. eqb (s .txns i .number) t) 0 mostLive (w .0) (omega arith) (w .1) (eq-eqb _ _ (w .2)));
+  fails = λ e w. omega (
+    arith,
+    ltb-false (placeOf (s .txns) t) mostLive e,
+    found-first (λ i. eqb (s .txns i .number) t) 0 mostLive (w .0) (omega arith) (w .1) (eq-eqb _ _ (w .2)),
+  );
   if-yes = λ w. lt-ltb _ _ (found-first (λ i. eqb (s .txns i .number) t) 0 mostLive (w .0) (omega arith) (w .1) (eq-eqb _ _ (w .2)));
   if-no = λ h. is-false _ (λ e. let l = ltb-true _ _ e in h (placeOf (s .txns) t, l, place-number s t l));
 })
@@ -136,14 +147,16 @@ lives-number s t w = place-number s t (ltb-true _ _ (not-false _ (or-r (eqb t 0)
 pub each-below : (n : ℕ) (test : ℕ → Bool) → every n test ≡ true → (i : ℕ) → i < n → test i ≡ true
 unfolding every
 each-below zero test e i l = absurd (omega arith)
-each-below (suc n) test e i l = elim (ℕ-discrete i n) [ yes d ↦ rw d (and-r (every n test) (test n) e) | no d ↦ each-below n test (and-l (every n test) (test n) e) i (omega arith) ]
+each-below (suc n) test e i l =
+    elim (ℕ-discrete i n) [ yes d ↦ rw d (and-r (every n test) (test n) e) | no d ↦ each-below n test (and-l (every n test) (test n) e) i (omega arith) ]
 
 apart : (s : Store) → Shaped s → (i j : ℕ) → i < mostLive → j < i → 1 ≤ s .txns i .number → s .txns i .number ≢ s .txns j .number
 unfolding rightShape distinctNumbers
 apart s e i j l m p q =
     let d : distinctNumbers (s .txns) ≡ true = search (and-l, and-r) depth 8 in
     let w = each-below i _ (each-below mostLive _ d i l) j m in
-    ⊎-elim (λ dead. true≢false (sym (live-test (s .txns i) p) ∙ not-true _ dead)) (λ differ. true≢false (sym (eq-eqb _ _ q) ∙ not-true _ differ)) (or-cases _ _ w)
+    ⊎-elim (λ dead. true≢false (sym (live-test (s .txns i) p) ∙ not-true _ dead)) (λ differ. true≢false (sym (eq-eqb _ _ q) ∙ not-true _ differ))
+    (or-cases _ _ w)
 
 pub the-one : (s : Store) (t : ℕ) → Shaped s → (w : Lives s t) → placeOf (s .txns) t ≡ w .0
 the-one s t e w = go (ltb p (w .0)) refl (ltb (w .0) p) refl
@@ -201,7 +214,8 @@ needed-test s t l = either (bucket-taken s t (neededBuckets s (txnOf s t)) l) (r
 pub stale-test : (s : Store) (t k : ℕ) → Lives s t → Test (not (ltb (stampFor s k) (txnOf s t .number))) (t ≤ stampFor s k) (stampFor s k < t)
 stale-test s t k l = rw (lives-number s t l) (opposite (less (stampFor s k) t))
 
-pub read-test : (s : Store) (t k : ℕ) → Test (not (hasRead (txnOf s t .reads) (bucketFor s k)) && leb mostIndexReads (length (txnOf s t .reads))) (Seventeenth s t k) (RoomForRead s t k)
+pub read-test : (s : Store) (t k : ℕ)
+    → Test (not (hasRead (txnOf s t .reads) (bucketFor s k)) && leb mostIndexReads (length (txnOf s t .reads))) (Seventeenth s t k) (RoomForRead s t k)
 read-test s t k = both (opposite (itself (hasRead (txnOf s t .reads) (bucketFor s k)))) (at-most mostIndexReads (length (txnOf s t .reads)))
 
 -- a step with no test of its own
@@ -215,7 +229,8 @@ ready-only s a named e =
 inside : (n most : ℕ) → Test (within n most) ((1 ≤ n) × (n ≤ most)) (Outside n most)
 inside n most = both (at-most 1 n) (at-most n most)
 
-pub cannot-open : (z : Sizes) (clock : ℕ) → canOpen z clock ≡ false ↔ Outside (z .rows) mostRows ⊎ Outside (z .versions) mostVersions ⊎ Outside (z .buckets) mostBuckets ⊎ (clock ≡ 0)
+pub cannot-open : (z : Sizes) (clock : ℕ) → canOpen z clock ≡ false
+    ↔ Outside (z .rows) mostRows ⊎ Outside (z .versions) mostVersions ⊎ Outside (z .buckets) mostBuckets ⊎ (clock ≡ 0)
 unfolding canOpen goodSizes
 cannot-open z clock =
     let t = both (both (both (inside (z .rows) mostRows) (inside (z .versions) mostVersions)) (inside (z .buckets) mostBuckets)) (at-most 1 clock) in

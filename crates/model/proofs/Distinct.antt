@@ -13,7 +13,8 @@ use Rattle.model.specs.Steps.{hasRead, addRead}
 use Rattle.model.specs.Refusals.{Step}
 use Rattle.model.specs.Machine.{run}
 use Rattle.model.specs.Demands.{Distinct, DistinctAt}
-use Rattle.model.proofs.Move.{Move, stay, did-begin, did-mark, did-capture, did-collect, did-rows, did-write, did-prepare, did-install, did-end, did-publish, did-abort, run-inv}
+use Rattle.model.proofs.Move.{Move, stay, did-begin, did-mark, did-capture, did-collect, did-rows, did-write, did-prepare, did-install, did-end}
+use Rattle.model.proofs.Move.{did-publish, did-abort, run-inv}
 
 has-last : (rs : List IndexRead) (q : IndexRead) (b : ℕ) → hasRead rs b ≡ false → eqb (q .bucket) b ≡ false → hasRead (rs ++ (q ∷ [])) b ≡ false
 unfolding hasRead some-of
@@ -24,12 +25,16 @@ distinct-last : (rs : List IndexRead) (q : IndexRead) → hasRead rs (q .bucket)
 unfolding Distinct hasRead some-of
 distinct-last [] q e u = (refl, u)
 distinct-last (r ∷ rs) q e u =
-    let d = eqb-false (r .bucket) (q .bucket) (or-l (eqb (r .bucket) (q .bucket)) (hasRead rs (q .bucket)) e) in
-    (has-last rs q (r .bucket) (u .0) (ne-eqb (q .bucket) (r .bucket) (λ f. d (sym f))), distinct-last rs q (or-r (eqb (r .bucket) (q .bucket)) (hasRead rs (q .bucket)) e) (u .1))
+    let d = eqb-false (r .bucket) (q .bucket) (or-l (eqb (r .bucket) (q .bucket)) (hasRead rs (q .bucket)) e) in (
+      has-last rs q (r .bucket) (u .0) (ne-eqb (q .bucket) (r .bucket) (λ f. d (sym f))),
+      distinct-last rs q (or-r (eqb (r .bucket) (q .bucket)) (hasRead rs (q .bucket)) e) (u .1),
+    )
 
 pub distinct-kept : (rs : List IndexRead) (b stamp : ℕ) → Distinct rs → Distinct (addRead rs b stamp)
 unfolding addRead
-distinct-kept rs b stamp u = cond-elim Distinct (hasRead rs b) rs (rs ++ (record { bucket = b; stamp = stamp } ∷ [])) (λ e. u) (λ e. distinct-last rs (record { bucket = b; stamp = stamp }) e u)
+distinct-kept rs b stamp u =
+    cond-elim Distinct (hasRead rs b) rs (rs ++ (record { bucket = b; stamp = stamp } ∷ [])) (λ e. u)
+    (λ e. distinct-last rs (record { bucket = b; stamp = stamp }) e u)
 
 -- one place changes
 distinct-set : (s : Store) → DistinctAt s → (i : ℕ) (x : Txn) → Distinct (x .reads) → (j : ℕ) → Distinct (update (s .txns) i x j .reads)

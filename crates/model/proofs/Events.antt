@@ -1,4 +1,5 @@
--- In every reached store the postings are upstream's replay of the run's events, these are coherent, and the stamps are those of the events that change a key. Assumes nothing.
+-- In every reached store the postings are upstream's replay of the run's events, these are coherent, and the stamps are those of the events that change a key.
+-- Assumes nothing.
 use mathlib.Core.Path.{_≡_, refl, sym, ap, _∙_}
 use mathlib.Core.Bool.{Bool, true, false, cond, not, _&&_, _||_, true≢false}
 use mathlib.Core.Logic.{_≢_, inl, inr, ⊎-elim}
@@ -52,11 +53,14 @@ inserted ps none row k r = go (ps k r)
 inserted ps (some key) row k r = rw (same-number key k)
 
 -- posting_step follows the row's key
-posting-step : (ps : Postings) (live : ℕ → Option ℕ) (e : Event) → e .before ≡ live (e .row) → (k r : ℕ) → ps k r ≡ sameKey (live r) (some k) → postingStep ps e k r ≡ sameKey (update live (e .row) (e .after) r) (some k)
-posting-step ps live e g k r h = inserted (remove ps (e .before) (e .row)) (e .after) (e .row) k r ∙ (rw (removed ps (e .before) (e .row) k r, h) (elim (ℕ-discrete r (e .row)) [
-  | yes d ↦ rw (d, update-same, g, eq-eqb (e .row) (e .row) refl) (here (sameKey (live (e .row)) (some k)) (sameKey (e .after) (some k)))
-  | no d ↦ rw (update-other live (e .row) (e .after) r d, ne-eqb r (e .row) d) (there (sameKey (live r) (some k)) (sameKey (e .before) (some k)) (sameKey (e .after) (some k)))
-]))
+posting-step : (ps : Postings) (live : ℕ → Option ℕ) (e : Event) → e .before ≡ live (e .row) → (k r : ℕ) → ps k r ≡ sameKey (live r) (some k)
+    → postingStep ps e k r ≡ sameKey (update live (e .row) (e .after) r) (some k)
+posting-step ps live e g k r h = inserted (remove ps (e .before) (e .row)) (e .after) (e .row) k r
+    ∙ (rw (removed ps (e .before) (e .row) k r, h) (elim (ℕ-discrete r (e .row)) [
+      | yes d ↦ rw (d, update-same, g, eq-eqb (e .row) (e .row) refl) (here (sameKey (live (e .row)) (some k)) (sameKey (e .after) (some k)))
+      | no d ↦ rw (update-other live (e .row) (e .after) r d, ne-eqb r (e .row) d)
+          (there (sameKey (live r) (some k)) (sameKey (e .before) (some k)) (sameKey (e .after) (some k)))
+    ]))
   where
     here : (b a : Bool) → (b && not (b && true)) || (a && true) ≡ a
     here true true = refl
@@ -73,10 +77,12 @@ posting-step ps live e g k r h = inserted (remove ps (e .before) (e .row)) (e .a
     there false b false = refl
 
 -- posting_replay over coherent events gives the postings of the live rows
-pub replay-live : (initial : ℕ → Option ℕ) (es : List Event) → Coherent initial es → (k r : ℕ) → postingReplay (postingsOf initial) es k r ≡ sameKey (liveRows initial es r) (some k)
+pub replay-live : (initial : ℕ → Option ℕ) (es : List Event) → Coherent initial es → (k r : ℕ)
+    → postingReplay (postingsOf initial) es k r ≡ sameKey (liveRows initial es r) (some k)
 unfolding postingReplay postingsOf liveRows
 replay-live initial [] g k r = refl
-replay-live initial (e ∷ older) g k r = posting-step (postingReplay (postingsOf initial) older) (liveRows initial older) e (g .0) k r (replay-live initial older (g .1) k r)
+replay-live initial (e ∷ older) g k r =
+    posting-step (postingReplay (postingsOf initial) older) (liveRows initial older) e (g .0) k r (replay-live initial older (g .1) k r)
 
 member-append : (b : ℕ) (xs ys : List ℕ) → member b (xs ++ ys) ≡ member b xs || member b ys
 unfolding member
@@ -89,19 +95,22 @@ member-append b (x ∷ xs) ys = rw (member-append b xs ys) (go (eqb b x) (member
 
 module _ (s : Store) (x : Txn) where
   -- the live keys after a publish
-  live-added : (rs : List ℕ) (older : List Event) (r : ℕ) → liveRows (λ q. none) (addEvents s x rs older) r ≡ cond (member r rs) (newKey x r) (liveRows (λ q. none) older r)
+  live-added : (rs : List ℕ) (older : List Event) (r : ℕ)
+      → liveRows (λ q. none) (addEvents s x rs older) r ≡ cond (member r rs) (newKey x r) (liveRows (λ q. none) older r)
   unfolding addEvents liveRows member
   live-added [] older r = refl
   live-added (q ∷ rs) older r = live-added rs (eventOf s x q ∷ older) r ∙ go (member r rs) (ℕ-discrete r q)
     where
-      go : (b : Bool) → Dec (r ≡ q) → cond b (newKey x r) (update (liveRows (λ q. none) older) q (newKey x q) r) ≡ cond (eqb r q || b) (newKey x r) (liveRows (λ q. none) older r)
+      go : (b : Bool) → Dec (r ≡ q) → cond b (newKey x r) (update (liveRows (λ q. none) older) q (newKey x q) r)
+          ≡ cond (eqb r q || b) (newKey x r) (liveRows (λ q. none) older r)
       go true (yes e) = rw (eq-eqb r q e)
       go true (no d) = rw (ne-eqb r q d)
       go false (yes e) = rw (eq-eqb r q e, e, update-same)
       go false (no d) = rw (ne-eqb r q d, update-other)
 
   -- distinct rows: each event's key before is the row's live key
-  coherent-added : (k : ℕ) (rs : List ℕ) (older : List Event) → Rising k rs → Coherent (λ q. none) older → ((r : ℕ) → Among r rs → keyBefore (s .chains) r ≡ liveRows (λ q. none) older r) → Coherent (λ q. none) (addEvents s x rs older)
+  coherent-added : (k : ℕ) (rs : List ℕ) (older : List Event) → Rising k rs → Coherent (λ q. none) older
+      → ((r : ℕ) → Among r rs → keyBefore (s .chains) r ≡ liveRows (λ q. none) older r) → Coherent (λ q. none) (addEvents s x rs older)
   unfolding addEvents liveRows
   coherent-added k [] older o g h = g
   coherent-added k (q ∷ rs) older o g h = coherent-added (suc q) rs (eventOf s x q ∷ older) (o .1) (h q (inl refl), g)
@@ -109,26 +118,34 @@ module _ (s : Store) (x : Txn) where
 
   -- only where the keys differ do both their buckets get the stamp
   buckets-changed : ℕ → List ℕ
-  buckets-changed r = cond (sameKey (keyBefore (s .chains) r) (newKey x r)) [] (keyBuckets (s .sizes) (keyBefore (s .chains) r) ++ keyBuckets (s .sizes) (newKey x r))
+  buckets-changed r = cond (sameKey (keyBefore (s .chains) r) (newKey x r)) []
+      (keyBuckets (s .sizes) (keyBefore (s .chains) r) ++ keyBuckets (s .sizes) (newKey x r))
 
-  stamp-one : (q : ℕ) (older : List Event) (b : ℕ) (later : Bool) → cond later (s .clock) (stampAt (s .sizes) (λ c. 0) (changing (eventOf s x q ∷ older)) b) ≡ cond (member b (buckets-changed q) || later) (s .clock) (stampAt (s .sizes) (λ c. 0) (changing older) b)
+  stamp-one : (q : ℕ) (older : List Event) (b : ℕ) (later : Bool)
+      → cond later (s .clock) (stampAt (s .sizes) (λ c. 0) (changing (eventOf s x q ∷ older)) b) ≡ cond (member b (buckets-changed q) || later) (s .clock)
+      (stampAt (s .sizes) (λ c. 0) (changing older) b)
   unfolding changing buckets-changed stampAt member
   stamp-one q older b later = go (sameKey (keyBefore (s .chains) q) (newKey x q))
     where
-      told : (m later : Bool) → cond later (s .clock) (cond m (s .clock) (stampAt (s .sizes) (λ c. 0) (changing older) b)) ≡ cond (m || later) (s .clock) (stampAt (s .sizes) (λ c. 0) (changing older) b)
+      told : (m later : Bool) → cond later (s .clock) (cond m (s .clock) (stampAt (s .sizes) (λ c. 0) (changing older) b))
+          ≡ cond (m || later) (s .clock) (stampAt (s .sizes) (λ c. 0) (changing older) b)
       told true true = refl
       told true false = refl
       told false later = refl
 
       go : (same : Bool) → cond later (s .clock) (stampAt (s .sizes) (λ c. 0) (cond same (changing older) (eventOf s x q ∷ changing older)) b)
-          ≡ cond (member b (cond same [] (keyBuckets (s .sizes) (keyBefore (s .chains) q) ++ keyBuckets (s .sizes) (newKey x q))) || later) (s .clock) (stampAt (s .sizes) (λ c. 0) (changing older) b)
+          ≡ cond (member b (cond same [] (keyBuckets (s .sizes) (keyBefore (s .chains) q) ++ keyBuckets (s .sizes) (newKey x q))) || later) (s .clock)
+          (stampAt (s .sizes) (λ c. 0) (changing older) b)
       go true = refl
       go false = told (member b (keyBuckets (s .sizes) (keyBefore (s .chains) q) ++ keyBuckets (s .sizes) (newKey x q))) later
 
-  stamp-added : (rs : List ℕ) (older : List Event) (b : ℕ) → stampAt (s .sizes) (λ c. 0) (changing (addEvents s x rs older)) b ≡ cond (member b (join buckets-changed rs)) (s .clock) (stampAt (s .sizes) (λ c. 0) (changing older) b)
+  stamp-added : (rs : List ℕ) (older : List Event) (b : ℕ)
+      → stampAt (s .sizes) (λ c. 0) (changing (addEvents s x rs older)) b ≡ cond (member b (join buckets-changed rs)) (s .clock)
+      (stampAt (s .sizes) (λ c. 0) (changing older) b)
   unfolding addEvents join member
   stamp-added [] older b = refl
-  stamp-added (q ∷ rs) older b = stamp-added rs (eventOf s x q ∷ older) b ∙ rw (member-append b (buckets-changed q) (join buckets-changed rs)) (stamp-one q older b (member b (join buckets-changed rs)))
+  stamp-added (q ∷ rs) older b = stamp-added rs (eventOf s x q ∷ older) b
+      ∙ rw (member-append b (buckets-changed q) (join buckets-changed rs)) (stamp-one q older b (member b (join buckets-changed rs)))
 
 -- the events of a run stand behind its index
 pub record Recorded (s : Store) (es : List Event) : Type 0 where
@@ -163,7 +180,9 @@ module _ (s : Store) (i : ℕ) (es : List Event) (g : Good s) (l : Live (s .txns
   posts-same : (r : ℕ) (b d : Bool) → member r (pendingRows (s .sizes) (s .txns i .writes)) ≡ b → member r rs ≡ d
       → cond b (newKey (s .txns i) r) (s .index .posted r) ≡ cond d (newKey (s .txns i) r) (liveRows (λ q. none) es r)
   posts-same r true true e f = refl
-  posts-same r true false e f = sym (posted-new s (g .numbers) (g .holders) (g .written) i r l (omega arith) (member-among r _ e) (λ m. true≢false (sym (among-member r rs m) ∙ f))) ∙ h .posts r
+  posts-same r true false e f =
+      sym (posted-new s (g .numbers) (g .holders) (g .written) i r l (omega arith) (member-among r _ e) (λ m. true≢false (sym (among-member r rs m) ∙ f)))
+      ∙ h .posts r
   posts-same r false true e f = absurd (true≢false (sym (among-member r _ (made-writes (s .sizes) (s .chains) (s .txns i) r (member-among r rs f))) ∙ e))
   posts-same r false false e f = h .posts r
 
@@ -171,7 +190,8 @@ module _ (s : Store) (i : ℕ) (es : List Event) (g : Good s) (l : Live (s .txns
   unfolding repost updateAll changedBuckets madeRows buckets-changed
   recorded-publish = record {
     posts = λ r. posts-same r _ _ refl refl ∙ sym (live-added s (s .txns i) rs es r);
-    coherent = coherent-added s (s .txns i) 0 rs es (pick-rising _ 0 (s .sizes .rows)) (h .coherent) (λ r m. g .written .mine i r l (omega arith) m .before ∙ h .posts r);
+    coherent = coherent-added s (s .txns i) 0 rs es (pick-rising _ 0 (s .sizes .rows)) (h .coherent)
+        (λ r m. g .written .mine i r l (omega arith) m .before ∙ h .posts r);
     stamps = λ b. ap (λ n. cond (member b (changedBuckets s (s .txns i))) (s .clock) n) (h .stamps b) ∙ sym (stamp-added s (s .txns i) rs es b);
   }
 
@@ -179,7 +199,9 @@ published-or-not : (s : Store) (t : ℕ) (es : List Event) → Good s → Record
 unfolding stepEvents accepted
 published-or-not s t es g h = go (eqb (number s (publish t)) 0) refl
   where
-    go : (b : Bool) → eqb (number s (publish t)) 0 ≡ b → Recorded (step s (publish t) .store) (cond b (addEvents s (txnOf s t) (madeRows (s .sizes) (s .chains) (txnOf s t .number) (txnOf s t .writes)) es) es)
+    go : (b : Bool) → eqb (number s (publish t)) 0 ≡ b
+        → Recorded (step s (publish t) .store)
+        (cond b (addEvents s (txnOf s t) (madeRows (s .sizes) (s .chains) (txnOf s t .number) (txnOf s t .writes)) es) es)
     go true e =
         let z = eqb-true _ _ e in
         let r = publish-0 s t .0 z in
@@ -198,13 +220,18 @@ unfolding run historyOver
 recorded-run s es [] g h = h
 recorded-run s es (a ∷ more) g h = recorded-run (step s a .store) (stepEvents s a es) more (good-run s g (a ∷ [])) (recorded-step s a es g h)
 
-pub recorded-opened : (z : Sizes) (clock : ℕ) (before : List Step) → canOpen z clock ≡ true → clock ≤ lastNumber → Recorded (run (fresh z clock) before) (history (fresh z clock) before)
+pub recorded-opened : (z : Sizes) (clock : ℕ) (before : List Step) → canOpen z clock ≡ true → clock ≤ lastNumber
+    → Recorded (run (fresh z clock) before) (history (fresh z clock) before)
 unfolding run liveRows stampAt changing
-recorded-opened z clock before e l = recorded-run (fresh z clock) [] before (opened-good z clock [] e l) (record { posts = λ r. refl; coherent = tt; stamps = λ b. refl })
+recorded-opened z clock before e l =
+    recorded-run (fresh z clock) [] before (opened-good z clock [] e l) (record { posts = λ r. refl; coherent = tt; stamps = λ b. refl })
 
 -- collect's rows are upstream's raw_candidates
-pub candidates-raw : (s : Store) (es : List Event) → Recorded s es → (k r : ℕ) → member r (postedRows s k) ≡ ltb r (s .sizes .rows) && rawCandidates (postingReplay (postingsOf (λ q. none)) es) k r
+pub candidates-raw : (s : Store) (es : List Event) → Recorded s es → (k r : ℕ)
+    → member r (postedRows s k) ≡ ltb r (s .sizes .rows) && rawCandidates (postingReplay (postingsOf (λ q. none)) es) k r
 unfolding postedRows
 candidates-raw s es h k r = rw (replay-live (λ q. none) es (h .coherent) k r, ← h .posts r) (same-test _ _
     (λ e. let w = pick-which _ 0 (s .sizes .rows) r (member-among r _ e) in and-both _ _ (lt-ltb r (s .sizes .rows) (omega (arith, w .1))) (w .2))
-    (λ e. among-member r _ (which-pick (λ q. sameKey (s .index .posted q) (some k)) 0 (s .sizes .rows) r (omega arith) (omega (arith, ltb-true r (s .sizes .rows) (and-l (ltb r (s .sizes .rows)) (sameKey (s .index .posted r) (some k)) e))) (and-r (ltb r (s .sizes .rows)) _ e))))
+    (λ e. among-member r _ (which-pick (λ q. sameKey (s .index .posted q) (some k)) 0 (s .sizes .rows) r (omega arith)
+    (omega (arith, ltb-true r (s .sizes .rows) (and-l (ltb r (s .sizes .rows)) (sameKey (s .index .posted r) (some k)) e)))
+    (and-r (ltb r (s .sizes .rows)) _ e))))

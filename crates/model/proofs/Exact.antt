@@ -10,22 +10,28 @@ use lib.ListN.{length}
 use Rattle.base_limits.specs.Limits.{mostRows, mostLive, mostRecords, mostWrites, lastNumber}
 use Rattle.model.specs.Store.{Sizes, Store}
 use Rattle.model.specs.Steps.{foundRows, recordsAfter, readBuckets}
-use Rattle.model.specs.Refusals.{Refusal, Stale, WrongShape, NoSuch, WrongPhase, refusalNumber, Step, begin, capture, collect, rows, write, prepare, install, end, publish, validate, abort, txnOf, liveCount, versionsAfter, refusal}
+use Rattle.model.specs.Refusals.{Refusal, Stale, WrongShape, NoSuch, WrongPhase, refusalNumber, Step, begin, capture, collect, rows, write, prepare}
+use Rattle.model.specs.Refusals.{install, end, publish, validate, abort, txnOf, liveCount, versionsAfter, refusal}
 use Rattle.model.specs.Shape.{rightShape}
 use Rattle.model.specs.Machine.{checks, Refused, actor, gives, carried, step, stepIn, canOpen}
 use Rattle.model.specs.Given.{number, Lives, verdictOf, openNumber, given, named, Given, GivenOpen, StaleStamp, Names}
 use Rattle.model.proofs.Move.{never-stale}
 use Rattle.model.proofs.Ruled.{refuses, ruled, own-tests, unmarking, Marks, may-mark, never}
 use Rattle.model.proofs.FirstTest.{Test, itself, opposite, less, at-most, equal, code}
-use Rattle.model.proofs.Conditions.{number-is, shape-test, lives-test, bucket-taken, stale-test, read-test, cannot-open, number-found, bucket-test, needed-test}
+use Rattle.model.proofs.Conditions.{number-is, shape-test, lives-test, bucket-taken, stale-test, read-test, cannot-open, number-found, bucket-test}
+use Rattle.model.proofs.Conditions.{needed-test}
 use Rattle.model.proofs.Outcomes.{capture-stale}
 
 module _ (n : ℕ) where
   -- a test is a line of the table
-  line : {Yes No P : Type 0} (b : Bool) (r : Refusal) (cs : List (Bool × Refusal)) → Test b Yes No → (No → code cs ≡ n ↔ P) → code ((b, r) ∷ cs) ≡ n ↔ given (refusalNumber r) Yes n P
+  line : {Yes No P : Type 0} (b : Bool) (r : Refusal) (cs : List (Bool × Refusal)) → Test b Yes No → (No → code cs ≡ n ↔ P) → code ((b, r) ∷ cs) ≡ n
+      ↔ given (refusalNumber r) Yes n P
   unfolding code
   line true r cs t later = (λ e. inl (t .holds refl, sym e), λ w. ⊎-elim (λ y. sym (y .1)) (λ o. absurd (o .0 (t .holds refl))) w)
-  line false r cs t later = (λ e. inr ((λ y. false≢true (t .if-yes y)), later (t .fails refl) .0 e), λ w. ⊎-elim (λ y. absurd (false≢true (t .if-yes (y .0)))) (λ o. later (t .fails refl) .1 (o .1)) w)
+  line false r cs t later = (
+    λ e. inr ((λ y. false≢true (t .if-yes y)), later (t .fails refl) .0 e),
+    λ w. ⊎-elim (λ y. absurd (false≢true (t .if-yes (y .0)))) (λ o. later (t .fails refl) .1 (o .1)) w,
+  )
 
   -- where no test holds, 0 is given
   no-line : code [] ≡ n ↔ (n ≡ 0)

@@ -54,14 +54,18 @@ module _ (s : Store) (g : Good s) (i : ℕ) (l : Live (s .txns i)) (a : rank (s 
   pub found-whole : foundRows s x ≡ pick (matches (s .chains) x k) 0 (s .sizes .rows)
   unfolding foundRows
   found-whole = pick-same (λ r. (member r (x .candidates) || pending (x .writes) r) && matches (s .chains) x k r) (matches (s .chains) x k) 0 (s .sizes .rows)
-      (λ r lo hi. same-test _ _ (and-r (member r (x .candidates) || pending (x .writes) r) (matches (s .chains) x k r)) (λ m. rw (candidate r (omega arith) (pending (x .writes) r) refl m) m))
+      (λ r lo hi. same-test _ _ (and-r (member r (x .candidates) || pending (x .writes) r) (matches (s .chains) x k r))
+      (λ m. rw (candidate r (omega arith) (pending (x .writes) r) refl m) m))
     where
-      candidate : (r : ℕ) → r < s .sizes .rows → (b : Bool) → pending (x .writes) r ≡ b → matches (s .chains) x k r ≡ true → member r (x .candidates) || pending (x .writes) r ≡ true
+      candidate : (r : ℕ) → r < s .sizes .rows → (b : Bool) → pending (x .writes) r ≡ b → matches (s .chains) x k r ≡ true
+          → member r (x .candidates) || pending (x .writes) r ≡ true
       candidate r u true p m = or-right (member r (x .candidates)) _ p
-      candidate r u false p m = or-left _ _ (among-member r (x .candidates) (g .reading i l .collects k (collected-is (x .phase) a) .1 r u (match-version (s .chains) x k r p m)))
+      candidate r u false p m =
+          or-left _ _ (among-member r (x .candidates) (g .reading i l .collects k (collected-is (x .phase) a) .1 r u (match-version (s .chains) x k r p m)))
 
   -- the read's records are of the versions that its rows are seen at
-  pub found-recorded : (r : ℕ) → Among r (foundRows s x) → pending (x .writes) r ≡ false → Reading (s .sizes) (s .chains) (s .index .stamp) (readTxn s x) → Among (recordOf (s .chains) (x .snapshot) r) (readTxn s x .records)
+  pub found-recorded : (r : ℕ) → Among r (foundRows s x) → pending (x .writes) r ≡ false → Reading (s .sizes) (s .chains) (s .index .stamp) (readTxn s x)
+      → Among (recordOf (s .chains) (x .snapshot) r) (readTxn s x .records)
   found-recorded r m p reads =
       let h = recordAll-has (s .chains) x (x .records) (foundRows s x) r m p in
       let e = reads .records-are (omega arith) (h .0) (h .1) in
@@ -95,16 +99,23 @@ rows-done s t room rs e =
       few = ltb-false _ _ (b .0);
       answer-is = cc;
       store-is = st;
-      txn-is = rw (st, place-same (s .txns) (readDone s (at s t) .txns) t (λ j. update-field (λ y. y .number) (s .txns) (at s t) (readTxn s (txnOf s t)) j refl), update-same);
+      txn-is = rw (
+        st,
+        place-same (s .txns) (readDone s (at s t) .txns) t
+            (λ j. update-field (λ y. y .number) (s .txns) (at s t) (readTxn s (txnOf s t)) j refl),
+        update-same,
+      );
     }
 
 -- the store after an accepted `rows` is good too, and the transaction's records are what it sees
 pub rows-good : (s : Store) (t room : ℕ) (rs : List ℕ) → Good s → RowsDone s t room rs → Good (readDone s (at s t))
 rows-good s t room rs g d = good-move s (readDone s (at s t)) g (did-rows (at s t) (d .alive) (d .collected) (d .few))
 
-pub rows-recorded : (s : Store) (t room : ℕ) (rs : List ℕ) → Good s → RowsDone s t room rs → (r : ℕ) → Among r rs → pending (txnOf s t .writes) r ≡ false → Among (recordOf (s .chains) (txnOf s t .snapshot) r) (readTxn s (txnOf s t) .records)
+pub rows-recorded : (s : Store) (t room : ℕ) (rs : List ℕ) → Good s → RowsDone s t room rs → (r : ℕ) → Among r rs → pending (txnOf s t .writes) r ≡ false
+    → Among (recordOf (s .chains) (txnOf s t .snapshot) r) (readTxn s (txnOf s t) .records)
 rows-recorded s t room rs g d r m p =
-    found-recorded s g (at s t) (d .alive) (d .collected) r (rw (d .answer-is) at m) p (rw update-same at (rows-good s t room rs g d .reading (at s t) (rw update-same (d .alive))))
+    found-recorded s g (at s t) (d .alive) (d .collected) r (rw (d .answer-is) at m) p
+    (rw update-same at (rows-good s t room rs g d .reading (at s t) (rw update-same (d .alive))))
 
 pub found-rising : (s : Store) (t room : ℕ) (rs : List ℕ) → RowsDone s t room rs → Rising 0 rs
 unfolding foundRows

@@ -36,14 +36,24 @@ either {a} {b} {A} {B} {C} {D} s t = go a s
   where
     go : (a : Bool) → Test a A C → Test (a || b) (A ⊎ B) (C × D)
     go true s = record { holds = λ e. inl (s .holds refl); fails = λ e. absurd (true≢false e); if-yes = λ y. refl; if-no = λ n. s .if-no (n .0) }
-    go false s = record { holds = λ e. inr (t .holds e); fails = λ e. (s .fails refl, t .fails e); if-yes = λ y. ⊎-elim (λ p. absurd (false≢true (s .if-yes p))) (t .if-yes) y; if-no = λ n. t .if-no (n .1) }
+    go false s = record {
+      holds = λ e. inr (t .holds e);
+      fails = λ e. (s .fails refl, t .fails e);
+      if-yes = λ y. ⊎-elim (λ p. absurd (false≢true (s .if-yes p))) (t .if-yes) y;
+      if-no = λ n. t .if-no (n .1);
+    }
 
 -- both of two tests
 pub both : {a b : Bool} {A B C D : Type 0} → Test a A C → Test b B D → Test (a && b) (A × B) (C ⊎ D)
 both {a} {b} {A} {B} {C} {D} s t = go a s
   where
     go : (a : Bool) → Test a A C → Test (a && b) (A × B) (C ⊎ D)
-    go true s = record { holds = λ e. (s .holds refl, t .holds e); fails = λ e. inr (t .fails e); if-yes = λ y. t .if-yes (y .1); if-no = λ n. ⊎-elim (λ c. absurd (true≢false (s .if-no c))) (t .if-no) n }
+    go true s = record {
+      holds = λ e. (s .holds refl, t .holds e);
+      fails = λ e. inr (t .fails e);
+      if-yes = λ y. t .if-yes (y .1);
+      if-no = λ n. ⊎-elim (λ c. absurd (true≢false (s .if-no c))) (t .if-no) n;
+    }
     go false s = record { holds = λ e. absurd (false≢true e); fails = λ e. inl (s .fails refl); if-yes = λ y. s .if-yes (y .0); if-no = λ n. refl }
 
 pub less : (a b : ℕ) → Test (ltb a b) (a < b) (b ≤ a)
@@ -56,7 +66,8 @@ pub equal : (a b : ℕ) → Test (eqb a b) (a ≡ b) (a ≢ b)
 equal a b = record { holds = eqb-true a b; fails = eqb-false a b; if-yes = eq-eqb a b; if-no = ne-eqb a b }
 
 -- some entry, or no entry
-pub any : {A : Type 0} {Yes No : A → Type 0} (test : A → Bool) (xs : List A) → ((x : A) → Test (test x) (Yes x) (No x)) → Test (some-of test xs) ((x : A) × Among x xs × Yes x) ((x : A) → Among x xs → No x)
+pub any : {A : Type 0} {Yes No : A → Type 0} (test : A → Bool) (xs : List A) → ((x : A) → Test (test x) (Yes x) (No x))
+    → Test (some-of test xs) ((x : A) × Among x xs × Yes x) ((x : A) → Among x xs → No x)
 any test xs t = record {
   holds = λ e. let w = some-which test xs e in (w .0, w .1, t (w .0) .holds (w .2));
   fails = λ e x m. t x .fails (none-each test xs e x m);
@@ -75,7 +86,8 @@ unfolding code
 given-among [] = inl refl
 given-among (c ∷ cs) = go (c .0) (given-among cs)
   where
-    go : (b : Bool) → Among (code cs) (map (λ c. refusalNumber (c .1)) cs ++ (0 ∷ [])) → Among (cond b (refusalNumber (c .1)) (code cs)) (refusalNumber (c .1) ∷ (map (λ c. refusalNumber (c .1)) cs ++ (0 ∷ [])))
+    go : (b : Bool) → Among (code cs) (map (λ c. refusalNumber (c .1)) cs ++ (0 ∷ []))
+        → Among (cond b (refusalNumber (c .1)) (code cs)) (refusalNumber (c .1) ∷ (map (λ c. refusalNumber (c .1)) cs ++ (0 ∷ [])))
     go true later = inl refl
     go false later = inr later
 
@@ -94,22 +106,26 @@ not-given n (c ∷ cs) l w e = go (c .0) (not-given n cs l (and-r (not (eqb (ref
 
 module _ (n : ℕ) {Yes No : Type 0} where
   -- this test gives n, and no later one does
-  pub stop : (b : Bool) (r : Refusal) (cs : List (Bool × Refusal)) → Test b Yes No → (refusalNumber r ≡ n) × (1 ≤ n) → without n cs ≡ true → code ((b, r) ∷ cs) ≡ n ↔ Yes
+  pub stop : (b : Bool) (r : Refusal) (cs : List (Bool × Refusal)) → Test b Yes No → (refusalNumber r ≡ n) × (1 ≤ n) → without n cs ≡ true
+      → code ((b, r) ∷ cs) ≡ n ↔ Yes
   unfolding code
   stop true r cs t e w = (λ f. t .holds refl, λ y. e .0)
   stop false r cs t e w = (λ f. absurd (not-given n cs (e .1) w f), λ y. absurd (false≢true (t .if-yes y)))
 
   -- this test gives another number, so it fails, and the later ones decide
-  pub skip : {P : Type 0} (b : Bool) (r : Refusal) (cs : List (Bool × Refusal)) → Test b Yes No → refusalNumber r ≢ n → (No → code cs ≡ n ↔ P) → code ((b, r) ∷ cs) ≡ n ↔ No and P
+  pub skip : {P : Type 0} (b : Bool) (r : Refusal) (cs : List (Bool × Refusal)) → Test b Yes No → refusalNumber r ≢ n → (No → code cs ≡ n ↔ P)
+      → code ((b, r) ∷ cs) ≡ n ↔ No and P
   unfolding code
   skip true r cs t d later = (λ e. absurd (d e), λ p. absurd (true≢false (t .if-no (p .0))))
   skip false r cs t d later = (λ e. (t .fails refl, later (t .fails refl) .0 e), λ p. later (p .0) .1 (p .1))
 
   -- this test gives n, and so may a later one
-  pub stop-or : {P : Type 0} (b : Bool) (r : Refusal) (cs : List (Bool × Refusal)) → Test b Yes No → refusalNumber r ≡ n → (No → code cs ≡ n ↔ P) → code ((b, r) ∷ cs) ≡ n ↔ Yes ⊎ (No and P)
+  pub stop-or : {P : Type 0} (b : Bool) (r : Refusal) (cs : List (Bool × Refusal)) → Test b Yes No → refusalNumber r ≡ n → (No → code cs ≡ n ↔ P)
+      → code ((b, r) ∷ cs) ≡ n ↔ Yes ⊎ (No and P)
   unfolding code
   stop-or true r cs t e later = (λ f. inl (t .holds refl), λ y. e)
-  stop-or false r cs t e later = (λ f. inr (t .fails refl, later (t .fails refl) .0 f), λ y. ⊎-elim (λ p. absurd (false≢true (t .if-yes p))) (λ p. later (p .0) .1 (p .1)) y)
+  stop-or false r cs t e later =
+      (λ f. inr (t .fails refl, later (t .fails refl) .0 f), λ y. ⊎-elim (λ p. absurd (false≢true (t .if-yes p))) (λ p. later (p .0) .1 (p .1)) y)
 
 -- the last test fails too: nothing is refused
 pub pass : {Yes No : Type 0} (b : Bool) (r : Refusal) → Test b Yes No → refusalNumber r ≢ 0 → code ((b, r) ∷ []) ≡ 0 ↔ No

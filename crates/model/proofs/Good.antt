@@ -17,7 +17,8 @@ use Rattle.model.specs.Refusals.{Step}
 use Rattle.model.specs.Shape.{within, goodSizes, goodChains, goodCounts, goodRanges, goodHeads, goodTxn, distinctNumbers, rightShape}
 use Rattle.model.specs.Machine.{step, stepIn, run, canOpen}
 use Rattle.model.specs.Holding.{Writes, Claims, Made}
-use Rattle.model.proofs.Move.{test-live, CanPrepare, Move, stay, did-begin, did-mark, did-capture, did-collect, did-rows, did-write, did-prepare, did-install, did-end, did-publish, did-abort, run-inv}
+use Rattle.model.proofs.Move.{test-live, CanPrepare, Move, stay, did-begin, did-mark, did-capture, did-collect, did-rows, did-write, did-prepare}
+use Rattle.model.proofs.Move.{did-install, did-end, did-publish, did-abort, run-inv}
 use Rattle.model.proofs.Chained.{Chained, chained-move, chained-fresh}
 use Rattle.model.proofs.Numbers.{Numbers, numbers-move, numbers-fresh, BelowAt, below-move, below-fresh}
 use Rattle.model.proofs.Room.{RoomAt, room-move, room-fresh}
@@ -58,7 +59,9 @@ sizes-move s s′ (did-abort i a b) = refl
 -- at an accepted prepare the pending rows are claimed by nobody, so they are posted with their old keys
 unclaimed : (s : Store) → Good s → (i r : ℕ) → Live (s .txns i) → rank (s .txns i .phase) ≡ phaseOpen → CanPrepare s i → Writes (s .sizes) (s .txns i) r
     → s .held .claim r ≡ 0
-unclaimed s g i r l a c w = free (Claims (s .sizes)) (claims-busy (s .sizes)) (s .held .claim) (s .clock) (s .txns) (g .numbers) (g .holders .claims) i r l (λ v. omega (arith, v .0)) (none-each _ (pendingRows (s .sizes) (s .txns i .writes)) (c .rows-free) r w)
+unclaimed s g i r l a c w =
+    free (Claims (s .sizes)) (claims-busy (s .sizes)) (s .held .claim) (s .clock) (s .txns) (g .numbers) (g .holders .claims) i r l
+    (λ v. omega (arith, v .0)) (none-each _ (pendingRows (s .sizes) (s .txns i .writes)) (c .rows-free) r w)
 
 pub good-move : (s s′ : Store) {a : ℕ} → Good s → Move s a s′ → Good s′
 good-move s s′ g m =
@@ -70,7 +73,8 @@ good-move s s′ g m =
       below = below-move s s′ (g .numbers) (g .below) m;
       room = room-move s s′ (g .chained) (g .numbers) (g .holders) (g .room) m;
       ranges = ranges-move s s′ (good-sized (s .sizes) (g .sizes)) (g .ranges) m;
-      holders = holders-move s s′ (g .numbers) (g .holders) (λ i r l a c w. posted-free s (g .numbers) (g .holders) (g .written) r (unclaimed s g i r l a c w)) m;
+      holders = holders-move s s′ (g .numbers) (g .holders)
+          (λ i r l a c w. posted-free s (g .numbers) (g .holders) (g .written) r (unclaimed s g i r l a c w)) m;
       written = written-move s s′ (g .chained) (g .numbers) (g .below) (g .holders) (g .written) m;
       told = told-move s s′ (g .chained) (g .numbers) (g .below) (g .written) (g .told) m;
       reading = reading-move s s′ (g .chained) ch (g .numbers) (g .holders) (g .written) (g .told) (g .reading) m;
@@ -106,7 +110,9 @@ module _ (s : Store) (g : Good s) (i : ℕ) (l : Live (s .txns i)) where
   counts-shape : goodCounts (s .txns i) ≡ true
   unfolding goodCounts
   counts-shape = let f = g .ranges i .0 in
-      and-both _ _ (and-both _ _ (and-both _ _ (and-both _ _ (le-leb _ _ (g .numbers .snapped i l .active-few)) (le-leb _ _ (f .reads-few))) (le-leb _ _ (f .writes-few))) (le-leb _ _ (f .records-few))) (le-leb _ _ (f .candidates-few))
+      and-both _ _ (and-both _ _
+      (and-both _ _ (and-both _ _ (le-leb _ _ (g .numbers .snapped i l .active-few)) (le-leb _ _ (f .reads-few))) (le-leb _ _ (f .writes-few)))
+      (le-leb _ _ (f .records-few))) (le-leb _ _ (f .candidates-few))
 
   ranges-shape : goodRanges (s .sizes) (s .chains .used) (s .txns i) ≡ true
   unfolding goodRanges
@@ -116,7 +122,8 @@ module _ (s : Store) (g : Good s) (i : ℕ) (l : Live (s .txns i)) where
       (and-both _ _
       (and-both _ _
       (each-all (λ (w : Write). ltb (w .row) (s .sizes .rows)) (s .txns i .writes) (λ w m. lt-ltb _ _ (f .writes-in w m)))
-      (each-all (λ (r : ReadRecord). ltb (r .row) (s .sizes .rows) && within (r .ptr) (s .chains .used)) (s .txns i .records) (λ r m. let w = f .records-in r m in and-both _ _ (lt-ltb _ _ (w .0)) (and-both _ _ (le-leb _ _ (w .1)) (le-leb _ _ (w .2))))))
+      (each-all (λ (r : ReadRecord). ltb (r .row) (s .sizes .rows) && within (r .ptr) (s .chains .used)) (s .txns i .records) (λ r m. let w =
+      f .records-in r m in and-both _ _ (lt-ltb _ _ (w .0)) (and-both _ _ (le-leb _ _ (w .1)) (le-leb _ _ (w .2))))))
       (each-all (λ r. ltb r (s .sizes .rows)) (s .txns i .candidates) (λ r m. lt-ltb _ _ (f .candidates-in r m))))
       (each-all (λ (r : IndexRead). ltb (r .bucket) (s .sizes .buckets)) (s .txns i .reads) (λ r m. lt-ltb _ _ (f .reads-in r m))))
       (lt-ltb _ _ (g .ranges i .1))
@@ -132,12 +139,17 @@ module _ (s : Store) (g : Good s) (i : ℕ) (l : Live (s .txns i)) where
           → b || all-of (λ r. headedBy (s .chains) (s .txns i .number) r || not (getsVersion (s .chains) (s .txns i .writes) r))
           (pendingRows (s .sizes) (s .txns i .writes)) ≡ true
       go true e = refl
-      go false e = each-all (λ r. headedBy (s .chains) (s .txns i .number) r || not (getsVersion (s .chains) (s .txns i .writes) r)) (pendingRows (s .sizes) (s .txns i .writes))
-          (λ r w. ⊎-elim (λ m. or-left (headedBy (s .chains) (s .txns i .number) r) (not (getsVersion (s .chains) (s .txns i .writes) r)) (headed r m)) (λ q. or-right (headedBy (s .chains) (s .txns i .number) r) (not (getsVersion (s .chains) (s .txns i .writes) r)) (rw (no-gets (s .sizes) (s .chains) (s .txns i) r q))) (g .written .made-or-nothing i r l (ltb-false _ _ e) w))
+      go false e = each-all (λ r. headedBy (s .chains) (s .txns i .number) r || not (getsVersion (s .chains) (s .txns i .writes) r))
+          (pendingRows (s .sizes) (s .txns i .writes))
+          (λ r w. ⊎-elim (λ m. or-left (headedBy (s .chains) (s .txns i .number) r) (not (getsVersion (s .chains) (s .txns i .writes) r)) (headed r m))
+          (λ q. or-right (headedBy (s .chains) (s .txns i .number) r) (not (getsVersion (s .chains) (s .txns i .writes) r))
+          (rw (no-gets (s .sizes) (s .chains) (s .txns i) r q))) (g .written .made-or-nothing i r l (ltb-false _ _ e) w))
 
   txn-shape : goodTxn s (s .txns i) ≡ true
   unfolding goodTxn
-  txn-shape = and-both _ _ (and-both _ _ (and-both _ _ (and-both _ _ (lt-ltb _ _ (g .numbers .below i)) (eq-eqb _ _ (g .numbers .snapped i l .xmin-is))) counts-shape) ranges-shape) heads-shape
+  txn-shape = and-both _ _
+      (and-both _ _ (and-both _ _ (and-both _ _ (lt-ltb _ _ (g .numbers .below i)) (eq-eqb _ _ (g .numbers .snapped i l .xmin-is))) counts-shape)
+      ranges-shape) heads-shape
 
 -- what is asked of live transactions alone
 if-live : (x : Txn) (b : Bool) → (Live x → b ≡ true) → not (live x) || b ≡ true
@@ -149,7 +161,9 @@ if-live x b h = go (live x) refl
 
 distinct-shape : (s : Store) → Good s → distinctNumbers (s .txns) ≡ true
 unfolding distinctNumbers
-distinct-shape s g = every-each mostLive _ (λ i u. every-each i _ (λ j v. if-live (s .txns i) _ (λ l. rw (ne-eqb (s .txns i .number) (s .txns j .number) (λ e. omega (arith, g .numbers .distinct i j l e))))))
+distinct-shape s g = every-each mostLive _
+    (λ i u. every-each i _ (λ j v. if-live (s .txns i) _
+    (λ l. rw (ne-eqb (s .txns i .number) (s .txns j .number) (λ e. omega (arith, g .numbers .distinct i j l e))))))
 
 pub right-shape : (s : Store) → Good s → rightShape s ≡ true
 unfolding rightShape
@@ -177,4 +191,5 @@ sizes-run s more = run-inv (λ w. w .sizes ≡ s .sizes) (λ w w′ i e m. sizes
 
 pub opened-good : (z : Sizes) (clock : ℕ) (before : List Step) → canOpen z clock ≡ true → clock ≤ lastNumber → Good (run (fresh z clock) before)
 unfolding canOpen
-opened-good z clock before e l = good-run (fresh z clock) (good-fresh z clock (and-l (goodSizes z) (leb 1 clock) e) (leb-true 1 clock (and-r (goodSizes z) (leb 1 clock) e)) l) before
+opened-good z clock before e l =
+    good-run (fresh z clock) (good-fresh z clock (and-l (goodSizes z) (leb 1 clock) e) (leb-true 1 clock (and-r (goodSizes z) (leb 1 clock) e)) l) before

@@ -53,15 +53,22 @@ module _ (x : Txn) (r : ℕ) (rs : List ℕ) (c c′ : Chains) (heads-in : (q : 
   first-open : c′ .xmax (suc (c .used)) ≡ 0
   first-open = ⊎-elim
       (λ w. absurd (omega (arith, w .1 .2, later-head (w .1 .0) (w .1 .1), heads-in (w .1 .0) (inr (w .1 .1)))))
-      (λ w. w .0 ∙ (update-other _ (c .head r) (x .number) (suc (c .used)) (λ e. omega (arith, heads-in r (inl refl))) ∙ update-same (c .xmax) (suc (c .used)) 0))
+      (λ w. w .0 ∙ (update-other _ (c .head r) (x .number) (suc (c .used)) (λ e. omega (arith, heads-in r (inl refl)))
+      ∙ update-same (c .xmax) (suc (c .used)) 0))
       (g .xmax-old (suc (c .used)) (omega arith))
 
   ends : (q : ℕ) → q ≤ c .used → EndsOr (x .number) (r ∷ rs) c c′ q
   ends q l = ⊎-elim
       (λ w. inl (w .0, (w .1 .0, inr (w .1 .1), sym (later-head (w .1 .0) (w .1 .1)) ∙ w .1 .2)))
       (λ w. elim (ℕ-discrete q (c .head r)) [
-        | yes e ↦ inl (w .0 ∙ (ap (update (update (c .xmax) (suc (c .used)) 0) (c .head r) (x .number)) e ∙ update-same _ (c .head r) (x .number)), (r, inl refl, sym e))
-        | no d ↦ inr (w .0 ∙ (update-other _ (c .head r) (x .number) q d ∙ update-other (c .xmax) (suc (c .used)) 0 q (λ e. omega arith)), λ p m. ⊎-elim (λ e f. d (sym f ∙ ap (c .head) e)) (λ n f. w .1 p n (later-head p n ∙ f)) m)
+        | yes e ↦ inl (
+          w .0 ∙ (ap (update (update (c .xmax) (suc (c .used)) 0) (c .head r) (x .number)) e ∙ update-same _ (c .head r) (x .number)),
+          (r, inl refl, sym e),
+        )
+        | no d ↦ inr (
+          w .0 ∙ (update-other _ (c .head r) (x .number) q d ∙ update-other (c .xmax) (suc (c .used)) 0 q (λ e. omega arith)),
+          λ p m. ⊎-elim (λ e f. d (sym f ∙ ap (c .head) e)) (λ n f. w .1 p n (later-head p n ∙ f)) m,
+        )
       ])
       (g .xmax-old q (omega arith))
 
@@ -77,7 +84,8 @@ module _ (x : Txn) (r : ℕ) (rs : List ℕ) (c c′ : Chains) (heads-in : (q : 
     in-use = omega (arith, first-head, g .used-up);
     xmin-is = ap (c′ .xmin) first-head ∙ (g .xmin-old (suc (c .used)) (omega arith) ∙ update-same (c .xmin) (suc (c .used)) (x .number));
     xmax-is = ap (c′ .xmax) first-head ∙ first-open;
-    payload-is = ap (c′ .payload) first-head ∙ (g .payload-old (suc (c .used)) (omega arith) ∙ update-same (c .payload) (suc (c .used)) (writtenPayload (lastWrite (x .writes) r)));
+    payload-is = ap (c′ .payload) first-head
+        ∙ (g .payload-old (suc (c .used)) (omega arith) ∙ update-same (c .payload) (suc (c .used)) (writtenPayload (lastWrite (x .writes) r)));
     key-is = ap (c′ .key) first-head ∙ (g .key-old (suc (c .used)) (omega arith) ∙ update-same (c .key) (suc (c .used)) (newKey x r));
     next-is = ap (c′ .next) first-head ∙ (g .next-old (suc (c .used)) (omega arith) ∙ update-same (c .next) (suc (c .used)) (c .head r));
   }

@@ -1,4 +1,5 @@
--- Nothing held is lost: a holder or a claim that is not 0 is the number of a live transaction in a phase that needs it, which holds all that it needs. Assumes nothing.
+-- Nothing held is lost: a holder or a claim that is not 0 is the number of a live transaction in a phase that needs it, which holds all that it needs. Assumes
+-- nothing.
 use mathlib.Core.Path.{_≡_, refl, sym, ap, _∙_}
 use mathlib.Core.Bool.{true≢false}
 use mathlib.Core.Logic.{_≢_, inl, inr, ⊎-elim}
@@ -9,12 +10,15 @@ use native.Mathlib.Omega.{arith}
 use Rattle.base_lists.specs.Lists.{member, Among}
 use Rattle.base_lists.specs.Table.{update, update-elim, cond-elim}
 use Rattle.base_lists.proofs.ListLaws.{among-left, among-right, none-each, which-join, join-same, member-among, among-member}
-use Rattle.model.specs.Store.{Sizes, Held, Phase, Prepared, Installed, Ended, Txn, Store, noTxn, fresh, rank, phaseOpen, phaseHolding, phasePrepared, phaseEnded, bucketIn, keyIn, bucketOf}
+use Rattle.model.specs.Store.{Sizes, Held, Phase, Prepared, Installed, Ended, Txn, Store, noTxn, fresh, rank, phaseOpen, phaseHolding, phasePrepared}
+use Rattle.model.specs.Store.{phaseEnded, bucketIn, keyIn, bucketOf}
 use Rattle.model.specs.Seeing.{Live}
-use Rattle.model.specs.Steps.{withPhase, capturedTxn, captured, collectedTxn, collected, pendingRows, oldKey, newKey, keyBuckets, readBuckets, neededBuckets, prepared, repost, freed, published}
+use Rattle.model.specs.Steps.{withPhase, capturedTxn, captured, collectedTxn, collected, pendingRows, oldKey, newKey, keyBuckets, readBuckets}
+use Rattle.model.specs.Steps.{neededBuckets, prepared, repost, freed, published}
 use Rattle.model.specs.Holding.{Writes, needs, Wants, Claims}
 use Rattle.model.proofs.Phases.{holding-is}
-use Rattle.model.proofs.Move.{CanCapture, CanPrepare, Move, stay, did-begin, did-mark, did-capture, did-collect, did-rows, did-write, did-prepare, did-install, did-end, did-publish, did-abort}
+use Rattle.model.proofs.Move.{CanCapture, CanPrepare, Move, stay, did-begin, did-mark, did-capture, did-collect, did-rows, did-write, did-prepare}
+use Rattle.model.proofs.Move.{did-install, did-end, did-publish, did-abort}
 use Rattle.model.proofs.Numbers.{Numbers}
 use Rattle.model.proofs.SeeingLaws.{key-bucket}
 use Rattle.model.proofs.Owned.{Owned, owned-wants, one-wanter, free, owned-quiet, owned-same, owned-release, owned-take, owned-one, owned-drop}
@@ -42,9 +46,11 @@ claims-none : (z : Sizes) (y : Txn) → rank (y .phase) < phasePrepared → (r :
 claims-none z y l r w = omega (arith, w .0)
 
 -- what is needed for a row
-needs-row : (z : Sizes) (posted : ℕ → Option ℕ) (x : Txn) (r b : ℕ) → Writes z x r → Among b (keyBuckets z (posted r) ++ keyBuckets z (newKey x r)) → Among b (needs z posted x)
+needs-row : (z : Sizes) (posted : ℕ → Option ℕ) (x : Txn) (r b : ℕ) → Writes z x r → Among b (keyBuckets z (posted r) ++ keyBuckets z (newKey x r))
+    → Among b (needs z posted x)
 unfolding needs
-needs-row z posted x r b w m = among-right b (readBuckets x) _ (which-join (λ q. keyBuckets z (posted q) ++ keyBuckets z (newKey x q)) (pendingRows z (x .writes)) b r w m)
+needs-row z posted x r b w m =
+    among-right b (readBuckets x) _ (which-join (λ q. keyBuckets z (posted q) ++ keyBuckets z (newKey x q)) (pendingRows z (x .writes)) b r w m)
 
 pub needs-old : (z : Sizes) (posted : ℕ → Option ℕ) (x : Txn) (r k : ℕ) → Writes z x r → posted r ≡ some k → Among (bucketOf z k) (needs z posted x)
 needs-old z posted x r k w e = needs-row z posted x r (bucketOf z k) w (among-left (bucketOf z k) (keyBuckets z (posted r)) _ (key-bucket z (posted r) k e))
@@ -55,20 +61,28 @@ needs-new z posted x r k w e = needs-row z posted x r (bucketOf z k) w (among-ri
 -- the needs look at the pending rows' postings alone
 needs-posted : (z : Sizes) (po po′ : ℕ → Option ℕ) (x : Txn) → ((r : ℕ) → Writes z x r → po r ≡ po′ r) → needs z po x ≡ needs z po′ x
 unfolding needs
-needs-posted z po po′ x h = ap (λ bs. readBuckets x ++ bs) (join-same (λ r. keyBuckets z (po r) ++ keyBuckets z (newKey x r)) (λ r. keyBuckets z (po′ r) ++ keyBuckets z (newKey x r)) (pendingRows z (x .writes)) (λ r m. rw (h r m)))
+needs-posted z po po′ x h =
+    ap (λ bs. readBuckets x ++ bs)
+    (join-same (λ r. keyBuckets z (po r) ++ keyBuckets z (newKey x r)) (λ r. keyBuckets z (po′ r) ++ keyBuckets z (newKey x r))
+    (pendingRows z (x .writes)) (λ r m. rw (h r m)))
 
 wants-posted : (z : Sizes) (po po′ : ℕ → Option ℕ) (y : Txn) (b : ℕ) → (phasePrepared ≤ rank (y .phase) → needs z po y ≡ needs z po′ y) → Wants z po y b
     → Wants z po′ y b
 wants-posted z po po′ y b h (inl w) = inl w
 wants-posted z po po′ y b h (inr w) = inr (w .0, rw (h (w .0)) at (w .1))
 
-needed-needs : (s : Store) (x : Txn) → ((r : ℕ) → Writes (s .sizes) x r → s .index .posted r ≡ oldKey (s .chains) r) → neededBuckets s x ≡ needs (s .sizes) (s .index .posted) x
+needed-needs : (s : Store) (x : Txn) → ((r : ℕ) → Writes (s .sizes) x r → s .index .posted r ≡ oldKey (s .chains) r)
+    → neededBuckets s x ≡ needs (s .sizes) (s .index .posted) x
 unfolding needs neededBuckets
-needed-needs s x h = ap (λ bs. readBuckets x ++ bs) (join-same (λ r. keyBuckets (s .sizes) (oldKey (s .chains) r) ++ keyBuckets (s .sizes) (newKey x r)) (λ r. keyBuckets (s .sizes) (s .index .posted r) ++ keyBuckets (s .sizes) (newKey x r)) (pendingRows (s .sizes) (x .writes)) (λ r m. rw (h r m)))
+needed-needs s x h = ap (λ bs. readBuckets x ++ bs)
+    (join-same (λ r. keyBuckets (s .sizes) (oldKey (s .chains) r) ++ keyBuckets (s .sizes) (newKey x r))
+    (λ r. keyBuckets (s .sizes) (s .index .posted r) ++ keyBuckets (s .sizes) (newKey x r)) (pendingRows (s .sizes) (x .writes)) (λ r m. rw (h r m)))
 
-pub repost-elim : (P : Option ℕ → Type 0) (x : Txn) (rs : List ℕ) (posted : ℕ → Option ℕ) (r : ℕ) → (Among r rs → P (newKey x r)) → ((Among r rs → ⊥) → P (posted r)) → P (repost x rs posted r)
+pub repost-elim : (P : Option ℕ → Type 0) (x : Txn) (rs : List ℕ) (posted : ℕ → Option ℕ) (r : ℕ) → (Among r rs → P (newKey x r))
+    → ((Among r rs → ⊥) → P (posted r)) → P (repost x rs posted r)
 unfolding repost
-repost-elim P x rs posted r p q = cond-elim P (member r rs) (newKey x r) (posted r) (λ e. p (member-among r rs e)) (λ e. q (λ m. true≢false (sym (among-member r rs m) ∙ e)))
+repost-elim P x rs posted r p q =
+    cond-elim P (member r rs) (newKey x r) (posted r) (λ e. p (member-among r rs e)) (λ e. q (λ m. true≢false (sym (among-member r rs m) ∙ e)))
 
 module _ (s : Store) (i : ℕ) (n : Numbers (s .clock) (s .txns)) (g : HoldersAt s) where
   abbrev W : Txn → ℕ → Type 0
@@ -85,7 +99,8 @@ module _ (s : Store) (i : ℕ) (n : Numbers (s .clock) (s .txns)) (g : HoldersAt
       → rank (x .phase) < phasePrepared → Holders (s .sizes) (s .held) (s .index .posted) (update (s .txns) i x)
   holders-quiet x a b c d = record {
     buckets = owned-quiet W (wants-busy _ _) (s .held .holder) (s .clock) (s .txns) n (g .buckets) i x (wants-none _ _ _ a b) (wants-none _ _ _ c d);
-    claims = owned-quiet (Claims (s .sizes)) (claims-busy _) (s .held .claim) (s .clock) (s .txns) n (g .claims) i x (claims-none (s .sizes) (s .txns i) b) (claims-none (s .sizes) x d);
+    claims = owned-quiet (Claims (s .sizes)) (claims-busy _) (s .held .claim) (s .clock) (s .txns) n (g .claims) i x
+        (claims-none (s .sizes) (s .txns i) b) (claims-none (s .sizes) x d);
   }
 
   -- past prepare nothing is taken or freed until the record ends
@@ -96,25 +111,30 @@ module _ (s : Store) (i : ℕ) (n : Numbers (s .clock) (s .txns)) (g : HoldersAt
     buckets = owned-same W (wants-busy _ _) (s .held .holder) (s .clock) (s .txns) n (g .buckets) i (withPhase (s .txns i) ph) refl
         (λ c w. ⊎-elim (λ v. absurd (omega (arith, ap rank (v .1)))) (λ v. inr (a, v .1)) w)
         (λ c w. ⊎-elim (λ v. absurd (omega (arith, ap rank (v .1)))) (λ v. inr (b, v .1)) w);
-    claims = owned-same (Claims (s .sizes)) (claims-busy _) (s .held .claim) (s .clock) (s .txns) n (g .claims) i (withPhase (s .txns i) ph) refl (λ r w. (a, w .1)) (λ r w. (b, w .1));
+    claims = owned-same (Claims (s .sizes)) (claims-busy _) (s .held .claim) (s .clock) (s .txns) n (g .claims) i (withPhase (s .txns i) ph) refl
+        (λ r w. (a, w .1)) (λ r w. (b, w .1));
   }
 
   holders-capture : (k : ℕ) → Live (s .txns i) → rank (s .txns i .phase) ≡ phaseOpen → CanCapture s i k → HoldersAt (captured s i k)
   holders-capture k l r c = record {
     buckets = owned-one W (wants-busy _ _) (s .held .holder) (s .clock) (s .txns) n (g .buckets) i (capturedTxn s (s .txns i) k) (bucketOf (s .sizes) k) refl
         (wants-none _ _ _ (λ e. omega arith) (omega arith))
-        (free W (wants-busy _ _) (s .held .holder) (s .clock) (s .txns) n (g .buckets) i (bucketOf (s .sizes) k) l (wants-none _ _ _ (λ e. omega arith) (omega arith) _) (c .free))
+        (free W (wants-busy _ _) (s .held .holder) (s .clock) (s .txns) n (g .buckets) i (bucketOf (s .sizes) k) l
+        (wants-none _ _ _ (λ e. omega arith) (omega arith) _) (c .free))
         (λ b w. ⊎-elim (λ v. let e = v .1 in cc) (λ v. absurd (omega (arith, v .0))) w)
         (inl (k, refl));
-    claims = owned-quiet (Claims (s .sizes)) (claims-busy _) (s .held .claim) (s .clock) (s .txns) n (g .claims) i (capturedTxn s (s .txns i) k) (claims-none (s .sizes) (s .txns i) (omega arith)) (claims-none (s .sizes) (capturedTxn s (s .txns i) k) (omega arith));
+    claims = owned-quiet (Claims (s .sizes)) (claims-busy _) (s .held .claim) (s .clock) (s .txns) n (g .claims) i (capturedTxn s (s .txns i) k)
+        (claims-none (s .sizes) (s .txns i) (omega arith)) (claims-none (s .sizes) (capturedTxn s (s .txns i) k) (omega arith));
   }
 
   holders-collect : rank (s .txns i .phase) ≡ phaseHolding → HoldersAt (collected s i)
   holders-collect r = let e = holding-is (s .txns i .phase) r in record {
-    buckets = owned-drop W (wants-busy _ _) (s .held .holder) (s .clock) (s .txns) n (g .buckets) i _ (bucketIn (s .txns i .phase)) (inl (keyIn (s .txns i .phase), e))
+    buckets = owned-drop W (wants-busy _ _) (s .held .holder) (s .clock) (s .txns) n (g .buckets) i _ (bucketIn (s .txns i .phase))
+        (inl (keyIn (s .txns i .phase), e))
         (λ b w. ⊎-elim (λ v. let f = v .1 in cc) (λ v. absurd (omega (arith, v .0))) w)
         (wants-none _ _ _ (λ f. omega arith) (omega arith));
-    claims = owned-quiet (Claims (s .sizes)) (claims-busy _) (s .held .claim) (s .clock) (s .txns) n (g .claims) i (collectedTxn s (s .txns i)) (claims-none (s .sizes) (s .txns i) (omega arith)) (claims-none (s .sizes) (collectedTxn s (s .txns i)) (omega arith));
+    claims = owned-quiet (Claims (s .sizes)) (claims-busy _) (s .held .claim) (s .clock) (s .txns) n (g .claims) i (collectedTxn s (s .txns i))
+        (claims-none (s .sizes) (s .txns i) (omega arith)) (claims-none (s .sizes) (collectedTxn s (s .txns i)) (omega arith));
   }
 
   -- the posted key of a pending row is the old one at prepare
@@ -124,14 +144,19 @@ module _ (s : Store) (i : ℕ) (n : Numbers (s .clock) (s .txns)) (g : HoldersAt
   holders-prepare l r c h =
       let e = needed-needs s (s .txns i) h in
       record {
-        buckets = owned-take W (wants-busy _ _) (s .held .holder) (s .clock) (s .txns) n (g .buckets) i (withPhase (s .txns i) Prepared) (neededBuckets s (s .txns i)) refl
+        buckets = owned-take W (wants-busy _ _) (s .held .holder) (s .clock) (s .txns) n (g .buckets) i (withPhase (s .txns i) Prepared)
+            (neededBuckets s (s .txns i)) refl
             (wants-none (s .sizes) (s .index .posted) (s .txns i) (λ f. omega arith) (omega arith))
-            (λ b m. free W (wants-busy _ _) (s .held .holder) (s .clock) (s .txns) n (g .buckets) i b l (wants-none (s .sizes) (s .index .posted) (s .txns i) (λ f. omega arith) (omega arith) b) (none-each _ (neededBuckets s (s .txns i)) (c .buckets-free) b m))
+            (λ b m. free W (wants-busy _ _) (s .held .holder) (s .clock) (s .txns) n (g .buckets) i b l
+            (wants-none (s .sizes) (s .index .posted) (s .txns i) (λ f. omega arith) (omega arith) b)
+            (none-each _ (neededBuckets s (s .txns i)) (c .buckets-free) b m))
             (λ b w. ⊎-elim (λ v. absurd (omega (arith, ap rank (v .1)))) (λ v. rw e (v .1)) w)
             (λ b m. inr (omega arith, rw e at m));
-        claims = owned-take (Claims (s .sizes)) (claims-busy _) (s .held .claim) (s .clock) (s .txns) n (g .claims) i (withPhase (s .txns i) Prepared) (pendingRows (s .sizes) (s .txns i .writes)) refl
+        claims = owned-take (Claims (s .sizes)) (claims-busy _) (s .held .claim) (s .clock) (s .txns) n (g .claims) i (withPhase (s .txns i) Prepared)
+            (pendingRows (s .sizes) (s .txns i .writes)) refl
             (claims-none (s .sizes) (s .txns i) (omega arith))
-            (λ q m. free (Claims (s .sizes)) (claims-busy _) (s .held .claim) (s .clock) (s .txns) n (g .claims) i q l (claims-none (s .sizes) (s .txns i) (omega arith) q) (none-each _ (pendingRows (s .sizes) (s .txns i .writes)) (c .rows-free) q m))
+            (λ q m. free (Claims (s .sizes)) (claims-busy _) (s .held .claim) (s .clock) (s .txns) n (g .claims) i q l
+            (claims-none (s .sizes) (s .txns i) (omega arith) q) (none-each _ (pendingRows (s .sizes) (s .txns i .writes)) (c .rows-free) q m))
             (λ q w. w .1)
             (λ q m. (omega arith, m));
       }
@@ -145,7 +170,9 @@ module _ (s : Store) (i : ℕ) (n : Numbers (s .clock) (s .txns)) (g : HoldersAt
   -- the rows of another that is past `prepare` stay posted as they are
   pub posted-kept : phasePrepared ≤ rank (s .txns i .phase) → (j r : ℕ) → j ≢ i → phasePrepared ≤ rank (s .txns j .phase) → Writes (s .sizes) (s .txns j) r
       → published s i .index .posted r ≡ s .index .posted r
-  posted-kept a j r d b w = repost-elim (λ o. o ≡ s .index .posted r) (s .txns i) (pendingRows (s .sizes) (s .txns i .writes)) (s .index .posted) r (λ m. absurd (d (one-claim j i r (b, w) (a, m)))) (λ m. refl)
+  posted-kept a j r d b w =
+      repost-elim (λ o. o ≡ s .index .posted r) (s .txns i) (pendingRows (s .sizes) (s .txns i .writes)) (s .index .posted) r
+      (λ m. absurd (d (one-claim j i r (b, w) (a, m)))) (λ m. refl)
 
   late-needs : rank (s .txns i .phase) ≡ phaseEnded → (j : ℕ) → phasePrepared ≤ rank (published s i .txns j .phase)
       → needs (s .sizes) (s .index .posted) (published s i .txns j) ≡ needs (s .sizes) (published s i .index .posted) (published s i .txns j)
@@ -168,7 +195,8 @@ pub holders-move : (s s′ : Store) {a : ℕ} → Numbers (s .clock) (s .txns) �
     → s .index .posted r ≡ oldKey (s .chains) r)
     → Move s a s′ → HoldersAt s′
 holders-move s s′ n g h (stay i) = g
-holders-move s s′ n g h (did-begin i a b c d) = holders-quiet s i n g _ (λ e. omega (arith, n .idle i b)) (omega (arith, n .idle i b)) (λ e. omega arith) (omega arith)
+holders-move s s′ n g h (did-begin i a b c d) =
+    holders-quiet s i n g _ (λ e. omega (arith, n .idle i b)) (omega (arith, n .idle i b)) (λ e. omega arith) (omega arith)
 holders-move s s′ n g h (did-mark i a b) = holders-quiet s i n g _ (λ e. omega arith) (omega arith) (λ e. omega arith) (omega arith)
 holders-move s s′ n g h (did-capture i k a b c) = holders-capture s i n g k a b c
 holders-move s s′ n g h (did-collect i a b) = holders-collect s i n g b

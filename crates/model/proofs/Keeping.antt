@@ -32,7 +32,8 @@ module _ (z : Sizes) (clock : ℕ) (before : List Step) (e : canOpen z clock ≡
     holds = g .holders .buckets .owns;
     claim-needs = g .holders .claims .owner;
     claims = g .holders .claims .owns;
-    every-pending = λ i r p. let w = pending-which (s .txns i .writes) r p in which-pendingRows (s .sizes) (s .txns i .writes) r (rw (w .2) at (g .ranges i .0 .writes-in (w .0) (w .1))) p;
+    every-pending = λ i r p. let w = pending-which (s .txns i .writes) r p in
+        which-pendingRows (s .sizes) (s .txns i .writes) r (rw (w .2) at (g .ranges i .0 .writes-in (w .0) (w .1))) p;
     old-prepared = posted-old s (g .numbers) (g .holders) (g .written);
     made-or-nothing = λ i r a b w. posted-either s (g .numbers) (g .holders) (g .written) i r a b w;
     old-installed = λ i r a b w. sym (g .written .mine i r a b w .before);

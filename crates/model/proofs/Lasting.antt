@@ -13,7 +13,8 @@ use Rattle.model.specs.Steps.{installed}
 use Rattle.model.specs.Refusals.{Step}
 use Rattle.model.specs.Machine.{step, run}
 use Rattle.model.specs.Demands.{KeptVersion}
-use Rattle.model.proofs.Move.{Move, stay, did-begin, did-mark, did-capture, did-collect, did-rows, did-write, did-prepare, did-install, did-end, did-publish, did-abort, run-inv}
+use Rattle.model.proofs.Move.{Move, stay, did-begin, did-mark, did-capture, did-collect, did-rows, did-write, did-prepare, did-install, did-end}
+use Rattle.model.proofs.Move.{did-publish, did-abort, run-inv}
 use Rattle.model.proofs.Chained.{Chained}
 use Rattle.model.proofs.SeeingLaws.{same-key, keyAt-pos, keyAt-key, version-in}
 use Rattle.model.proofs.Written.{installs}
@@ -76,7 +77,8 @@ pub lasts-run : (s : Store) → Good s → (more : List Step) → Lasts (s .chai
 lasts-run s g more = lasts-on (s .chains) s (g, lasts-all (s .chains)) more .1
 
 -- what a snapshot shows for a key are versions in use that carry it
-pub shown-in : (c : Chains) (n : ℕ) (v : Snapshot) (k : ℕ) (q : ReadRecord) → Among q (shows c n v k) → (1 ≤ q .ptr) × (q .ptr ≤ c .used) × (c .key (q .ptr) ≡ some k)
+pub shown-in : (c : Chains) (n : ℕ) (v : Snapshot) (k : ℕ) (q : ReadRecord) → Among q (shows c n v k)
+    → (1 ≤ q .ptr) × (q .ptr ≤ c .used) × (c .key (q .ptr) ≡ some k)
 unfolding shows
 shown-in c n v k q m =
     let w = map-among (recordOf c v) (pick (λ r. sameKey (keyAt c (versionOf c v r)) (some k)) 0 n) q m in

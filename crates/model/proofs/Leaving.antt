@@ -10,10 +10,12 @@ use lib.Dec.{ltb, leb}
 use borrow.Author.Tests.{eq-eqb, ne-eqb, leb-true}
 use Rattle.base_lists.specs.Lists.{least, every, Among, Rising}
 use Rattle.base_lists.specs.Table.{update, updateAll, update-same, update-other, cond-elim}
-use Rattle.base_lists.proofs.ListLaws.{and-l, and-r, is-false, among-left, among-right, among-cases, join-which, which-join, among-member, not-member, least-own, least-each, pick-rising, pick-which}
+use Rattle.base_lists.proofs.ListLaws.{and-l, and-r, is-false, among-left, among-right, among-cases, join-which, which-join, among-member, not-member}
+use Rattle.base_lists.proofs.ListLaws.{least-own, least-each, pick-rising, pick-which}
 use Rattle.model.specs.Store.{Sizes, Open, Write, Txn, Store, rank, phaseOpen, bucketIn, sameKey, bucketOf}
 use Rattle.model.specs.Seeing.{pending, writtenKey, activeNumbers}
-use Rattle.model.specs.Steps.{withPhase, newTxn, hasRead, addRead, capturedTxn, writtenTxn, pendingRows, keyBefore, newKey, versionRows, madeRows, keyBuckets, neededBuckets, preparedHeld, repost, changedBuckets, publishedIndex, release, freed}
+use Rattle.model.specs.Steps.{withPhase, newTxn, hasRead, addRead, capturedTxn, writtenTxn, pendingRows, keyBefore, newKey, versionRows, madeRows}
+use Rattle.model.specs.Steps.{keyBuckets, neededBuckets, preparedHeld, repost, changedBuckets, publishedIndex, release, freed}
 use Rattle.model.specs.Refusals.{Step, begin, capture, collect, rows, write, prepare, install, end, publish, validate, abort, txnOf}
 use Rattle.model.specs.Shape.{goodChains, rightShape}
 use Rattle.model.specs.Machine.{at, accepted, actor, step}
@@ -35,7 +37,8 @@ use Rattle.model.proofs.Outcomes.{done-does}
 least-one : (n : ℕ) (xs : List ℕ) → (least n xs ≡ n) ⊎ Among (least n xs) xs
 unfolding least
 least-one n [] = inl refl
-least-one n (x ∷ xs) = cond-elim (λ k. (least k xs ≡ n) ⊎ Among (least k xs) (x ∷ xs)) (ltb x n) x n (λ e. inr (⊎-elim inl inr (least-one x xs))) (λ e. ⊎-elim inl (λ m. inr (inr m)) (least-one n xs))
+least-one n (x ∷ xs) = cond-elim (λ k. (least k xs ≡ n) ⊎ Among (least k xs) (x ∷ xs)) (ltb x n) x n (λ e. inr (⊎-elim inl inr (least-one x xs)))
+    (λ e. ⊎-elim inl (λ m. inr (inr m)) (least-one n xs))
 
 taken : (s : Store) → TakenAt s (newTxn s .snapshot)
 taken s = record {
@@ -57,7 +60,8 @@ module _ (s : Store) (t : ℕ) where
   abbrev both-keys : ℕ → List ℕ
   both-keys r = keyBuckets (s .sizes) (keyBefore (s .chains) r) ++ keyBuckets (s .sizes) (newKey (txnOf s t) r)
 
-  changes-in : (r b : ℕ) (same : Bool) → sameKey (keyBefore (s .chains) r) (newKey (txnOf s t) r) ≡ same → Among b (cond same [] (both-keys r)) → Among r (madeRows (s .sizes) (s .chains) (txnOf s t .number) (txnOf s t .writes)) → Stamps s (publish t) b
+  changes-in : (r b : ℕ) (same : Bool) → sameKey (keyBefore (s .chains) r) (newKey (txnOf s t) r) ≡ same → Among b (cond same [] (both-keys r))
+      → Among r (madeRows (s .sizes) (s .chains) (txnOf s t .number) (txnOf s t .writes)) → Stamps s (publish t) b
   changes-in r b true e m w = absurd m
   changes-in r b false e m w = (
     r,
@@ -71,11 +75,13 @@ module _ (s : Store) (t : ℕ) where
 
   changed-stamps : (b : ℕ) → Among b (changedBuckets s (txnOf s t)) → Stamps s (publish t) b
   unfolding changedBuckets
-  changed-stamps b m = let w = join-which _ (madeRows (s .sizes) (s .chains) (txnOf s t .number) (txnOf s t .writes)) b m in changes-in (w .0) b _ refl (w .2) (w .1)
+  changed-stamps b m = let w = join-which _ (madeRows (s .sizes) (s .chains) (txnOf s t .number) (txnOf s t .writes)) b m in
+      changes-in (w .0) b _ refl (w .2) (w .1)
 
   stamps-changed : (b : ℕ) → Stamps s (publish t) b → Among b (changedBuckets s (txnOf s t))
   unfolding changedBuckets
-  stamps-changed b w = which-join _ (madeRows (s .sizes) (s .chains) (txnOf s t .number) (txnOf s t .writes)) b (w .0) (w .1) (rw (is-false (sameKey (keyBefore (s .chains) (w .0)) (newKey (txnOf s t) (w .0))) (λ e. w .2 (same-key _ _ e)))
+  stamps-changed b w = which-join _ (madeRows (s .sizes) (s .chains) (txnOf s t .number) (txnOf s t .writes)) b (w .0) (w .1)
+      (rw (is-false (sameKey (keyBefore (s .chains) (w .0)) (newKey (txnOf s t) (w .0))) (λ e. w .2 (same-key _ _ e)))
       (rw (w .3 .2) (⊎-elim
       (λ e. among-left _ (keyBuckets (s .sizes) (keyBefore (s .chains) (w .0))) _ (key-bucket (s .sizes) _ (w .3 .0) e))
       (λ e. among-right _ (keyBuckets (s .sizes) (keyBefore (s .chains) (w .0))) _ (key-bucket (s .sizes) _ (w .3 .0) e))
@@ -83,7 +89,8 @@ module _ (s : Store) (t : ℕ) where
 
 -- a step that stamps and posts nothing
 quiet-index : (s : Store) (a : Step) → ((b : ℕ) → Stamps s a b → ⊥) → posts s a ≡ [] → IndexAfter s a (s .index)
-quiet-index s a no-stamp no-post = record { stamp-new = λ b w. absurd (no-stamp b w); stamp-stays = λ b n. refl; posted-new = λ r m. absurd (rw no-post at m); posted-stays = λ r n. refl }
+quiet-index s a no-stamp no-post =
+    record { stamp-new = λ b w. absurd (no-stamp b w); stamp-stays = λ b n. refl; posted-new = λ r m. absurd (rw no-post at m); posted-stays = λ r n. refl }
 
 -- HOLDERS AND CLAIMS
 
@@ -126,7 +133,8 @@ release-other n t f j e d = rw (ne-eqb (f j) n (λ c. d (c ∙ e)))
 heads-used : (s : Store) → Shaped s → (r : ℕ) → r < s .sizes .rows → s .chains .head r ≤ s .chains .used
 unfolding rightShape goodChains
 heads-used s e r l =
-    let c : leb (s .chains .used) (s .sizes .versions) && every (s .sizes .rows) (λ r. leb (s .chains .head r) (s .chains .used)) ≡ true = search (and-l, and-r) depth 10 in
+    let c : leb (s .chains .used) (s .sizes .versions) && every (s .sizes .rows) (λ r. leb (s .chains .head r) (s .chains .used)) ≡ true =
+    search (and-l, and-r) depth 10 in
     leb-true _ _ (each-below (s .sizes .rows) (λ q. leb (s .chains .head q) (s .chains .used)) (and-r (leb (s .chains .used) (s .sizes .versions)) _ c) r l)
 
 rising : (s : Store) (t : ℕ) → Rising 0 (versionRows (s .sizes) (s .chains) (txnOf s t .writes))
@@ -155,9 +163,11 @@ module _ (s : Store) where
     own : txnOf s t .number ≡ t
     own = lives-number s t l
 
-    captured-held : (k : ℕ) → HeldAfter s (capture t k) (record { holder = update (s .held .holder) (bucketFor s k) (txnOf s t .number); claim = s .held .claim })
+    captured-held : (k : ℕ) → HeldAfter s (capture t k)
+        (record { holder = update (s .held .holder) (bucketFor s k) (txnOf s t .number); claim = s .held .claim })
     captured-held k = record {
-      holder-taken = λ b e. ap (update (s .held .holder) (bucketFor s k) (txnOf s t .number)) e ∙ (update-same (s .held .holder) (bucketFor s k) (txnOf s t .number) ∙ own);
+      holder-taken = λ b e. ap (update (s .held .holder) (bucketFor s k) (txnOf s t .number)) e
+          ∙ (update-same (s .held .holder) (bucketFor s k) (txnOf s t .number) ∙ own);
       holder-freed = λ b w. absurd w;
       holder-stays = λ b d n. update-other (s .held .holder) (bucketFor s k) (txnOf s t .number) b d;
       claim-taken = λ r w. absurd w;
@@ -187,7 +197,15 @@ module _ (s : Store) where
 
     -- publish frees what abort frees
     published-held : HeldAfter s (publish t) (freed (s .held) (txnOf s t .number))
-    published-held = let h = aborted-held in record { holder-taken = λ b w. absurd w; holder-freed = h .holder-freed; holder-stays = h .holder-stays; claim-taken = λ r w. absurd w; claim-freed = h .claim-freed; claim-stays = h .claim-stays }
+    published-held = let h = aborted-held in
+        record {
+          holder-taken = λ b w. absurd w;
+          holder-freed = h .holder-freed;
+          holder-stays = h .holder-stays;
+          claim-taken = λ r w. absurd w;
+          claim-freed = h .claim-freed;
+          claim-stays = h .claim-stays;
+        }
 
   collected-held : (t : ℕ) → HeldAfter s (collect t) (record { holder = update (s .held .holder) (bucketIn (txnOf s t .phase)) 0; claim = s .held .claim })
   collected-held t = record {
@@ -204,7 +222,8 @@ module _ (s : Store) where
   published-index t = record {
     stamp-new = λ b w. taken-all (s .index .stamp) (changedBuckets s (txnOf s t)) (s .clock) b (stamps-changed s t b w);
     stamp-stays = λ b n. untaken-all (s .index .stamp) (changedBuckets s (txnOf s t)) (s .clock) b (λ m. n (changed-stamps s t b m));
-    posted-new = λ r m. let w = last-write (txnOf s t .writes) r (pending-in (s .sizes) (txnOf s t .writes) r m .1) in (w .0, w .1, rw (among-member r (pendingRows (s .sizes) (txnOf s t .writes)) m) (ap writtenKey (w .2)));
+    posted-new = λ r m. let w = last-write (txnOf s t .writes) r (pending-in (s .sizes) (txnOf s t .writes) r m .1) in
+        (w .0, w .1, rw (among-member r (pendingRows (s .sizes) (txnOf s t .writes)) m) (ap writtenKey (w .2)));
     posted-stays = λ r n. rw (not-member r (pendingRows (s .sizes) (txnOf s t .writes)) n);
   }
 
@@ -292,7 +311,8 @@ leaves s (prepare t) e = rw (done-does s (prepare t) e) (record {
 leaves s (install t) e = rw (done-does s (install t) e) (record {
   sizes-stay = refl;
   clock-is = refl;
-  versions-are = makes-all (txnOf s t) (versionRows (s .sizes) (s .chains) (txnOf s t .writes)) (s .chains) (λ r m. heads-used s (install-0 s t .0 e .0) r (getting-in s t r m .0)) (rising s t) (λ r m. getting-in s t r m .1);
+  versions-are = makes-all (txnOf s t) (versionRows (s .sizes) (s .chains) (txnOf s t .writes)) (s .chains)
+      (λ r m. heads-used s (install-0 s t .0 e .0) r (getting-in s t r m .0)) (rising s t) (λ r m. getting-in s t r m .1);
   index-is = quiet-index s (install t) (λ b w. w) refl;
   held-is = quiet-held s (install t) nothing;
   asker-is = asker s (at s t) _;

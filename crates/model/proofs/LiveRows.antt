@@ -19,7 +19,8 @@ use Rattle.model.specs.Refusals.{publish}
 use Rattle.model.specs.Machine.{at, accepted, step, run}
 use Rattle.model.specs.Holding.{Writes, Made, ErasesNothing}
 use Rattle.model.specs.Given.{number}
-use Rattle.model.proofs.Move.{Move, stay, did-begin, did-mark, did-capture, did-collect, did-rows, did-write, did-prepare, did-install, did-end, did-publish, did-abort, step-move}
+use Rattle.model.proofs.Move.{Move, stay, did-begin, did-mark, did-capture, did-collect, did-rows, did-write, did-prepare, did-install, did-end}
+use Rattle.model.proofs.Move.{did-publish, did-abort, step-move}
 use Rattle.model.proofs.Chained.{top}
 use Rattle.model.proofs.Numbers.{in-place, active-which, which-active}
 use Rattle.model.proofs.Walk.{Finds, nothing, here, down, version-finds, finds-one, finds-head, InChain, heads, finds-alike, chains-apart}
@@ -39,7 +40,8 @@ Hidden s p = (j : ℕ) × Live (s .txns j) × (rank (s .txns j .phase) ≡ phase
 module _ (s : Store) (g : Good s) (p : ℕ) (l : 1 ≤ p) (u : p ≤ s .chains .used) where
   pub hidden-unseen : Hidden s p → seen (snapshotNow s) (s .chains .xmin p) ≡ false
   unfolding snapshotNow
-  hidden-unseen h = unseen-active (snapshotNow s) (s .chains .xmin p) (rw (h .3) (which-active (s .txns) (h .0) (in-place (s .clock) (s .txns) (g .numbers) (h .0) (h .1)) (h .1) (omega (arith, h .2))))
+  hidden-unseen h = unseen-active (snapshotNow s) (s .chains .xmin p)
+      (rw (h .3) (which-active (s .txns) (h .0) (in-place (s .clock) (s .txns) (g .numbers) (h .0) (h .1)) (h .1) (omega (arith, h .2))))
 
   pub unseen-hidden : seen (snapshotNow s) (s .chains .xmin p) ≡ false → Hidden s p
   unfolding snapshotNow
@@ -52,9 +54,11 @@ pub alike : (s s′ : Store) → Good s → Good s′ → s′ .chains ≡ s .ch
     → ((p : ℕ) → 1 ≤ p → p ≤ s .chains .used → InChain (s .chains) r p → Hidden s p → Hidden s′ p)
     → ((p : ℕ) → 1 ≤ p → p ≤ s .chains .used → InChain (s .chains) r p → Hidden s′ p → Hidden s p) → liveRow s′ r ≡ liveRow s r
 unfolding contentOf snapshotNow
-alike s s′ g g′ e r to from = ap (λ c. content (keyAt c (versionOf c (snapshotNow s′) r)) (c .payload (versionOf c (snapshotNow s′) r))) e ∙ ap (λ p. content (keyAt (s .chains) p) (s .chains .payload p)) same
+alike s s′ g g′ e r to from = ap (λ c. content (keyAt c (versionOf c (snapshotNow s′) r)) (c .payload (versionOf c (snapshotNow s′) r))) e
+    ∙ ap (λ p. content (keyAt (s .chains) p) (s .chains .payload p)) same
   where
-    eyes : (p : ℕ) → 1 ≤ p → p ≤ s .chains .used → InChain (s .chains) r p → seen (snapshotNow s′) (s .chains .xmin p) ≡ seen (snapshotNow s) (s .chains .xmin p)
+    eyes : (p : ℕ) → 1 ≤ p → p ≤ s .chains .used → InChain (s .chains) r p
+        → seen (snapshotNow s′) (s .chains .xmin p) ≡ seen (snapshotNow s) (s .chains .xmin p)
     eyes p l u i = same-false _ _
         (λ f. hidden-unseen s g p l u (from p l u i (unseen-hidden s′ g′ p l (rw e u) (rw e f))))
         (λ f. rw e at (hidden-unseen s′ g′ p l (rw e u) (to p l u i (unseen-hidden s g p l u f))))
@@ -66,7 +70,9 @@ alike s s′ g g′ e r to from = ap (λ c. content (keyAt c (versionOf c (snaps
         same-false false false f h = refl
 
     same : versionOf (s .chains) (snapshotNow s′) r ≡ versionOf (s .chains) (snapshotNow s) r
-    same = finds-one (s .chains) (snapshotNow s′) (s .chains .head r) _ _ (version-finds (s .chains) (snapshotNow s′) (g .chained) r) (finds-alike (s .chains) (snapshotNow s) (snapshotNow s′) r eyes (s .chains .head r) _ (heads refl) (version-finds (s .chains) (snapshotNow s) (g .chained) r))
+    same = finds-one (s .chains) (snapshotNow s′) (s .chains .head r) _ _ (version-finds (s .chains) (snapshotNow s′) (g .chained) r)
+        (finds-alike (s .chains) (snapshotNow s) (snapshotNow s′) r eyes (s .chains .head r) _ (heads refl)
+        (version-finds (s .chains) (snapshotNow s) (g .chained) r))
 
 -- one place changes, and neither before nor after is Installed
 module _ (s s′ : Store) (i : ℕ) (x : Txn) (t-is : s′ .txns ≡ update (s .txns) i x) (c-is : s′ .chains ≡ s .chains)
@@ -104,11 +110,14 @@ module _ (s : Store) (i : ℕ) (g : Good s) (g′ : Good (installed s i)) (l : L
   unseen = unseen-active (snapshotNow s) (s .txns i .number) (which-active (s .txns) i (in-place (s .clock) (s .txns) (g .numbers) i l) l (omega arith))
 
   pub live-install : (r : ℕ) → liveRow (installed s i) r ≡ liveRow s r
-  live-install r = ap (λ v. contentOf (installed s i .chains) v r) now-installed ∙ content-grown (s .txns i) _ (s .chains) (installed s i .chains) (g .chained) (g′ .chained) (installs s i (g .chained)) (snapshotNow s) unseen r
+  live-install r = ap (λ v. contentOf (installed s i .chains) v r) now-installed
+      ∙ content-grown (s .txns i) _ (s .chains) (installed s i .chains) (g .chained) (g′ .chained) (installs s i (g .chained)) (snapshotNow s) unseen r
 
 -- a row whose head is not hidden shows its head
-pub head-shown : (s : Store) → Good s → (r : ℕ) → (1 ≤ s .chains .head r → Hidden s (s .chains .head r) → ⊥) → versionOf (s .chains) (snapshotNow s) r ≡ s .chains .head r
-head-shown s g r open-head = finds-head (s .chains) (snapshotNow s) (g .chained) r (λ l. sees l (seen (snapshotNow s) (s .chains .xmin (s .chains .head r))) refl)
+pub head-shown : (s : Store) → Good s → (r : ℕ) → (1 ≤ s .chains .head r → Hidden s (s .chains .head r) → ⊥)
+    → versionOf (s .chains) (snapshotNow s) r ≡ s .chains .head r
+head-shown s g r open-head =
+    finds-head (s .chains) (snapshotNow s) (g .chained) r (λ l. sees l (seen (snapshotNow s) (s .chains .xmin (s .chains .head r))) refl)
   where
     sees : 1 ≤ s .chains .head r → (b : Bool) → seen (snapshotNow s) (s .chains .xmin (s .chains .head r)) ≡ b → b ≡ true
     sees l true e = refl
@@ -123,17 +132,22 @@ module _ (s : Store) (i : ℕ) (g : Good s) (l : Live (s .txns i)) (a : rank (s 
   before-end : Made (s .sizes) (s .chains) (s .txns i) r → versionOf (s .chains) (snapshotNow s) r ≡ s .chains .next h
   before-end w = let m = g .written .mine i r l (omega arith) w in
       finds-one (s .chains) (snapshotNow s) h _ _ (version-finds (s .chains) (snapshotNow s) (g .chained) r)
-      (down {p = h} (m .head-pos) (g .chained .heads-in r) (hidden-unseen s g h (m .head-pos) (g .chained .heads-in r) (i, l, a, m .xmin-is)) (under (m .head-pos) (ℕ-discrete (s .chains .next h) 0)))
+      (down {p = h} (m .head-pos) (g .chained .heads-in r) (hidden-unseen s g h (m .head-pos) (g .chained .heads-in r) (i, l, a, m .xmin-is))
+      (under (m .head-pos) (ℕ-discrete (s .chains .next h) 0)))
     where
       under : 1 ≤ h → Dec (s .chains .next h ≡ 0) → Finds (s .chains) (snapshotNow s) (s .chains .next h) (s .chains .next h)
       under pos (yes e) = nothing e e
-      under pos (no d) = here {p = s .chains .next h} (omega arith) (omega (arith, g .chained .next-falls h pos (g .chained .heads-in r), g .chained .heads-in r)) (shown (seen (snapshotNow s) (s .chains .xmin (s .chains .next h))) refl) refl
+      under pos (no d) = here {p = s .chains .next h} (omega arith)
+          (omega (arith, g .chained .next-falls h pos (g .chained .heads-in r), g .chained .heads-in r))
+          (shown (seen (snapshotNow s) (s .chains .xmin (s .chains .next h))) refl) refl
         where
           shown : (b : Bool) → seen (snapshotNow s) (s .chains .xmin (s .chains .next h)) ≡ b → b ≡ true
           shown true e = refl
           shown false e =
-              let u = unseen-hidden s g (s .chains .next h) (omega arith) (omega (arith, g .chained .next-falls h pos (g .chained .heads-in r), g .chained .heads-in r)) e in
-              let m = g .written .made (s .chains .next h) (u .0) (omega arith) (omega (arith, g .chained .next-falls h pos (g .chained .heads-in r), g .chained .heads-in r)) (u .1) (u .3) in
+              let u = unseen-hidden s g (s .chains .next h) (omega arith)
+              (omega (arith, g .chained .next-falls h pos (g .chained .heads-in r), g .chained .heads-in r)) e in
+              let m = g .written .made (s .chains .next h) (u .0) (omega arith)
+              (omega (arith, g .chained .next-falls h pos (g .chained .heads-in r), g .chained .heads-in r)) (u .1) (u .3) in
               absurd (top (s .chains) (g .chained) h (m .1 .0) pos (g .chained .heads-in r) d (sym (m .1 .2)))
 
   -- where it got no version the head is not hidden
@@ -141,13 +155,18 @@ module _ (s : Store) (i : ℕ) (g : Good s) (l : Live (s .txns i)) (a : rank (s 
   head-open w no-version pos q =
       let m = g .written .made h (q .0) pos (g .chained .heads-in r) (q .1) (q .3) in
       let m′ : Made (s .sizes) (s .chains) (s .txns (q .0)) r = rw (g .chained .one-head (m .1 .0) r (λ e. omega (arith, m .1 .2)) (m .1 .2)) at (m .1 .1) in
-      no-version (rw (one-claim s i (g .numbers) (g .holders) (q .0) i r (omega (arith, q .2), made-writes (s .sizes) (s .chains) (s .txns (q .0)) r m′) (omega arith, w)) at m′)
+      no-version (rw (one-claim s i (g .numbers) (g .holders) (q .0) i r (omega (arith, q .2), made-writes (s .sizes) (s .chains) (s .txns (q .0)) r m′)
+      (omega arith, w)) at m′)
 
   -- it got a version, or it erased nothing
-  pub made-or-none : Writes (s .sizes) (s .txns i) r → Made (s .sizes) (s .chains) (s .txns i) r ⊎ ((Made (s .sizes) (s .chains) (s .txns i) r → ⊥) × ErasesNothing (s .chains) (s .txns i) r × (s .index .posted r ≡ none))
+  pub made-or-none : Writes (s .sizes) (s .txns i) r
+      → Made (s .sizes) (s .chains) (s .txns i) r
+      ⊎ ((Made (s .sizes) (s .chains) (s .txns i) r → ⊥) × ErasesNothing (s .chains) (s .txns i) r × (s .index .posted r ≡ none))
   made-or-none w = go (member r (madeRows (s .sizes) (s .chains) (s .txns i .number) (s .txns i .writes))) refl
     where
-      go : (b : Bool) → member r (madeRows (s .sizes) (s .chains) (s .txns i .number) (s .txns i .writes)) ≡ b → Made (s .sizes) (s .chains) (s .txns i) r ⊎ ((Made (s .sizes) (s .chains) (s .txns i) r → ⊥) × ErasesNothing (s .chains) (s .txns i) r × (s .index .posted r ≡ none))
+      go : (b : Bool) → member r (madeRows (s .sizes) (s .chains) (s .txns i .number) (s .txns i .writes)) ≡ b
+          → Made (s .sizes) (s .chains) (s .txns i) r
+          ⊎ ((Made (s .sizes) (s .chains) (s .txns i) r → ⊥) × ErasesNothing (s .chains) (s .txns i) r × (s .index .posted r ≡ none))
       go true e = inl (member-among r _ e)
       go false e = let no-version : Made (s .sizes) (s .chains) (s .txns i) r → ⊥ = λ m. true≢false (sym (among-member r _ m) ∙ e) in
           ⊎-elim (λ m. absurd (no-version m)) (λ o. inr (no-version, o .0, o .1)) (posted-either s (g .numbers) (g .holders) (g .written) i r l (omega arith) w)
@@ -186,7 +205,8 @@ module _ (s : Store) (i : ℕ) (g : Good s) (g′ : Good (becomes s i Ended)) (l
           other : update (s .txns) i (withPhase (s .txns i) Ended) (h .0) ≡ s .txns (h .0)
           other = update-other (s .txns) i _ (h .0) apart
 
-  made-shown : (r : ℕ) → Made (s .sizes) (s .chains) (s .txns i) r → liveRow (becomes s i Ended) r ≡ content (newKey (s .txns i) r) (writtenPayload (lastWrite (s .txns i .writes) r))
+  made-shown : (r : ℕ) → Made (s .sizes) (s .chains) (s .txns i) r
+      → liveRow (becomes s i Ended) r ≡ content (newKey (s .txns i) r) (writtenPayload (lastWrite (s .txns i .writes) r))
   unfolding contentOf
   made-shown r w = rw (top-shown, m .key-is, m .payload-is) refl
     where
@@ -202,11 +222,13 @@ module _ (s : Store) (i : ℕ) (g : Good s) (g′ : Good (becomes s i Ended)) (l
   pub live-others : (r : ℕ) → (Writes (s .sizes) (s .txns i) r → ⊥) → liveRow (becomes s i Ended) r ≡ liveRow s r
   live-others r none-written = unmade-same r (λ m. none-written (made-writes (s .sizes) (s .chains) (s .txns i) r m))
 
-  pub live-own : (r : ℕ) → Writes (s .sizes) (s .txns i) r → liveRow (becomes s i Ended) r ≡ content (newKey (s .txns i) r) (writtenPayload (lastWrite (s .txns i .writes) r))
+  pub live-own : (r : ℕ) → Writes (s .sizes) (s .txns i) r
+      → liveRow (becomes s i Ended) r ≡ content (newKey (s .txns i) r) (writtenPayload (lastWrite (s .txns i .writes) r))
   unfolding contentOf
   live-own r w = ⊎-elim (made-shown r)
       (λ o. unmade-same r (o .0)
-      ∙ (ap (λ k. content k (s .chains .payload (versionOf (s .chains) (snapshotNow s) r))) (key-before-end s i g l a r w ∙ o .2) ∙ ap (λ k. content k (writtenPayload (lastWrite (s .txns i .writes) r))) (sym (o .1 .1))))
+      ∙ (ap (λ k. content k (s .chains .payload (versionOf (s .chains) (snapshotNow s) r))) (key-before-end s i g l a r w ∙ o .2)
+      ∙ ap (λ k. content k (writtenPayload (lastWrite (s .txns i .writes) r))) (sym (o .1 .1))))
       (made-or-none s i g l a r w)
 
 -- any other step leaves every row as it was
@@ -234,10 +256,17 @@ publish-ends-none s t i l a e = go (ℕ-discrete (number s (publish t)) 0)
     sixth = ap (λ (v : Txn). rank (v .phase)) (update-same (s .txns) i (withPhase (s .txns i) Ended))
 
     go : Dec (number s (publish t) ≡ 0) → ⊥
-    go (yes ok) = let ticks : s .clock ≡ suc (s .clock) = sym (ap (λ w. w .clock) e) ∙ ap (λ v. v .store .clock) (done-does s (publish t) ok) in omega (arith, ticks)
+    go (yes ok) = let ticks : s .clock ≡ suc (s .clock) = sym (ap (λ w. w .clock) e) ∙ ap (λ v. v .store .clock) (done-does s (publish t) ok) in
+        omega (arith, ticks)
     go (no d) = ⊎-elim
         (λ f. omega (arith, a, sixth, ap (λ w. rank (w .txns i .phase)) (sym e ∙ f)))
-        (λ f. omega (arith, a, sixth, ap (λ w. rank (w .txns i .phase)) (sym e ∙ f), ap rank (update-field (λ (v : Txn). v .phase) (s .txns) (at s t) (markedTxn (s .txns (at s t))) i refl)))
+        (λ f. omega (
+          arith,
+          a,
+          sixth,
+          ap (λ w. rank (w .txns i .phase)) (sym e ∙ f),
+          ap rank (update-field (λ (v : Txn). v .phase) (s .txns) (at s t) (markedTxn (s .txns (at s t))) i refl),
+        ))
         (refused-store s (publish t) d)
 
 pub rows-published : (s : Store) → Good s → (ns : List ℕ) (r : ℕ) → liveRow (run s (map publish ns)) r ≡ liveRow s r

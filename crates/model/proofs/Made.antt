@@ -52,12 +52,16 @@ module _ (z : Sizes) (c : Chains) (x : Txn) (r : ℕ) where
   pub gets-which : Gets z c x r → (r < z .rows) × (pending (x .writes) r ≡ true) × (((k : ℕ) × (oldKey c r ≡ some k)) ⊎ ((k : ℕ) × (newKey x r ≡ some k)))
   unfolding versionRows getsVersion
   gets-which m =
-      let w = pick-which (toGet c x) 0 (z .rows) r m in
-      (omega (arith, w .1), and-l _ _ (w .2), ⊎-elim (λ e. inl (is-keyed _ e)) (λ e. inr (is-keyed _ e)) (or-cases (keyed (oldKey c r)) _ (and-r (pending (x .writes) r) _ (w .2))))
+      let w = pick-which (toGet c x) 0 (z .rows) r m in (
+        omega (arith, w .1),
+        and-l _ _ (w .2),
+        ⊎-elim (λ e. inl (is-keyed _ e)) (λ e. inr (is-keyed _ e)) (or-cases (keyed (oldKey c r)) _ (and-r (pending (x .writes) r) _ (w .2))),
+      )
 
   pub which-gets : r < z .rows → pending (x .writes) r ≡ true → ((k : ℕ) × (oldKey c r ≡ some k)) ⊎ ((k : ℕ) × (newKey x r ≡ some k)) → Gets z c x r
   unfolding versionRows getsVersion
-  which-gets l p h = which-pick (toGet c x) 0 (z .rows) r (omega arith) (omega arith) (and-both _ _ p (⊎-elim (λ w. or-left _ _ (some-keyed _ w)) (λ w. or-right (keyed (oldKey c r)) _ (some-keyed _ w)) h))
+  which-gets l p h = which-pick (toGet c x) 0 (z .rows) r (omega arith) (omega arith)
+      (and-both _ _ p (⊎-elim (λ w. or-left _ _ (some-keyed _ w)) (λ w. or-right (keyed (oldKey c r)) _ (some-keyed _ w)) h))
 
   pub made-writes : Made z c x r → Writes z x r
   unfolding madeRows
@@ -105,13 +109,16 @@ unfolding versionRows getsVersion versionsOver
 versions-old z c ws = refl
 
 -- they look at the keys of the pending rows alone
-pub versions-same : (z : Sizes) (keys keys′ : ℕ → Option ℕ) (x : Txn) → ((r : ℕ) → Writes z x r → keys′ r ≡ keys r) → versionsOver z keys′ (x .writes) ≡ versionsOver z keys (x .writes)
+pub versions-same : (z : Sizes) (keys keys′ : ℕ → Option ℕ) (x : Txn) → ((r : ℕ) → Writes z x r → keys′ r ≡ keys r)
+    → versionsOver z keys′ (x .writes) ≡ versionsOver z keys (x .writes)
 unfolding versionsOver
 versions-same z keys keys′ x h = pick-same _ _ 0 (z .rows) (λ r l u. go r u (pending (x .writes) r) refl)
   where
-    go : (r : ℕ) → r < 0 + z .rows → (b : Bool) → pending (x .writes) r ≡ b → b && (keyed (keys′ r) || keyed (writtenKey (lastWrite (x .writes) r))) ≡ b && (keyed (keys r) || keyed (writtenKey (lastWrite (x .writes) r)))
+    go : (r : ℕ) → r < 0 + z .rows → (b : Bool) → pending (x .writes) r ≡ b → b && (keyed (keys′ r) || keyed (writtenKey (lastWrite (x .writes) r))) ≡ b
+        && (keyed (keys r) || keyed (writtenKey (lastWrite (x .writes) r)))
     go r u true e = rw (h r (which-pendingRows z (x .writes) r (omega arith) e))
     go r u false e = refl
 
-pub versionRows-same : (z : Sizes) (c c′ : Chains) (x : Txn) → ((r : ℕ) → Writes z x r → oldKey c′ r ≡ oldKey c r) → versionRows z c′ (x .writes) ≡ versionRows z c (x .writes)
+pub versionRows-same : (z : Sizes) (c c′ : Chains) (x : Txn) → ((r : ℕ) → Writes z x r → oldKey c′ r ≡ oldKey c r)
+    → versionRows z c′ (x .writes) ≡ versionRows z c (x .writes)
 versionRows-same z c c′ x h = versions-old z c′ (x .writes) ∙ (versions-same z (oldKey c) (oldKey c′) x h ∙ sym (versions-old z c (x .writes)))

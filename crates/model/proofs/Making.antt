@@ -38,12 +38,25 @@ unfolding pending lastWriteFrom
 found-last [] r e = absurd (false≢true e)
 found-last (v ∷ ws) r e = go (pending ws r) refl (found-last ws r)
   where
-    go : (b : Bool) → pending ws r ≡ b → (pending ws r ≡ true → (w : Write) × LastWrite ws r w × ((so : Option Write) → lastWriteFrom so ws r ≡ some w)) → (w : Write) × LastWrite (v ∷ ws) r w × ((so : Option Write) → lastWriteFrom (cond (eqb (v .row) r) (some v) so) ws r ≡ some w)
-    go true p later = let f = later p in
-        (f .0, record { earlier = v ∷ f .1 .earlier; later = f .1 .later; stands = ap (λ l. v ∷ l) (f .1 .stands); row-is = f .1 .row-is; none-later = f .1 .none-later }, λ so. f .2 _)
+    go : (b : Bool) → pending ws r ≡ b → (pending ws r ≡ true → (w : Write) × LastWrite ws r w × ((so : Option Write) → lastWriteFrom so ws r ≡ some w))
+        → (w : Write) × LastWrite (v ∷ ws) r w × ((so : Option Write) → lastWriteFrom (cond (eqb (v .row) r) (some v) so) ws r ≡ some w)
+    go true p later = let f = later p in (
+      f .0,
+      record {
+        earlier = v ∷ f .1 .earlier;
+        later = f .1 .later;
+        stands = ap (λ l. v ∷ l) (f .1 .stands);
+        row-is = f .1 .row-is;
+        none-later = f .1 .none-later;
+      },
+      λ so. f .2 _,
+    )
     go false p later =
-        let t : eqb (v .row) r ≡ true = ⊎-elim (λ y. y) (λ y. absurd (false≢true (sym p ∙ y))) (or-cases (eqb (v .row) r) (pending ws r) e) in
-        (v, record { earlier = []; later = ws; stands = refl; row-is = eqb-true _ _ t; none-later = none-pending ws r p }, λ so. rw t (kept-last (some v) ws r p))
+        let t : eqb (v .row) r ≡ true = ⊎-elim (λ y. y) (λ y. absurd (false≢true (sym p ∙ y))) (or-cases (eqb (v .row) r) (pending ws r) e) in (
+          v,
+          record { earlier = []; later = ws; stands = refl; row-is = eqb-true _ _ t; none-later = none-pending ws r p },
+          λ so. rw t (kept-last (some v) ws r p),
+        )
 
 pub last-write : (ws : List Write) (r : ℕ) → pending ws r ≡ true → (w : Write) × LastWrite ws r w × (lastWrite ws r ≡ some w)
 last-write ws r e = let f = found-last ws r e in (f .0, f .1, f .2 _)
@@ -54,7 +67,8 @@ unfolding pending
 written-pending (v ∷ ws) r w (inl f) e = or-left (eqb (v .row) r) (pending ws r) (eq-eqb _ _ (ap (λ u. u .row) (sym f) ∙ e))
 written-pending (v ∷ ws) r w (inr m) e = or-right (eqb (v .row) r) (pending ws r) (written-pending ws r w m e)
 
-found-after : (so : Option Write) (earlier later : List Write) (r : ℕ) (w : Write) → w .row ≡ r → pending later r ≡ false → lastWriteFrom so (earlier ++ (w ∷ later)) r ≡ some w
+found-after : (so : Option Write) (earlier later : List Write) (r : ℕ) (w : Write) → w .row ≡ r → pending later r ≡ false
+    → lastWriteFrom so (earlier ++ (w ∷ later)) r ≡ some w
 unfolding lastWriteFrom
 found-after so [] later r w e n = ap (λ b. lastWriteFrom (cond b (some w) so) later r) (eq-eqb (w .row) r e) ∙ kept-last (some w) later r n
 found-after so (v ∷ earlier) later r w e n = found-after (cond (eqb (v .row) r) (some v) so) earlier later r w e n
@@ -65,7 +79,8 @@ module _ (ws : List Write) (r : ℕ) (w : Write) (l : LastWrite ws r w) where
   last-pending = written-pending ws r w (rw (l .stands) (among-right w (l .earlier) (w ∷ l .later) (inl refl))) (l .row-is)
 
   last-found : lastWrite ws r ≡ some w
-  last-found = rw (l .stands) (found-after none (l .earlier) (l .later) r w (l .row-is) (is-false _ (λ e. let v = pending-which (l .later) r e in l .none-later (v .0) (v .1) (v .2))))
+  last-found = rw (l .stands)
+      (found-after none (l .earlier) (l .later) r w (l .row-is) (is-false _ (λ e. let v = pending-which (l .later) r e in l .none-later (v .0) (v .1) (v .2))))
 
 -- a head with a key
 live-head : (c : Chains) (r : ℕ) → ((k : ℕ) × (oldKey c r ≡ some k)) ↔ LiveHead c r
@@ -92,9 +107,11 @@ gets-when s t r = (forth, back)
 
     back : GetsVersion (s .sizes) (s .chains) (txnOf s t) r → Gets (s .sizes) (s .chains) (txnOf s t) r
     back g = which-gets (s .sizes) (s .chains) (txnOf s t) r (g .row-in) (last-pending (txnOf s t .writes) r (g .write) (g .last))
-        (⊎-elim (λ h. inl (live-head (s .chains) r .1 h)) (λ k. inr (k .0, ap writtenKey (last-found (txnOf s t .writes) r (g .write) (g .last)) ∙ k .1)) (g .live-or-put))
+        (⊎-elim (λ h. inl (live-head (s .chains) r .1 h)) (λ k. inr (k .0, ap writtenKey (last-found (txnOf s t .writes) r (g .write) (g .last)) ∙ k .1))
+        (g .live-or-put))
 
-module _ (x : Txn) (rs : List ℕ) (c : Chains) (heads-in : (r : ℕ) → Among r rs → c .head r ≤ c .used) (order : Rising 0 rs) (written : (r : ℕ) → Among r rs → pending (x .writes) r ≡ true) where
+module _ (x : Txn) (rs : List ℕ) (c : Chains) (heads-in : (r : ℕ) → Among r rs → c .head r ≤ c .used) (order : Rising 0 rs)
+    (written : (r : ℕ) → Among r rs → pending (x .writes) r ≡ true) where
   makes-one : (r : ℕ) → Among r rs → NewVersion x c (pushAll x rs c) r
   unfolding writtenKey writtenPayload
   makes-one r m =

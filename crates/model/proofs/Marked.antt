@@ -16,7 +16,8 @@ use Rattle.model.specs.Refusals.{Step, begin, capture, collect, rows, wr
 use Rattle.model.specs.Machine.{Judged, at, actor, accepted, step, run, canOpen}
 use Rattle.model.specs.Given.{number, Shaped, Lives, Names, RightPhase, StaleStamp}
 use Rattle.model.specs.Demands.{MarkedOpen, MarkedGives, NoMoreWork}
-use Rattle.model.proofs.Move.{Move, stay, did-begin, did-mark, did-capture, did-collect, did-rows, did-write, did-prepare, did-install, did-end, did-publish, did-abort, run-inv, step-move}
+use Rattle.model.proofs.Move.{Move, stay, did-begin, did-mark, did-capture, did-collect, did-rows, did-write, did-prepare, did-install, did-end}
+use Rattle.model.proofs.Move.{did-publish, did-abort, run-inv, step-move}
 use Rattle.model.proofs.Good.{Good, good-move, right-shape, opened-good}
 use Rattle.model.proofs.Cleared.{clear-number, cleared}
 use Rattle.model.proofs.Conditions.{lives-test, lives-number, the-one}
@@ -39,7 +40,8 @@ open-rank Installed e = absurd (omega arith)
 open-rank Ended e = absurd (omega arith)
 
 -- one place changes
-marked-set : (s : Store) → MarkedOpen s → (i : ℕ) (x : Txn) → (x .marked ≡ true → x .phase ≡ Open) → (j : ℕ) → update (s .txns) i x j .marked ≡ true → update (s .txns) i x j .phase ≡ Open
+marked-set : (s : Store) → MarkedOpen s → (i : ℕ) (x : Txn) → (x .marked ≡ true → x .phase ≡ Open) → (j : ℕ) → update (s .txns) i x j .marked ≡ true
+    → update (s .txns) i x j .phase ≡ Open
 marked-set s o i x h j = update-elim (λ y. y .marked ≡ true → y .phase ≡ Open) (s .txns) i x j (λ e. h) (λ d. o j)
 
 -- who is not Open is not marked
@@ -141,11 +143,13 @@ module _ (s : Store) (t : ℕ) (g : Shaped s) (o : MarkedOpen s) (l : Lives s t)
   stays-once : (a : Step) → a ≢ abort t → step s a .store .txns (at s t) ≡ txnOf s t
   stays-once a d = elim (ℕ-discrete (number s a) 0) [
     | yes z ↦ elim (ℕ-discrete (at s (actor a)) (at s t)) [ yes p ↦ at-place a d z p | no q ↦ leaves s a z .others-stay (at s t) (λ e. q (sym e)) ]
-    | no r ↦ ⊎-elim (λ w. marks-only s a w .others-stay (at s t) (stale-elsewhere a w)) (λ n. ap (λ w. w .txns (at s t)) (refused-as-found s a r n)) (stale-or-not s a)
+    | no r ↦ ⊎-elim (λ w. marks-only s a w .others-stay (at s t) (stale-elsewhere a w)) (λ n. ap (λ w. w .txns (at s t)) (refused-as-found s a r n))
+        (stale-or-not s a)
   ]
 
 -- the record at its place stays over any steps without its abort
-stays-run : (s : Store) (t i : ℕ) → Good s → MarkedOpen s → i < mostLive → s .txns i .number ≡ t → 1 ≤ t → s .txns i .marked ≡ true → (more : List Step) → (Among (abort t) more → ⊥) → run s more .txns i ≡ s .txns i
+stays-run : (s : Store) (t i : ℕ) → Good s → MarkedOpen s → i < mostLive → s .txns i .number ≡ t → 1 ≤ t → s .txns i .marked ≡ true → (more : List Step)
+    → (Among (abort t) more → ⊥) → run s more .txns i ≡ s .txns i
 unfolding run
 stays-run s t i g o b n p m [] d = refl
 stays-run s t i g o b n p m (a ∷ more) d =
@@ -153,9 +157,11 @@ stays-run s t i g o b n p m (a ∷ more) d =
     let w = right-shape s g in
     let q : at s t ≡ i = the-one s t w l in
     let e = subst (λ j. step s a .store .txns j ≡ s .txns j) q (stays-once s t w o l (ap (λ j. s .txns j .marked) q ∙ m) a (λ f. d (inl (sym f)))) in
-    stays-run (step s a .store) t i (good-move s _ g (step-move s a)) (marked-move s _ o (step-move s a)) b (ap (λ y. y .number) e ∙ n) p (ap (λ y. y .marked) e ∙ m) more (λ f. d (inr f)) ∙ e
+    stays-run (step s a .store) t i (good-move s _ g (step-move s a)) (marked-move s _ o (step-move s a)) b (ap (λ y. y .number) e ∙ n) p
+    (ap (λ y. y .marked) e ∙ m) more (λ f. d (inr f)) ∙ e
 
-pub no-more-work : (z : Sizes) (clock : ℕ) (before : List Step) → canOpen z clock ≡ true → clock ≤ lastNumber → let s = run (fresh z clock) before in (t : ℕ) → Lives s t → txnOf s t .marked ≡ true → NoMoreWork s t
+pub no-more-work : (z : Sizes) (clock : ℕ) (before : List Step) → canOpen z clock ≡ true → clock ≤ lastNumber → let s = run (fresh z clock) before in
+    (t : ℕ) → Lives s t → txnOf s t .marked ≡ true → NoMoreWork s t
 no-more-work z clock before e c t l m =
     let s = run (fresh z clock) before in
     let g = opened-good z clock before e c in
@@ -165,5 +171,6 @@ no-more-work z clock before e c t l m =
     record {
       gives = gives s t w o l m;
       judged = judged s t w o l m;
-      stays = λ more d. subst (λ j. run s more .txns j ≡ s .txns j) (sym q) (stays-run s t (l .0) g o (l .1) (l .2) (l .3) (ap (λ j. s .txns j .marked) (sym q) ∙ m) more d);
+      stays = λ more d. subst (λ j. run s more .txns j ≡ s .txns j) (sym q)
+          (stays-run s t (l .0) g o (l .1) (l .2) (l .3) (ap (λ j. s .txns j .marked) (sym q) ∙ m) more d);
     }

@@ -74,7 +74,8 @@ pub refused-list : (s : Store) (a : Step) → number s a ≢ 0 → (lent : List 
 refused-list s a d lent = let r = refused-by s a d in lent-kept s a (r .0) lent (r .1)
 
 -- the one who asks keeps its mark, unless its record began or ended
-kept-part : (s : Store) (a : Step) (x : Txn) → number s a ≡ 0 → (a ≡ begin → x .number ≡ 0) → Live x → part (s .clock) 0 (x .number) a ≡ x .number → part false false (x .marked) a ≡ x .marked
+kept-part : (s : Store) (a : Step) (x : Txn) → number s a ≡ 0 → (a ≡ begin → x .number ≡ 0) → Live x → part (s .clock) 0 (x .number) a ≡ x .number
+    → part false false (x .marked) a ≡ x .marked
 kept-part s begin x z f l n = absurd (omega (arith, f refl))
 kept-part s (capture t k) x z f l n = refl
 kept-part s (collect t) x z f l n = refl
@@ -87,10 +88,13 @@ kept-part s (publish t) x z f l n = absurd (omega arith)
 kept-part s (validate t) x z f l n = refl
 kept-part s (abort t) x z f l n = absurd (omega arith)
 
-asker-mark : (s : Store) (a : Step) → number s a ≡ 0 → Live (txnOf s (actor a)) → step s a .store .txns (at s (actor a)) .number ≡ txnOf s (actor a) .number → step s a .store .txns (at s (actor a)) .marked ≡ txnOf s (actor a) .marked
+asker-mark : (s : Store) (a : Step) → number s a ≡ 0 → Live (txnOf s (actor a))
+    → step s a .store .txns (at s (actor a)) .number ≡ txnOf s (actor a) .number → step s a .store .txns (at s (actor a)) .marked ≡ txnOf s (actor a) .marked
 asker-mark s a z l n =
     let h = leaves s a z .asker-is in
-    ap (λ (y : Txn). y .marked) h ∙ kept-part s a (txnOf s (actor a)) z (λ e. ap (λ (b : Step). txnOf s (actor b) .number) e ∙ free-place s (ap (number s) (sym e) ∙ z)) l (sym (ap (λ (y : Txn). y .number) h) ∙ n)
+    ap (λ (y : Txn). y .marked) h
+    ∙ kept-part s a (txnOf s (actor a)) z (λ e. ap (λ (b : Step). txnOf s (actor b) .number) e ∙ free-place s (ap (number s) (sym e) ∙ z)) l
+    (sym (ap (λ (y : Txn). y .number) h) ∙ n)
 
 -- a mark lives as long as its transaction
 module _ (s : Store) (i : ℕ) (l : Live (s .txns i)) where
@@ -100,7 +104,8 @@ module _ (s : Store) (i : ℕ) (l : Live (s .txns i)) where
     | no d ↦ ap (λ (y : Txn). y .marked) (leaves s a z .others-stay i d)
   ]
 
-  same-mark : (a : Step) → (StaleStamp s a → ⊥) → step s a .store .txns i .marked ≡ s .txns i .marked → step s a .store .txns i .marked ≡ true ↔ (s .txns i .marked ≡ true) ⊎ ((i ≡ at s (actor a)) × StaleStamp s a)
+  same-mark : (a : Step) → (StaleStamp s a → ⊥) → step s a .store .txns i .marked ≡ s .txns i .marked → step s a .store .txns i .marked ≡ true
+      ↔ (s .txns i .marked ≡ true) ⊎ ((i ≡ at s (actor a)) × StaleStamp s a)
   same-mark a n e = (λ m. inl (sym e ∙ m), λ w. ⊎-elim (λ m. e ∙ m) (λ p. absurd (n (p .1))) w)
 
 pub mark-lives : (s : Store) (a : Step) (i : ℕ) → MarkLives s a i
@@ -115,4 +120,5 @@ mark-lives s a i l n = ⊎-elim met (λ none-met. same-mark s i l a none-met (ke
         ]
 
     kept : (StaleStamp s a → ⊥) → step s a .store .txns i .marked ≡ s .txns i .marked
-    kept none-met = elim (ℕ-discrete (number s a) 0) [ yes z ↦ done-mark s i l a z n | no d ↦ ap (λ (w : Store). w .txns i .marked) (refused-as-found s a d none-met) ]
+    kept none-met = elim (ℕ-discrete (number s a) 0)
+        [ yes z ↦ done-mark s i l a z n | no d ↦ ap (λ (w : Store). w .txns i .marked) (refused-as-found s a d none-met) ]

@@ -13,12 +13,15 @@ use Rattle.base_limits.specs.Limits.{mostLive, mostIndexReads, mostRecords, mos
 use Rattle.base_lists.specs.Lists.{some-of, all-of}
 use Rattle.base_lists.specs.Table.{update-other, cond-elim}
 use Rattle.base_lists.proofs.ListLaws.{and-l, and-r, or-l, or-r, first-holds, first-free}
-use Rattle.model.specs.Store.{Ended, Write, Txn, Store, rank, phaseOpen, phaseHolding, phaseCollected, phasePrepared, phaseInstalled, phaseEnded, bucketOf}
+use Rattle.model.specs.Store.{Ended, Write, Txn, Store, rank, phaseOpen, phaseHolding, phaseCollected, phasePrepared, phaseInstalled, phaseEnded}
+use Rattle.model.specs.Store.{bucketOf}
 use Rattle.model.specs.Seeing.{live, Live}
 use Rattle.model.specs.Verdict.{verdictNumber, verdict}
-use Rattle.model.specs.Steps.{becomes, begun, stale, hasRead, captured, collected, recordsAfter, readDone, written, pendingRows, neededBuckets, prepared, installed, ended, published}
+use Rattle.model.specs.Steps.{becomes, begun, stale, hasRead, captured, collected, recordsAfter, readDone, written, pendingRows, neededBuckets, prepared}
+use Rattle.model.specs.Steps.{installed, ended, published}
 use Rattle.model.specs.Contents.{Content}
-use Rattle.model.specs.Refusals.{Refusal, Step, begin, capture, collect, rows, write, prepare, install, end, publish, validate, abort, placeOf, txnOf, liveCount, byAnother, versionsAfter, found, refusal}
+use Rattle.model.specs.Refusals.{Refusal, Step, begin, capture, collect, rows, write, prepare, install, end, publish, validate, abort, placeOf, txnOf}
+use Rattle.model.specs.Refusals.{liveCount, byAnother, versionsAfter, found, refusal}
 use Rattle.model.specs.Shape.{rightShape}
 use Rattle.model.specs.Machine.{at, checks, accepted, actor, isStale, afterRefusal, carried, stepIn, step, run}
 use Rattle.model.proofs.Ruled.{unmarking}
@@ -50,7 +53,8 @@ pub record CanPrepare (s : Store) (i : ℕ) : Type 0 where
 -- a constructor for each outcome of a step that changes the store; i is the place of the one who acts
 pub data Move (s : Store) : ℕ → Store → Type 0 where
   stay : (i : ℕ) → Move s i s
-  did-begin : (i : ℕ) → i < mostLive → s .txns i .number ≡ 0 → liveCount (s .txns) < mostLive → s .clock + liveCount (s .txns) + 2 ≤ lastNumber → Move s i (begun s i)
+  did-begin : (i : ℕ) → i < mostLive → s .txns i .number ≡ 0 → liveCount (s .txns) < mostLive → s .clock + liveCount (s .txns) + 2 ≤ lastNumber
+      → Move s i (begun s i)
   did-mark : (i : ℕ) → Live (s .txns i) → rank (s .txns i .phase) ≡ phaseOpen → Move s i (stale s i)
   did-capture : (i k : ℕ) → Live (s .txns i) → rank (s .txns i .phase) ≡ phaseOpen → CanCapture s i k → Move s i (captured s i k)
   did-collect : (i : ℕ) → Live (s .txns i) → rank (s .txns i .phase) ≡ phaseHolding → Move s i (collected s i)
@@ -70,7 +74,8 @@ passes true r cs e = let z : _≡_ {A = ℕ} 0 1 = cc in absurd (omega arith)
 passes false r cs e = (refl, e)
 
 -- the refusal that marks comes from a later test
-passes-to-stale : (b : Bool) (q r : Refusal) (cs : List (Bool × Refusal)) → isStale q ≡ false → isStale r ≡ true → refusal ((b, q) ∷ cs) ≡ some r → (b ≡ false) × (refusal cs ≡ some r)
+passes-to-stale : (b : Bool) (q r : Refusal) (cs : List (Bool × Refusal)) → isStale q ≡ false → isStale r ≡ true → refusal ((b, q) ∷ cs) ≡ some r
+    → (b ≡ false) × (refusal cs ≡ some r)
 unfolding refusal
 passes-to-stale true q r cs n y e = let p : q ≡ r = cc in absurd (false≢true (sym n ∙ (rw p y)))
 passes-to-stale false q r cs n y e = (refl, e)
@@ -113,7 +118,8 @@ finds s t phase more e =
     pos z n = omega arith
 
 carried-move : (s : Store) (a : Step) → (refusal (checks s a) ≡ none → Move s (at s (actor a)) (accepted s a .store))
-    → ((r : Refusal) → refusal (checks s a) ≡ some r → isStale r ≡ true → Move s (at s (actor a)) (stale s (at s (actor a)))) → Move s (at s (actor a)) (stepIn s a .store)
+    → ((r : Refusal) → refusal (checks s a) ≡ some r → isStale r ≡ true → Move s (at s (actor a)) (stale s (at s (actor a))))
+    → Move s (at s (actor a)) (stepIn s a .store)
 unfolding stepIn carried afterRefusal
 carried-move s a yea stales = go (refusal (checks s a)) refl
   where
@@ -148,7 +154,8 @@ capture-move s t k = carried-move s (capture t k)
     let b = passes _ _ _ (a .1) in
     let c = passes _ _ _ (b .1) in
     let d = passes _ _ _ (c .1) in
-    did-capture (at s t) k (f .alive) (eqb-true _ _ (f .phase-is)) (record { unmarked = a .0; free = b .0; old-stamp = ltb-true _ _ (not-false _ (c .0)); room = capture-room _ _ (d .0) }))
+    did-capture (at s t) k (f .alive) (eqb-true _ _ (f .phase-is))
+    (record { unmarked = a .0; free = b .0; old-stamp = ltb-true _ _ (not-false _ (c .0)); room = capture-room _ _ (d .0) }))
     (λ r e y.
     let a = passes-to-stale _ _ r _ refl y e in
     let b = passes-to-stale _ _ r _ refl y (a .1) in
@@ -166,7 +173,13 @@ prepare-move s t = plain-move s (prepare t) refl λ e.
     let a = passes _ _ _ (f .rest) in
     let b = passes _ _ _ (a .1) in
     let c = passes _ _ _ (b .1) in
-    did-prepare (at s t) (f .alive) (eqb-true _ _ (f .phase-is)) (record { buckets-free = or-l _ _ (a .0); rows-free = or-r (some-of (byAnother (s .held .holder) (txnOf s t .number)) (neededBuckets s (txnOf s t))) _ (a .0); clear = eqb-true _ 0 (not-false _ (b .0)); room = ltb-false _ _ (c .0) })
+    did-prepare (at s t) (f .alive) (eqb-true _ _ (f .phase-is))
+    (record {
+      buckets-free = or-l _ _ (a .0);
+      rows-free = or-r (some-of (byAnother (s .held .holder) (txnOf s t .number)) (neededBuckets s (txnOf s t))) _ (a .0);
+      clear = eqb-true _ 0 (not-false _ (b .0));
+      room = ltb-false _ _ (c .0);
+    })
 
 rows-move : (s : Store) (t room : ℕ) → Move s (at s t) (stepIn s (rows t room) .store)
 unfolding checks accepted all-of

@@ -15,7 +15,8 @@ use Rattle.model.specs.Store.{Chains, Snapshot, Txn, Store, Sizes, noTxn
 use Rattle.model.specs.Seeing.{live, active, activeNumbers, Live}
 use Rattle.model.specs.Steps.{newTxn, begun, push, changedBuckets, versionRows}
 use Rattle.model.specs.Refusals.{liveCount}
-use Rattle.model.proofs.Move.{live-test, test-live, Move, stay, did-begin, did-mark, did-capture, did-collect, did-rows, did-write, did-prepare, did-install, did-end, did-publish, did-abort}
+use Rattle.model.proofs.Move.{live-test, test-live, Move, stay, did-begin, did-mark, did-capture, did-collect, did-rows, did-write, did-prepare}
+use Rattle.model.proofs.Move.{did-install, did-end, did-publish, did-abort}
 use Rattle.model.proofs.Chained.{pushAll-all}
 
 -- the snapshot of a transaction of number n
@@ -55,7 +56,15 @@ pub record Kept (t t′ : ℕ → Txn) : Type 0 where
   pub wrote : (j : ℕ) → Live (t′ j) → phasePrepared ≤ rank (t j .phase) → t′ j .writes ≡ t j .writes
 
 pub kept-all : (t : ℕ → Txn) → Kept t t
-kept-all t = record { number-le = λ j. omega arith; number = λ j l. refl; snapshot = λ j l. refl; idle = λ j h. h; running = λ j l h. h; late = λ j l h. h; wrote = λ j l h. refl }
+kept-all t = record {
+  number-le = λ j. omega arith;
+  number = λ j l. refl;
+  snapshot = λ j l. refl;
+  idle = λ j h. h;
+  running = λ j l h. h;
+  late = λ j l h. h;
+  wrote = λ j l h. refl;
+}
 
 -- a live transaction goes on
 pub kept-set : (t : ℕ → Txn) (i : ℕ) (x : Txn) → x .number ≡ t i .number → x .snapshot ≡ t i .snapshot → Live (t i)
@@ -97,7 +106,8 @@ numbering s s′ (did-mark i a b) = kept (kept-set (s .txns) i _ refl refl a (λ
 numbering s s′ (did-capture i k a b c) = kept (kept-set (s .txns) i _ refl refl a (λ h. omega arith) (λ h. omega arith) (λ h. refl)) (omega arith)
 numbering s s′ (did-collect i a b) = kept (kept-set (s .txns) i _ refl refl a (λ h. omega arith) (λ h. omega arith) (λ h. refl)) (omega arith)
 numbering s s′ (did-rows i a b c) = kept (kept-set (s .txns) i _ refl refl a (λ h. omega arith) (λ h. omega arith) (λ h. refl)) (omega arith)
-numbering s s′ (did-write i w a b c d) = kept (kept-set (s .txns) i _ refl refl a (λ h. omega arith) (λ h. omega arith) (λ h. absurd (omega arith))) (omega arith)
+numbering s s′ (did-write i w a b c d) =
+    kept (kept-set (s .txns) i _ refl refl a (λ h. omega arith) (λ h. omega arith) (λ h. absurd (omega arith))) (omega arith)
 numbering s s′ (did-prepare i a b c) = kept (kept-set (s .txns) i _ refl refl a (λ h. omega arith) (λ h. omega arith) (λ h. refl)) (omega arith)
 numbering s s′ (did-install i a b) = kept (kept-set (s .txns) i _ refl refl a (λ h. omega arith) (λ h. omega arith) (λ h. refl)) (omega arith)
 numbering s s′ (did-end i a b) = kept (kept-set (s .txns) i _ refl refl a (λ h. omega arith) (λ h. omega arith) (λ h. refl)) (omega arith)
@@ -135,7 +145,8 @@ module _ (s : Store) (i : ℕ) (g : Numbers (s .clock) (s .txns)) (l : i < mostL
   begun-distinct : (a b : ℕ) → Live (begun s i .txns a) → begun s i .txns a .number ≡ begun s i .txns b .number → a ≡ b
   begun-distinct a b = update-elim (λ y. Live y → y .number ≡ begun s i .txns b .number → a ≡ b) (s .txns) i (newTxn s) a
       (λ e p. update-elim (λ y. s .clock ≡ y .number → a ≡ b) (s .txns) i (newTxn s) b (λ f q. omega arith) (λ f q. absurd (omega (arith, g .below b))))
-      (λ d p. update-elim (λ y. s .txns a .number ≡ y .number → a ≡ b) (s .txns) i (newTxn s) b (λ f q. absurd (omega (arith, g .below a))) (λ f q. g .distinct a b p q))
+      (λ d p. update-elim (λ y. s .txns a .number ≡ y .number → a ≡ b) (s .txns) i (newTxn s) b (λ f q. absurd (omega (arith, g .below a)))
+      (λ f q. g .distinct a b p q))
 
   new-snapped : Snapped (s .clock) (newTxn s .snapshot)
   new-snapped = record {
@@ -178,7 +189,8 @@ numbers-kept c c′ t t′ k h g = record {
   idle = λ j q. k .idle j (g .idle j) q;
   distinct = λ i j p q. g .distinct i j (alive i p) (omega (arith, k .number i p, k .number j (omega arith)));
   snapped = λ j p. rw (k .number j p, k .snapshot j p) (g .snapped j (alive j p));
-  knows = λ i j p q u r. rw (k .number j q, k .snapshot i p) (g .knows i j (alive i p) (alive j q) (omega (arith, k .number i p, k .number j q)) (k .running j q r));
+  knows = λ i j p q u r. rw (k .number j q, k .snapshot i p)
+      (g .knows i j (alive i p) (alive j q) (omega (arith, k .number i p, k .number j q)) (k .running j q r));
 }
   where
     alive : (j : ℕ) → Live (t′ j) → Live (t j)
@@ -221,7 +233,11 @@ low-push top n h r k payload c g = (
 )
 
 below-up : (s : Store) (stamp : ℕ → ℕ) → BelowAt s → ((b : ℕ) → stamp b ≤ s .clock) → Below (suc (s .clock)) (s .chains) stamp
-below-up s stamp g h = record { xmin-below = λ p. omega (arith, g .xmin-below p); xmax-below = λ p. omega (arith, g .xmax-below p); stamp-below = λ b. omega (arith, h b) }
+below-up s stamp g h = record {
+  xmin-below = λ p. omega (arith, g .xmin-below p);
+  xmax-below = λ p. omega (arith, g .xmax-below p);
+  stamp-below = λ b. omega (arith, h b);
+}
 
 pub below-move : (s s′ : Store) {a : ℕ} → Numbers (s .clock) (s .txns) → BelowAt s → Move s a s′ → BelowAt s′
 below-move s s′ n g (stay i) = g
@@ -233,10 +249,14 @@ below-move s s′ n g (did-rows i a b c) = g
 below-move s s′ n g (did-write i w a b c d) = g
 below-move s s′ n g (did-prepare i a b c) = g
 below-move s s′ n g (did-install i a b) =
-    let l : Low (s .clock) (s′ .chains) = pushAll-all (Low (s .clock)) (s .txns i) (low-push (s .clock) (s .txns i .number) (n .below i)) (versionRows (s .sizes) (s .chains) (s .txns i .writes)) (s .chains) (g .xmin-below, g .xmax-below) in
+    let l : Low (s .clock) (s′ .chains) =
+    pushAll-all (Low (s .clock)) (s .txns i) (low-push (s .clock) (s .txns i .number) (n .below i))
+    (versionRows (s .sizes) (s .chains) (s .txns i .writes)) (s .chains) (g .xmin-below, g .xmax-below) in
     record { xmin-below = l .0; xmax-below = l .1; stamp-below = g .stamp-below }
 below-move s s′ n g (did-end i a b) = g
-below-move s s′ n g (did-publish i a b) = below-up s _ g (λ b. updateAll-elim (_≤ s .clock) (s .index .stamp) (changedBuckets s (s .txns i)) _ b (λ e. omega (arith, n .below i)) (λ e. omega (arith, g .stamp-below b)))
+below-move s s′ n g (did-publish i a b) =
+    below-up s _ g (λ b. updateAll-elim (_≤ s .clock) (s .index .stamp) (changedBuckets s (s .txns i)) _ b (λ e. omega (arith, n .below i))
+    (λ e. omega (arith, g .stamp-below b)))
 below-move s s′ n g (did-abort i a b) = g
 
 pub below-fresh : (z : Sizes) (clock : ℕ) → 1 ≤ clock → BelowAt (fresh z clock)

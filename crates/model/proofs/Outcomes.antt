@@ -14,7 +14,8 @@ use Rattle.base_lists.specs.Table.{cond-elim}
 use Rattle.base_lists.proofs.ListLaws.{first-free}
 use Rattle.model.specs.Store.{Store}
 use Rattle.model.specs.Steps.{stale}
-use Rattle.model.specs.Refusals.{Refusal, WrongSize, NoNumbers, Full, NoSuch, WrongPhase, NoRow, Taken, Stale, Marked, ManyReads, NoRoom, ManyRecords, ManyWrites, NoVersions, Conflict, Malformed, WrongShape, Step, begin, capture, txnOf, refusal, liveCount, placeOf}
+use Rattle.model.specs.Refusals.{Refusal, WrongSize, NoNumbers, Full, NoSuch, WrongPhase, NoRow, Taken, Stale, Marked, ManyReads, NoRoom, ManyRecords}
+use Rattle.model.specs.Refusals.{ManyWrites, NoVersions, Conflict, Malformed, WrongShape, Step, begin, capture, txnOf, refusal, liveCount, placeOf}
 use Rattle.model.specs.Shape.{rightShape}
 use Rattle.model.specs.Machine.{Rows, Refused, answerNumber, lentAfter, at, actor, isStale, gives, checks, accepted, afterRefusal, carried, step, stepIn}
 use Rattle.model.specs.Given.{_and_, number, Ready, Free, bucketFor, stampFor, documented}
@@ -31,7 +32,8 @@ pub refused-leaves : (s : Store) (a : Step) (r : Refusal) → step s a .answer �
 unfolding step stepIn carried afterRefusal
 refused-leaves s a r = go (rightShape s) (refusal (checks s a))
   where
-    go : (b : Bool) (o : Option Refusal) → let w = cond b (carried s a o) (gives s (Refused WrongShape)) in w .answer ≡ Refused r → w .store ≡ cond (isStale r) (stale s (at s (actor a))) s
+    go : (b : Bool) (o : Option Refusal) → let w = cond b (carried s a o) (gives s (Refused WrongShape)) in
+        w .answer ≡ Refused r → w .store ≡ cond (isStale r) (stale s (at s (actor a))) s
     go true none e = absurd (true≢false (sym (ap refuses e) ∙ ruled s a .answered))
     go true (some q) e = let p : q ≡ r = cc in rw p
     go false o e = let p : WrongShape ≡ r = cc in rw (← p)
@@ -40,7 +42,8 @@ pub refused-store : (s : Store) (a : Step) → number s a ≢ 0 → (step s a .s
 unfolding step stepIn carried afterRefusal
 refused-store s a = go (rightShape s) (refusal (checks s a))
   where
-    go : (b : Bool) (o : Option Refusal) → let w = cond b (carried s a o) (gives s (Refused WrongShape)) in answerNumber (w .answer) ≢ 0 → (w .store ≡ s) ⊎ (w .store ≡ stale s (at s (actor a)))
+    go : (b : Bool) (o : Option Refusal) → let w = cond b (carried s a o) (gives s (Refused WrongShape)) in
+        answerNumber (w .answer) ≢ 0 → (w .store ≡ s) ⊎ (w .store ≡ stale s (at s (actor a)))
     go true none d = absurd (d (zero-unless (accepted s a .answer) (ruled s a .answered)))
     go true (some r) d = cond-elim (λ w. (w ≡ s) ⊎ (w ≡ stale s (at s (actor a)))) (isStale r) (stale s (at s (actor a))) s (λ t. inr refl) (λ t. inl refl)
     go false o d = inl refl
@@ -87,7 +90,8 @@ marked-answer : (s : Store) (t k : ℕ) → Ready s (capture t k) → txnOf s t 
 unfolding step stepIn carried checks refusal
 marked-answer s t k r m = rw (r .0, lives-test s t .if-no (r .1), ruled s (capture t k) .phase-test .if-yes (r .2), m)
 
-stale-answer : (s : Store) (t k : ℕ) → Ready s (capture t k) → (txnOf s t .marked ≡ false) and Free (s .held .holder) t (bucketFor s k) and (t ≤ stampFor s k) → step s (capture t k) .answer ≡ Refused Stale
+stale-answer : (s : Store) (t k : ℕ) → Ready s (capture t k) → (txnOf s t .marked ≡ false) and Free (s .held .holder) t (bucketFor s k)
+    and (t ≤ stampFor s k) → step s (capture t k) .answer ≡ Refused Stale
 unfolding step stepIn carried checks refusal
 stale-answer s t k r p = rw (
   r .0,
@@ -100,13 +104,22 @@ stale-answer s t k r p = rw (
 )
 
 pub capture-marked : (s : Store) (t k : ℕ) → step s (capture t k) .answer ≡ Refused Marked ↔ Ready s (capture t k) and (txnOf s t .marked ≡ true)
-capture-marked s t k = (λ e. let w = capture-8 s t k .0 (ap answerNumber e) in (w .0, ⊎-elim (λ m. m) (λ p. absurd (apart (stale-answer s t k (w .0) p) e)) (w .1)), λ w. marked-answer s t k (w .0) (w .1))
+capture-marked s t k = (
+  λ e. let w = capture-8 s t k .0 (ap answerNumber e) in
+      (w .0, ⊎-elim (λ m. m) (λ p. absurd (apart (stale-answer s t k (w .0) p) e)) (w .1)),
+  λ w. marked-answer s t k (w .0) (w .1),
+)
   where
     apart : step s (capture t k) .answer ≡ Refused Stale → step s (capture t k) .answer ≡ Refused Marked → ⊥
     apart e f = let z : _≡_ {A = ℕ} 0 1 = cc in omega arith
 
-pub capture-stale : (s : Store) (t k : ℕ) → step s (capture t k) .answer ≡ Refused Stale ↔ Ready s (capture t k) and (txnOf s t .marked ≡ false) and Free (s .held .holder) t (bucketFor s k) and (t ≤ stampFor s k)
-capture-stale s t k = (λ e. let w = capture-8 s t k .0 (ap answerNumber e) in (w .0, ⊎-elim (λ m. absurd (apart (marked-answer s t k (w .0) m) e)) (λ p. p) (w .1)), λ w. stale-answer s t k (w .0) (w .1))
+pub capture-stale : (s : Store) (t k : ℕ) → step s (capture t k) .answer ≡ Refused Stale
+    ↔ Ready s (capture t k) and (txnOf s t .marked ≡ false) and Free (s .held .holder) t (bucketFor s k) and (t ≤ stampFor s k)
+capture-stale s t k = (
+  λ e. let w = capture-8 s t k .0 (ap answerNumber e) in
+      (w .0, ⊎-elim (λ m. absurd (apart (marked-answer s t k (w .0) m) e)) (λ p. p) (w .1)),
+  λ w. stale-answer s t k (w .0) (w .1),
+)
   where
     apart : step s (capture t k) .answer ≡ Refused Marked → step s (capture t k) .answer ≡ Refused Stale → ⊥
     apart e f = let z : _≡_ {A = ℕ} 0 1 = cc in omega arith

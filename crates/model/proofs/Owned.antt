@@ -36,7 +36,8 @@ not-another h n b = go (eqb (h b) 0) refl (eqb (h b) n) refl
     go false e false f = λ x. absurd (true≢false x)
 
 -- the same wants, said otherwise
-pub owned-wants : (U W : Txn → ℕ → Type 0) (h : ℕ → ℕ) (t : ℕ → Txn) → ((j b : ℕ) → U (t j) b → W (t j) b) → ((j b : ℕ) → W (t j) b → U (t j) b) → Owned U h t → Owned W h t
+pub owned-wants : (U W : Txn → ℕ → Type 0) (h : ℕ → ℕ) (t : ℕ → Txn) → ((j b : ℕ) → U (t j) b → W (t j) b) → ((j b : ℕ) → W (t j) b → U (t j) b)
+    → Owned U h t → Owned W h t
 owned-wants U W h t to from g = record {
   owns = λ j b w. g .owns j b (from j b w);
   owner = λ b nz. let o = g .owner b nz in (o .0, o .1, to (o .0) b (o .2));
@@ -75,7 +76,8 @@ module _ (W : Txn → ℕ → Type 0) (busy : (y : Txn) (b : ℕ) → W y b → 
       at-other : (b j : ℕ) → h′ b ≡ h b → h b ≡ t j .number → W (t j) b → j ≢ i → (k : ℕ) × (h′ b ≡ update t i x k .number) × W (update t i x k) b
       at-other b j e f w d = (j, rw (update-other t i x j d) (e ∙ f), rw (update-other t i x j d) w)
 
-      by-case : (b : ℕ) → h′ b ≢ 0 → ((h′ b ≡ x .number) × W x b) ⊎ ((h′ b ≡ h b) × (W (t i) b → ⊥)) → (j : ℕ) × (h′ b ≡ update t i x j .number) × W (update t i x j) b
+      by-case : (b : ℕ) → h′ b ≢ 0 → ((h′ b ≡ x .number) × W x b) ⊎ ((h′ b ≡ h b) × (W (t i) b → ⊥))
+          → (j : ℕ) × (h′ b ≡ update t i x j .number) × W (update t i x j) b
       by-case b nz (inl m) = (i, rw update-same (m .0), rw update-same (m .1))
       by-case b nz (inr m) =
           let old = g .owner b (λ z. nz (m .0 ∙ z)) in
@@ -116,7 +118,8 @@ module _ (W : Txn → ℕ → Type 0) (busy : (y : Txn) (b : ℕ) → W y b → 
       (λ m q. inr (refl, none-yet b)))
 
   -- one free entry is taken
-  pub owned-one : (i : ℕ) (x : Txn) (c : ℕ) → x .number ≡ t i .number → ((b : ℕ) → W (t i) b → ⊥) → h c ≡ 0 → ((b : ℕ) → W x b → b ≡ c) → W x c → Owned W (update h c (t i .number)) (update t i x)
+  pub owned-one : (i : ℕ) (x : Txn) (c : ℕ) → x .number ≡ t i .number → ((b : ℕ) → W (t i) b → ⊥) → h c ≡ 0 → ((b : ℕ) → W x b → b ≡ c) → W x c
+      → Owned W (update h c (t i .number)) (update t i x)
   owned-one i x c e none-yet z from to = owned-set (update h c (t i .number)) i x
       (λ j b d w f. update-other h c (t i .number) b (λ y. omega (arith, wanter j b w, ap h y)))
       (λ b w. rw (from b w, update-same) (sym e))

@@ -2,7 +2,8 @@
 use mathlib.Core.Path.{_≡_, refl}
 use Prim.Native.Nat.{_≤_}
 use native.Mathlib.Omega.{arith}
-use Rattle.model.specs.Store.{Phase, Open, Holding, Collected, Prepared, Installed, Ended, rank, phaseOpen, phaseHolding, phaseCollected, phasePrepared, phaseInstalled, phaseEnded, bucketIn, keyIn}
+use Rattle.model.specs.Store.{Phase, Open, Holding, Collected, Prepared, Installed, Ended, rank, phaseOpen, phaseHolding, phaseCollected, phasePrepared}
+use Rattle.model.specs.Store.{phaseInstalled, phaseEnded, bucketIn, keyIn}
 
 pub open-is : (ph : Phase) → rank ph ≡ phaseOpen → ph ≡ Open
 open-is Open e = refl

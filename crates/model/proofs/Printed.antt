@@ -7,7 +7,8 @@ use Rattle.model.specs.Report.{bytes, digitsStep, digitsFor, decimal, sp
 use Rattle.model.specs.Replay.{writeThen, turn, replayFor, replayFrom, replay}
 use Rattle.model.proofs.Computes.{computes}
 
--- open 4 8 4 1; begin; put 1 row 2 key 6 payload 10; prepare 1; install 1; end 1; publish 1; begin; capture 3 key 6; collect 3; rows 3 room 4; begin; put 4 row 0 key 2 payload 7; prepare 4; validate 3; install 4; end 4; publish 4; validate 3; prepare 3
+-- open 4 8 4 1; begin; put 1 row 2 key 6 payload 10; prepare 1; install 1; end 1; publish 1; begin; capture 3 key 6; collect 3; rows 3 room 4; begin; put 4 row
+-- 0 key 2 payload 7; prepare 4; validate 3; install 4; end 4; publish 4; validate 3; prepare 3
 abbrev log : List ℕ
 log =
     (22 ∷ 0 ∷ 1 ∷ 0 ∷ 4 ∷ 0 ∷ 0 ∷ 0 ∷ 8 ∷ 0 ∷ 0 ∷ 0 ∷ 4 ∷ 0 ∷ 0 ∷ 0 ∷ 1 ∷ 0 ∷ 0 ∷ 0 ∷ 0 ∷ 0 ∷ 0 ∷ 0 ∷ [])

@@ -18,7 +18,8 @@ use Rattle.model.specs.Store.{Sizes, Installed, IndexRead, ReadRecord, W
 use Rattle.model.specs.Seeing.{pending, recordOf}
 use Rattle.model.specs.Steps.{withPhase, hasRead, addRead, postedRows, recordsAfter, foundRows, versionRows}
 use Rattle.model.specs.Shape.{within, goodSizes}
-use Rattle.model.proofs.Move.{CanCapture, Move, stay, did-begin, did-mark, did-capture, did-collect, did-rows, did-write, did-prepare, did-install, did-end, did-publish, did-abort}
+use Rattle.model.proofs.Move.{CanCapture, Move, stay, did-begin, did-mark, did-capture, did-collect, did-rows, did-write, did-prepare, did-install}
+use Rattle.model.proofs.Move.{did-end, did-publish, did-abort}
 use Rattle.model.proofs.SeeingLaws.{keyAt-pos, version-in, match-version, addRead-cases, recordAll-cases, found-which}
 use Rattle.model.proofs.Room.{used-pushAll}
 
@@ -80,7 +81,8 @@ fits-none z used = record {
   candidates-rise = tt;
 }
 
-fits-up : (z : Sizes) (used used′ : ℕ) (reads : List IndexRead) (writes : List Write) (records : List ReadRecord) (candidates : List ℕ) → used ≤ used′ → Fits z used reads writes records candidates → Fits z used′ reads writes records candidates
+fits-up : (z : Sizes) (used used′ : ℕ) (reads : List IndexRead) (writes : List Write) (records : List ReadRecord) (candidates : List ℕ) → used ≤ used′
+    → Fits z used reads writes records candidates → Fits z used′ reads writes records candidates
 fits-up z used used′ reads writes records candidates h g = record {
   reads-few = g .reads-few;
   writes-few = g .writes-few;
@@ -93,10 +95,13 @@ fits-up z used used′ reads writes records candidates h g = record {
   candidates-rise = g .candidates-rise;
 }
 
-add-few : (rs : List IndexRead) (b stamp : ℕ) → (hasRead rs b ≡ true) ⊎ (length rs < mostIndexReads) → length rs ≤ mostIndexReads → length (addRead rs b stamp) ≤ mostIndexReads
+add-few : (rs : List IndexRead) (b stamp : ℕ) → (hasRead rs b ≡ true) ⊎ (length rs < mostIndexReads) → length rs ≤ mostIndexReads
+    → length (addRead rs b stamp) ≤ mostIndexReads
 unfolding addRead
 add-few rs b stamp (inl e) h = rw e h
-add-few rs b stamp (inr l) h = cond-elim (λ qs. length qs ≤ mostIndexReads) (hasRead rs b) rs (rs ++ (record { bucket = b; stamp = stamp } ∷ [])) (λ e. h) (λ e. rw (length-append rs (record { bucket = b; stamp = stamp } ∷ [])) (omega arith))
+add-few rs b stamp (inr l) h =
+    cond-elim (λ qs. length qs ≤ mostIndexReads) (hasRead rs b) rs (rs ++ (record { bucket = b; stamp = stamp } ∷ [])) (λ e. h)
+    (λ e. rw (length-append rs (record { bucket = b; stamp = stamp } ∷ [])) (omega arith))
 
 module _ (s : Store) (i : ℕ) (z : Sized (s .sizes)) (g : RangesAt s) where
   -- one place changes
@@ -104,13 +109,15 @@ module _ (s : Store) (i : ℕ) (z : Sized (s .sizes)) (g : RangesAt s) where
   ranges-set x h j = update-elim (λ y. FitsTxn (s .sizes) (s .chains .used) y) (s .txns) i x j (λ e. h) (λ d. g j)
 
   fits-capture : (k : ℕ) → CanCapture s i k
-      → Fits (s .sizes) (s .chains .used) (addRead (s .txns i .reads) (bucketOf (s .sizes) k) (s .index .stamp (bucketOf (s .sizes) k))) (s .txns i .writes) (s .txns i .records) (s .txns i .candidates)
+      → Fits (s .sizes) (s .chains .used) (addRead (s .txns i .reads) (bucketOf (s .sizes) k) (s .index .stamp (bucketOf (s .sizes) k)))
+      (s .txns i .writes) (s .txns i .records) (s .txns i .candidates)
   fits-capture k c = let f = g i .0 in record {
     reads-few = add-few _ _ _ (c .room) (f .reads-few);
     writes-few = f .writes-few;
     records-few = f .records-few;
     candidates-few = f .candidates-few;
-    reads-in = λ r m. ⊎-elim (λ n. f .reads-in r n) (λ e. rw e (bucket-in (s .sizes) z k)) (addRead-cases (s .txns i .reads) (bucketOf (s .sizes) k) (s .index .stamp (bucketOf (s .sizes) k)) r m);
+    reads-in = λ r m. ⊎-elim (λ n. f .reads-in r n) (λ e. rw e (bucket-in (s .sizes) z k))
+        (addRead-cases (s .txns i .reads) (bucketOf (s .sizes) k) (s .index .stamp (bucketOf (s .sizes) k)) r m);
     writes-in = f .writes-in;
     records-in = f .records-in;
     candidates-in = f .candidates-in;
@@ -131,7 +138,8 @@ module _ (s : Store) (i : ℕ) (z : Sized (s .sizes)) (g : RangesAt s) where
     candidates-rise = pick-rising test 0 (s .sizes .rows);
   }
 
-  fits-rows : length (recordsAfter s (s .txns i)) ≤ mostRecords → Fits (s .sizes) (s .chains .used) (s .txns i .reads) (s .txns i .writes) (recordsAfter s (s .txns i)) []
+  fits-rows : length (recordsAfter s (s .txns i)) ≤ mostRecords
+      → Fits (s .sizes) (s .chains .used) (s .txns i .reads) (s .txns i .writes) (recordsAfter s (s .txns i)) []
   fits-rows h = let f = g i .0 in record {
     reads-few = f .reads-few;
     writes-few = f .writes-few;
@@ -139,12 +147,14 @@ module _ (s : Store) (i : ℕ) (z : Sized (s .sizes)) (g : RangesAt s) where
     candidates-few = omega arith;
     reads-in = f .reads-in;
     writes-in = f .writes-in;
-    records-in = λ r m. ⊎-elim (λ n. f .records-in r n) (λ w. read r w) (recordAll-cases (s .chains) (s .txns i) (s .txns i .records) (foundRows s (s .txns i)) r m);
+    records-in = λ r m. ⊎-elim (λ n. f .records-in r n) (λ w. read r w)
+        (recordAll-cases (s .chains) (s .txns i) (s .txns i .records) (foundRows s (s .txns i)) r m);
     candidates-in = λ r m. absurd m;
     candidates-rise = tt;
   }
     where
-      read : (q : ReadRecord) → (r : ℕ) × Among r (foundRows s (s .txns i)) × (pending (s .txns i .writes) r ≡ false) × (q ≡ recordOf (s .chains) (s .txns i .snapshot) r)
+      read : (q : ReadRecord) → (r : ℕ) × Among r (foundRows s (s .txns i)) × (pending (s .txns i .writes) r ≡ false)
+          × (q ≡ recordOf (s .chains) (s .txns i .snapshot) r)
           → (q .row < s .sizes .rows) × (1 ≤ q .ptr) × (q .ptr ≤ s .chains .used)
       read q w =
           let f = found-which s (s .txns i) (w .0) (w .1) in
@@ -152,7 +162,8 @@ module _ (s : Store) (i : ℕ) (z : Sized (s .sizes)) (g : RangesAt s) where
           let v = version-in (s .chains) (s .txns i .snapshot) (w .0) (keyAt-pos (s .chains) _ _ k) in
           rw (w .3) (f .0, v .0, v .1)
 
-  fits-write : (w : Write) → w .row < s .sizes .rows → length (s .txns i .writes) < mostWrites → Fits (s .sizes) (s .chains .used) (s .txns i .reads) (s .txns i .writes ++ (w ∷ [])) (s .txns i .records) (s .txns i .candidates)
+  fits-write : (w : Write) → w .row < s .sizes .rows → length (s .txns i .writes) < mostWrites
+      → Fits (s .sizes) (s .chains .used) (s .txns i .reads) (s .txns i .writes ++ (w ∷ [])) (s .txns i .records) (s .txns i .candidates)
   fits-write w l h = let f = g i .0 in record {
     reads-few = f .reads-few;
     writes-few = rw (length-append (s .txns i .writes) (w ∷ [])) (omega arith);

@@ -1,4 +1,5 @@
--- Runs that meet the premises of the page of statements: a read that finds a row, another transaction that publishes meanwhile, a clear verdict; a stale stamp and a mark that lasts; a version that ends; a claim that keeps its heads; erases of nothing; two live at once; and the history of a run. Assumes nothing.
+-- Runs that meet the premises of the page of statements: a read that finds a row, another transaction that publishes meanwhile, a clear verdict; a stale stamp
+-- and a mark that lasts; a version that ends; a claim that keeps its heads; erases of nothing; two live at once; and the history of a run. Assumes nothing.
 use mathlib.Core.Path.{_≡_, refl, sym, subst}
 use mathlib.Core.Bool.{true, false}
 use mathlib.Core.Logic.{inl, inr}
@@ -43,14 +44,17 @@ abbrev pub s₂ : Store
 s₂ = run (step s₁ (rows 3 4) .store) between
 
 -- the premises of finished-read, validated-read and prepared-read
-pub met : (canOpen sizes 1 ≡ true) × (step s₁ (rows 3 4) .answer ≡ Rows (2 ∷ [])) × (txnOf s₁ 3 .phase ≡ Collected 6) × (txnOf s₁ 3 .writes ≡ []) × (step s₂ (validate 3) .answer ≡ Judged Clear) × (step s₂ (prepare 3) .answer ≡ Done)
+pub met : (canOpen sizes 1 ≡ true) × (step s₁ (rows 3 4) .answer ≡ Rows (2 ∷ [])) × (txnOf s₁ 3 .phase ≡ Collected 6) × (txnOf s₁ 3 .writes ≡ [])
+    × (step s₂ (validate 3) .answer ≡ Judged Clear) × (step s₂ (prepare 3) .answer ≡ Done)
     × (shows (s₂ .chains) 4 (snapshotNow s₂) 6 ≡ record { row = 2; ptr = 1; xmin = 1 } ∷ [])
 unfolding computes
 met = (refl, refl, refl, refl, refl, refl, refl)
 
 -- the history of the run up to s₂: the two publishes
-pub told : (history (fresh sizes 1) (before ++ (rows 3 4 ∷ between)) ≡ record { row = 0; before = none; after = some 3; creator = 4; stamp = 5 } ∷ record { row = 2; before = none; after = some 6; creator = 1; stamp = 2 } ∷ [])
-    × (postingReplay (postingsOf (λ r. none)) (history (fresh sizes 1) before) 6 2 ≡ true) × (postingReplay (postingsOf (λ r. none)) (history (fresh sizes 1) before) 6 0 ≡ false)
+pub told : (history (fresh sizes 1) (before ++ (rows 3 4 ∷ between)) ≡ record { row = 0; before = none; after = some 3; creator = 4; stamp = 5 }
+    ∷ record { row = 2; before = none; after = some 6; creator = 1; stamp = 2 } ∷ [])
+    × (postingReplay (postingsOf (λ r. none)) (history (fresh sizes 1) before) 6 2 ≡ true)
+    × (postingReplay (postingsOf (λ r. none)) (history (fresh sizes 1) before) 6 0 ≡ false)
 unfolding computes addEvents stepEvents historyOver postingReplay postingsOf remove insert
 told = (refl, refl, refl)
 
@@ -69,12 +73,14 @@ met-stale = ((refl, (0, omega arith, refl, omega arith), refl), (refl, (inl refl
 abbrev pub s₄ : Store
 s₄ = step s₃ (capture 3 6) .store
 
-pub met-mark : (s₄ .txns 0 .number ≡ 3) × (step s₄ (validate 3) .store .txns 0 .number ≡ 3) × (s₄ .txns 0 .marked ≡ true) × (step s₄ (validate 3) .store .txns 0 .marked ≡ true)
+pub met-mark : (s₄ .txns 0 .number ≡ 3) × (step s₄ (validate 3) .store .txns 0 .number ≡ 3) × (s₄ .txns 0 .marked ≡ true)
+    × (step s₄ (validate 3) .store .txns 0 .marked ≡ true)
 unfolding computes
 met-mark = (refl, refl, refl, refl)
 
 -- the premises of marked-stops, and what it says there: 8 to a put and an erase, of a row that is not there too; validate and abort still work
-pub met-marked : Lives s₄ 3 × (txnOf s₄ 3 .marked ≡ true) × (number s₄ (put 3 1 5 8) ≡ 8) × (number s₄ (put 3 4 5 8) ≡ 8) × (number s₄ (erase 3 1) ≡ 8) × (number s₄ (erase 3 4) ≡ 8) × (step s₄ (validate 3) .answer ≡ Judged Mark) × (number s₄ (abort 3) ≡ 0)
+pub met-marked : Lives s₄ 3 × (txnOf s₄ 3 .marked ≡ true) × (number s₄ (put 3 1 5 8) ≡ 8) × (number s₄ (put 3 4 5 8) ≡ 8) × (number s₄ (erase 3 1) ≡ 8)
+    × (number s₄ (erase 3 4) ≡ 8) × (step s₄ (validate 3) .answer ≡ Judged Mark) × (number s₄ (abort 3) ≡ 0)
 unfolding computes
 met-marked = ((0, omega arith, refl, omega arith), refl, refl, refl, refl, refl, refl, refl)
 
@@ -85,7 +91,8 @@ over = begin ∷ put 3 2 6 11 ∷ prepare 3 ∷ install 3 ∷ []
 abbrev pub s₅ : Store
 s₅ = run (fresh sizes 1) (begin ∷ put 1 2 6 10 ∷ prepare 1 ∷ install 1 ∷ end 1 ∷ publish 1 ∷ [])
 
-pub met-version : (s₅ .chains .used ≡ 1) × (s₅ .chains .xmax 1 ≡ 0) × (run s₅ over .chains .xmax 1 ≡ 3) × (run s₅ over .chains .payload 1 ≡ 10) × (run s₅ over .chains .payload 2 ≡ 11)
+pub met-version : (s₅ .chains .used ≡ 1) × (s₅ .chains .xmax 1 ≡ 0) × (run s₅ over .chains .xmax 1 ≡ 3) × (run s₅ over .chains .payload 1 ≡ 10)
+    × (run s₅ over .chains .payload 2 ≡ 11)
 unfolding computes
 met-version = (refl, refl, refl, refl, refl)
 
@@ -108,7 +115,8 @@ s₈ = run (step s₆ (prepare 3) .store) (meanwhile ++ (install 3 ∷ []))
 
 -- the premises of kept-heads, at a store where 3 is Prepared and at one where it is Installed, and what it says there: row 2 alone gets a version
 pub met-heads : (number s₆ (prepare 3) ≡ 0) × Lives s₇ 3 × (rank (txnOf s₇ 3 .phase) ≡ phasePrepared) × Lives s₈ 3 × (rank (txnOf s₈ 3 .phase) ≡ phaseInstalled)
-    × (versionRows (s₆ .sizes) (s₆ .chains) (txnOf s₆ 3 .writes) ≡ 2 ∷ []) × (versionRows (s₇ .sizes) (s₇ .chains) (txnOf s₇ 3 .writes) ≡ 2 ∷ []) × (madeRows (s₈ .sizes) (s₈ .chains) 3 (txnOf s₈ 3 .writes) ≡ 2 ∷ [])
+    × (versionRows (s₆ .sizes) (s₆ .chains) (txnOf s₆ 3 .writes) ≡ 2 ∷ []) × (versionRows (s₇ .sizes) (s₇ .chains) (txnOf s₇ 3 .writes) ≡ 2 ∷ [])
+    × (madeRows (s₈ .sizes) (s₈ .chains) 3 (txnOf s₈ 3 .writes) ≡ 2 ∷ [])
     × (s₆ .chains .used ≡ 1) × (s₇ .chains .used ≡ 2) × (s₈ .chains .used ≡ 3)
 unfolding computes
 met-heads = (refl, (0, omega arith, refl, omega arith), refl, (0, omega arith, refl, omega arith), refl, refl, refl, refl, refl, refl, refl)
@@ -132,7 +140,8 @@ each-empty r m = one-of (subst (Among r) (both-empty .0) m)
     one-of (inr (inl e)) = subst (ErasesNothing (s₉ .chains) (txnOf s₉ 1)) (sym e) (both-empty .2)
 
 -- the premises of nothing-costs
-pub met-nothing : (number s₉ (prepare 1) ≡ 0) × Lives s₁₀ 1 × ((r : ℕ) → Writes (s₉ .sizes) (txnOf s₉ 1) r → ErasesNothing (s₉ .chains) (txnOf s₉ 1) r) × (number s₁₀ (publish 1) ≡ 0)
+pub met-nothing : (number s₉ (prepare 1) ≡ 0) × Lives s₁₀ 1 × ((r : ℕ) → Writes (s₉ .sizes) (txnOf s₉ 1) r → ErasesNothing (s₉ .chains) (txnOf s₉ 1) r)
+    × (number s₁₀ (publish 1) ≡ 0)
 unfolding computes
 met-nothing = (refl, (0, omega arith, refl, omega arith), each-empty, refl)
 
@@ -145,7 +154,8 @@ numbered : s₁ .txns 0 .number ≡ 3
 unfolding computes
 numbered = refl
 
-pub met-snapshot : Live (s₁ .txns 0) × ((w : ℕ) → Unpublished (s₁ .sizes) (s₁ .chains) (s₁ .txns w) 2 → seen (s₁ .txns 0 .snapshot) (s₁ .chains .xmin (s₁ .chains .head 2)) ≡ false)
+pub met-snapshot : Live (s₁ .txns 0)
+    × ((w : ℕ) → Unpublished (s₁ .sizes) (s₁ .chains) (s₁ .txns w) 2 → seen (s₁ .txns 0 .snapshot) (s₁ .chains .xmin (s₁ .chains .head 2)) ≡ false)
 met-snapshot = (
   omega (arith, numbered),
   λ w u. absurd
@@ -161,6 +171,7 @@ met-snapshot = (
     opened = met .0
 
 -- the premises of kept-xmin: 5 is active where 6 begins, so xmin is 5, with numbers below it
-pub met-xmin : let x = run (fresh sizes 5) (begin ∷ begin ∷ []) .txns 1 in (canOpen sizes 5 ≡ true) × (x .number ≡ 6) × (x .snapshot .active ≡ 5 ∷ []) × (x .snapshot .xmin ≡ 5)
+pub met-xmin : let x = run (fresh sizes 5) (begin ∷ begin ∷ []) .txns 1 in
+    (canOpen sizes 5 ≡ true) × (x .number ≡ 6) × (x .snapshot .active ≡ 5 ∷ []) × (x .snapshot .xmin ≡ 5)
 unfolding computes
 met-xmin = (refl, refl, refl, refl)

@@ -10,13 +10,16 @@ use Rattle.base_lists.specs.Lists.{all-of, Among}
 use Rattle.model.specs.Store.{Sizes, Store}
 use Rattle.model.specs.Steps.{foundRows, recordsAfter, readBuckets, neededBuckets}
 use Rattle.model.specs.Contents.{Content}
-use Rattle.model.specs.Refusals.{Step, begin, capture, collect, rows, write, prepare, install, end, publish, validate, abort, txnOf, liveCount, versionsAfter, WrongShape, NoSuch, WrongPhase}
+use Rattle.model.specs.Refusals.{Step, begin, capture, collect, rows, write, prepare, install, end, publish, validate, abort, txnOf, liveCount}
+use Rattle.model.specs.Refusals.{versionsAfter, WrongShape, NoSuch, WrongPhase}
 use Rattle.model.specs.Shape.{rightShape}
 use Rattle.model.specs.Machine.{checks, actor, canOpen}
-use Rattle.model.specs.Given.{_and_, number, Shaped, Lives, Names, RightPhase, Ready, ByAnother, Free, BucketTaken, BucketsFree, RowTaken, RowsFree, bucketFor, stampFor, Seventeenth, RoomForRead, verdictOf, Outside, openNumber}
+use Rattle.model.specs.Given.{_and_, number, Shaped, Lives, Names, RightPhase, Ready, ByAnother, Free, BucketTaken, BucketsFree, RowTaken, RowsFree}
+use Rattle.model.specs.Given.{bucketFor, stampFor, Seventeenth, RoomForRead, verdictOf, Outside, openNumber}
 use Rattle.model.proofs.FirstTest.{given-among, itself, opposite, less, at-most, equal, stop, skip, stop-or, pass, code}
 use Rattle.model.proofs.Ruled.{inOrder, ruled}
-use Rattle.model.proofs.Conditions.{all-tests, number-is, shape-test, past, ready-only, cannot-open, bucket-taken, stale-test, read-test, number-found, lives-test, bucket-test, needed-test}
+use Rattle.model.proofs.Conditions.{all-tests, number-is, shape-test, past, ready-only, cannot-open, bucket-taken, stale-test, read-test, number-found}
+use Rattle.model.proofs.Conditions.{lives-test, bucket-test, needed-test}
 
 -- a step gives no other number than those of its tests
 pub gives-only : (s : Store) (a : Step) → Among (number s a) (inOrder a)
@@ -45,32 +48,42 @@ begin-3 s = rw (number-is s begin) (skip 3 _ _ _ (shape-test s) (omega arith) (�
 
 pub begin-2 : (s : Store) → number s begin ≡ 2 ↔ Shaped s and (liveCount (s .txns) < mostLive) and (lastNumber < s .clock + liveCount (s .txns) + 2)
 unfolding checks all-of
-begin-2 s = rw (number-is s begin) (skip 2 _ _ _ (shape-test s) (omega arith) (λ sh. skip 2 _ _ _ (at-most mostLive (liveCount (s .txns))) (omega arith) (λ few. stop 2 _ _ _ (less lastNumber (s .clock + liveCount (s .txns) + 2)) (omega arith) refl)))
+begin-2 s = rw (number-is s begin)
+    (skip 2 _ _ _ (shape-test s) (omega arith)
+    (λ sh. skip 2 _ _ _ (at-most mostLive (liveCount (s .txns))) (omega arith)
+    (λ few. stop 2 _ _ _ (less lastNumber (s .clock + liveCount (s .txns) + 2)) (omega arith) refl)))
 
 pub begin-0 : (s : Store) → number s begin ≡ 0 ↔ Shaped s and (liveCount (s .txns) < mostLive) and (s .clock + liveCount (s .txns) + 2 ≤ lastNumber)
 unfolding checks
-begin-0 s = rw (number-is s begin) (skip 0 _ _ _ (shape-test s) (omega arith) (λ sh. skip 0 _ _ _ (at-most mostLive (liveCount (s .txns))) (omega arith) (λ few. pass _ _ (less lastNumber (s .clock + liveCount (s .txns) + 2)) (omega arith))))
+begin-0 s = rw (number-is s begin)
+    (skip 0 _ _ _ (shape-test s) (omega arith)
+    (λ sh. skip 0 _ _ _ (at-most mostLive (liveCount (s .txns))) (omega arith)
+    (λ few. pass _ _ (less lastNumber (s .clock + liveCount (s .txns) + 2)) (omega arith))))
 
 -- capture: 8 by the mark, 7, 8 by a stale stamp, 9
-pub capture-8 : (s : Store) (t k : ℕ) → number s (capture t k) ≡ 8 ↔ Ready s (capture t k) and ((txnOf s t .marked ≡ true) ⊎ ((txnOf s t .marked ≡ false) and Free (s .held .holder) t (bucketFor s k) and (t ≤ stampFor s k)))
+pub capture-8 : (s : Store) (t k : ℕ) → number s (capture t k) ≡ 8
+    ↔ Ready s (capture t k) and ((txnOf s t .marked ≡ true) ⊎ ((txnOf s t .marked ≡ false) and Free (s .held .holder) t (bucketFor s k) and (t ≤ stampFor s k)))
 unfolding all-of
 capture-8 s t k = past 8 s (capture t k) tt (omega arith)
     (λ l. stop-or 8 _ _ _ (itself (txnOf s t .marked)) refl
     (λ m. skip 8 _ _ _ (bucket-test s t k l) (omega arith) (λ f. stop 8 _ _ _ (stale-test s t k l) (omega arith) refl)))
 
-pub capture-7 : (s : Store) (t k : ℕ) → number s (capture t k) ≡ 7 ↔ Ready s (capture t k) and (txnOf s t .marked ≡ false) and ByAnother (s .held .holder) t (bucketFor s k)
+pub capture-7 : (s : Store) (t k : ℕ) → number s (capture t k) ≡ 7
+    ↔ Ready s (capture t k) and (txnOf s t .marked ≡ false) and ByAnother (s .held .holder) t (bucketFor s k)
 unfolding all-of
 capture-7 s t k = past 7 s (capture t k) tt (omega arith)
     (λ l. skip 7 _ _ _ (itself (txnOf s t .marked)) (omega arith) (λ m. stop 7 _ _ _ (bucket-test s t k l) (omega arith) refl))
 
-pub capture-9 : (s : Store) (t k : ℕ) → number s (capture t k) ≡ 9 ↔ Ready s (capture t k) and (txnOf s t .marked ≡ false) and Free (s .held .holder) t (bucketFor s k) and (stampFor s k < t) and Seventeenth s t k
+pub capture-9 : (s : Store) (t k : ℕ) → number s (capture t k) ≡ 9
+    ↔ Ready s (capture t k) and (txnOf s t .marked ≡ false) and Free (s .held .holder) t (bucketFor s k) and (stampFor s k < t) and Seventeenth s t k
 unfolding all-of
 capture-9 s t k = past 9 s (capture t k) tt (omega arith)
     (λ l. skip 9 _ _ _ (itself (txnOf s t .marked)) (omega arith)
     (λ m. skip 9 _ _ _ (bucket-test s t k l) (omega arith)
     (λ f. skip 9 _ _ _ (stale-test s t k l) (omega arith) (λ d. stop 9 _ _ _ (read-test s t k) (omega arith) refl))))
 
-pub capture-0 : (s : Store) (t k : ℕ) → number s (capture t k) ≡ 0 ↔ Ready s (capture t k) and (txnOf s t .marked ≡ false) and Free (s .held .holder) t (bucketFor s k) and (stampFor s k < t) and RoomForRead s t k
+pub capture-0 : (s : Store) (t k : ℕ) → number s (capture t k) ≡ 0
+    ↔ Ready s (capture t k) and (txnOf s t .marked ≡ false) and Free (s .held .holder) t (bucketFor s k) and (stampFor s k < t) and RoomForRead s t k
 capture-0 s t k = past 0 s (capture t k) tt (omega arith)
     (λ l. skip 0 _ _ _ (itself (txnOf s t .marked)) (omega arith)
     (λ m. skip 0 _ _ _ (bucket-test s t k l) (omega arith)
@@ -82,13 +95,15 @@ unfolding all-of
 rows-10 s t room = past 10 s (rows t room) tt (omega arith)
     (λ l. stop 10 _ _ _ (less (min room mostRows) (length (foundRows s (txnOf s t)))) (omega arith) refl)
 
-pub rows-11 : (s : Store) (t room : ℕ) → number s (rows t room) ≡ 11 ↔ Ready s (rows t room) and (length (foundRows s (txnOf s t)) ≤ min room mostRows) and (mostRecords < length (recordsAfter s (txnOf s t)))
+pub rows-11 : (s : Store) (t room : ℕ) → number s (rows t room) ≡ 11 ↔ Ready s (rows t room) and (length (foundRows s (txnOf s t)) ≤ min room mostRows)
+    and (mostRecords < length (recordsAfter s (txnOf s t)))
 unfolding all-of
 rows-11 s t room = past 11 s (rows t room) tt (omega arith)
     (λ l. skip 11 _ _ _ (less (min room mostRows) (length (foundRows s (txnOf s t)))) (omega arith)
     (λ f. stop 11 _ _ _ (less mostRecords (length (recordsAfter s (txnOf s t)))) (omega arith) refl))
 
-pub rows-0 : (s : Store) (t room : ℕ) → number s (rows t room) ≡ 0 ↔ Ready s (rows t room) and (length (foundRows s (txnOf s t)) ≤ min room mostRows) and (length (recordsAfter s (txnOf s t)) ≤ mostRecords)
+pub rows-0 : (s : Store) (t room : ℕ) → number s (rows t room) ≡ 0 ↔ Ready s (rows t room) and (length (foundRows s (txnOf s t)) ≤ min room mostRows)
+    and (length (recordsAfter s (txnOf s t)) ≤ mostRecords)
 rows-0 s t room = past 0 s (rows t room) tt (omega arith)
     (λ l. skip 0 _ _ _ (less (min room mostRows) (length (foundRows s (txnOf s t)))) (omega arith)
     (λ f. pass _ _ (less mostRecords (length (recordsAfter s (txnOf s t)))) (omega arith)))
@@ -122,7 +137,8 @@ pub prepare-7 : (s : Store) (t : ℕ) → number s (prepare t) ≡ 7 ↔ Ready s
 unfolding all-of
 prepare-7 s t = past 7 s (prepare t) tt (omega arith) (λ l. stop 7 _ _ _ (needed-test s t l) (omega arith) refl)
 
-pub prepare-14 : (s : Store) (t : ℕ) → number s (prepare t) ≡ 14 ↔ Ready s (prepare t) and (BucketsFree s t (neededBuckets s (txnOf s t)) × RowsFree s t) and (verdictOf s t ≢ 0)
+pub prepare-14 : (s : Store) (t : ℕ) → number s (prepare t) ≡ 14 ↔ Ready s (prepare t) and (BucketsFree s t (neededBuckets s (txnOf s t)) × RowsFree s t)
+    and (verdictOf s t ≢ 0)
 unfolding all-of
 prepare-14 s t = past 14 s (prepare t) tt (omega arith)
     (λ l. skip 14 _ _ _ (needed-test s t l) (omega arith) (λ f. stop 14 _ _ _ (opposite (equal (verdictOf s t) 0)) (omega arith) refl))
@@ -169,7 +185,8 @@ pub abort-0 : (s : Store) (t : ℕ) → number s (abort t) ≡ 0 ↔ Ready s (ab
 abort-0 s t = ready-only s (abort t) tt refl
 
 -- open: 1 exactly where a size is outside its range or the clock is 0
-pub open-1 : (z : Sizes) (clock : ℕ) → openNumber z clock ≡ 1 ↔ Outside (z .rows) mostRows ⊎ Outside (z .versions) mostVersions ⊎ Outside (z .buckets) mostBuckets ⊎ (clock ≡ 0)
+pub open-1 : (z : Sizes) (clock : ℕ) → openNumber z clock ≡ 1
+    ↔ Outside (z .rows) mostRows ⊎ Outside (z .versions) mostVersions ⊎ Outside (z .buckets) mostBuckets ⊎ (clock ≡ 0)
 open-1 z clock = let c = cannot-open z clock in (λ e. c .0 (shut (canOpen z clock) e), λ o. rw (c .1 o))
   where
     shut : (b : Bool) → _≡_ {A = ℕ} (cond b 0 1) 1 → b ≡ false

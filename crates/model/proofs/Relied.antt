@@ -26,13 +26,15 @@ use Rattle.model.proofs.Cleared.{Cleared, read-below, record-open}
 -- a finished read of key k while ws were pending, relied on: its bucket is among the index reads, and each row found through a version is recorded
 pub record Relied (z : Sizes) (c : Chains) (x : Txn) (k : ℕ) (ws : List Write) : Type 0 where
   pub bucket-in : hasRead (x .reads) (bucketOf z k) ≡ true
-  pub recorded-in : (r : ℕ) → r < z .rows → pending ws r ≡ false → keyAt c (versionOf c (x .snapshot) r) ≡ some k → Among (recordOf c (x .snapshot) r) (x .records)
+  pub recorded-in : (r : ℕ) → r < z .rows → pending ws r ≡ false → keyAt c (versionOf c (x .snapshot) r) ≡ some k
+      → Among (recordOf c (x .snapshot) r) (x .records)
 
 module _ (s : Store) (g : Good s) (i : ℕ) (l : Live (s .txns i)) (a : rank (s .txns i .phase) < phaseInstalled) where
   -- what the transaction sees, a snapshot taken now sees too
   now-sees : (p : ℕ) → 1 ≤ p → p ≤ s .chains .used → seen (s .txns i .snapshot) (s .chains .xmin p) ≡ true → seen (snapshotNow s) (s .chains .xmin p) ≡ true
   unfolding snapshotNow
-  now-sees p lo hi e = which-seen (snapshotNow s) (s .chains .xmin p) (g .below .xmin-below p) (λ m. let w = active-which (s .txns) (s .chains .xmin p) m in running (w .0) (w .2) (w .3) (w .4))
+  now-sees p lo hi e = which-seen (snapshotNow s) (s .chains .xmin p) (g .below .xmin-below p) (λ m. let w =
+      active-which (s .txns) (s .chains .xmin p) m in running (w .0) (w .2) (w .3) (w .4))
     where
       sees : (s .chains .xmin p < s .txns i .snapshot .xmax) × (Among (s .chains .xmin p) (s .txns i .snapshot .active) → ⊥)
       sees = seen-which (s .txns i .snapshot) (s .chains .xmin p) e
@@ -43,12 +45,14 @@ module _ (s : Store) (g : Good s) (i : ℕ) (l : Live (s .txns i)) (a : rank (s 
         | no d ↦ sees .1 (rw (sym f) at (g .numbers .knows i j l v (omega (arith, sees .0, g .numbers .snapped i l .xmax-is)) r))
       ]
 
-  unseen-then : (p : ℕ) → 1 ≤ p → p ≤ s .chains .used → seen (snapshotNow s) (s .chains .xmin p) ≡ false → seen (s .txns i .snapshot) (s .chains .xmin p) ≡ false
+  unseen-then : (p : ℕ) → 1 ≤ p → p ≤ s .chains .used → seen (snapshotNow s) (s .chains .xmin p) ≡ false
+      → seen (s .txns i .snapshot) (s .chains .xmin p) ≡ false
   unseen-then p lo hi e = is-false _ (λ t. true≢false (sym (now-sees p lo hi t) ∙ e))
 
   -- the own number is seen
   own-seen : seen (s .txns i .snapshot) (s .txns i .number) ≡ true
-  own-seen = let n = g .numbers .snapped i l in which-seen (s .txns i .snapshot) (s .txns i .number) (omega (arith, n .xmax-is)) (λ m. omega (arith, n .active-below _ m))
+  own-seen = let n = g .numbers .snapped i l in
+      which-seen (s .txns i .snapshot) (s .txns i .number) (omega (arith, n .xmax-is)) (λ m. omega (arith, n .active-below _ m))
 
 module _ (s : Store) (g : Good s) (i : ℕ) (l : Live (s .txns i)) (a : rank (s .txns i .phase) < phaseInstalled) (k : ℕ) (ws : List Write)
     (relied : Relied (s .sizes) (s .chains) (s .txns i) k ws) (clear : Cleared (s .chains) (s .index) (s .txns i))
@@ -64,11 +68,16 @@ module _ (s : Store) (g : Good s) (i : ℕ) (l : Live (s .txns i)) (a : rank (s 
   no-turn =
       let r = read-bucket (s .txns i .reads) (bucketOf (s .sizes) k) (relied .bucket-in) in
       let held = rw (r .2) at (among-map (λ (q : IndexRead). q .bucket) (s .txns i .reads) (r .0) (r .1)) in
-      untold s (g .numbers) (g .holders) (g .written) (g .told) i k l a (rw (r .2) at (read-below (s .index) (s .txns i .number) (r .0) (clear .reads-good (r .0) (r .1)))) (not-another (s .held .holder) (s .txns i .number) (bucketOf (s .sizes) k) (untaken (bucketOf (s .sizes) k) held))
+      untold s (g .numbers) (g .holders) (g .written) (g .told) i k l a
+      (rw (r .2) at (read-below (s .index) (s .txns i .number) (r .0) (clear .reads-good (r .0) (r .1))))
+      (not-another (s .held .holder) (s .txns i .number) (bucketOf (s .sizes) k) (untaken (bucketOf (s .sizes) k) held))
 
   -- a row that was read through a version is headed by it
   read-head : (r : ℕ) → r < s .sizes .rows → pending ws r ≡ false → keyAt c (versionOf c v r) ≡ some k → versionOf c v r ≡ c .head r
-  read-head r u b e = finds-top c v (g .chained) (c .head r) (versionOf c v r) walked pos (ended (record-open c (s .txns i) (recordOf c v r) good) (finds-open c v (g .chained) (c .head r) (versionOf c v r) walked pos (inl (g .chained .head-open r (λ f. pos (zero-finds c v (c .head r) (versionOf c v r) walked f))))))
+  read-head r u b e = finds-top c v (g .chained) (c .head r) (versionOf c v r) walked pos
+      (ended (record-open c (s .txns i) (recordOf c v r) good)
+      (finds-open c v (g .chained) (c .head r) (versionOf c v r) walked pos
+      (inl (g .chained .head-open r (λ f. pos (zero-finds c v (c .head r) (versionOf c v r) walked f))))))
     where
       walked : Finds c v (c .head r) (versionOf c v r)
       walked = version-finds c v (g .chained) r
@@ -79,7 +88,8 @@ module _ (s : Store) (g : Good s) (i : ℕ) (l : Live (s .txns i)) (a : rank (s 
       good : badRecord c (s .txns i .number) v (recordOf c v r) ≡ false
       good = clear .records-good (recordOf c v r) (relied .recorded-in r u b e)
 
-      ended : (c .xmax (versionOf c v r) ≡ 0) ⊎ ((c .xmax (versionOf c v r) ≡ s .txns i .number) ⊎ (seen v (c .xmax (versionOf c v r)) ≡ true)) → (c .xmax (versionOf c v r) ≡ 0) ⊎ (seen v (c .xmax (versionOf c v r)) ≡ false) → c .xmax (versionOf c v r) ≡ 0
+      ended : (c .xmax (versionOf c v r) ≡ 0) ⊎ ((c .xmax (versionOf c v r) ≡ s .txns i .number) ⊎ (seen v (c .xmax (versionOf c v r)) ≡ true))
+          → (c .xmax (versionOf c v r) ≡ 0) ⊎ (seen v (c .xmax (versionOf c v r)) ≡ false) → c .xmax (versionOf c v r) ≡ 0
       ended (inl x) y = x
       ended (inr x) (inl y) = y
       ended (inr (inl x)) (inr y) = absurd (true≢false (sym (own-seen s g i l a) ∙ (ap (seen v) (sym x) ∙ y)))
@@ -90,9 +100,11 @@ module _ (s : Store) (g : Good s) (i : ℕ) (l : Live (s .txns i)) (a : rank (s 
   read-now r u b e =
       let shown = finds-shown c v (c .head r) (versionOf c v r) (version-finds c v (g .chained) r) (keyAt-pos c (versionOf c v r) k e) in
       finds-one c (snapshotNow s) (c .head r) (versionOf c (snapshotNow s) r) (versionOf c v r) (version-finds c (snapshotNow s) (g .chained) r)
-      (rw (read-head r u b e) (here {p = c .head r} (omega (arith, read-head r u b e, shown .from)) (g .chained .heads-in r) (rw (read-head r u b e) at (now-sees s g i l a (versionOf c v r) (shown .from) (shown .in-use) (shown .seen-is))) refl))
+      (rw (read-head r u b e) (here {p = c .head r} (omega (arith, read-head r u b e, shown .from)) (g .chained .heads-in r)
+      (rw (read-head r u b e) at (now-sees s g i l a (versionOf c v r) (shown .from) (shown .in-use) (shown .seen-is))) refl))
 
   -- a row that shows the key now showed it then
   pub now-read : (r : ℕ) → keyAt c (versionOf c (snapshotNow s) r) ≡ some k → keyAt c (versionOf c v r) ≡ some k
   now-read r e = key-down c v k no-turn (versionOf c (snapshotNow s) r) (versionOf c v r)
-      (finds-through c (snapshotNow s) v (unseen-then s g i l a) (c .head r) (versionOf c (snapshotNow s) r) (versionOf c v r) (version-finds c (snapshotNow s) (g .chained) r) (keyAt-pos c _ k e) (version-finds c v (g .chained) r)) e
+      (finds-through c (snapshotNow s) v (unseen-then s g i l a) (c .head r) (versionOf c (snapshotNow s) r) (versionOf c v r)
+      (version-finds c (snapshotNow s) (g .chained) r) (keyAt-pos c _ k e) (version-finds c v (g .chained) r)) e

@@ -1,4 +1,5 @@
--- A finished read remains: over any steps the transaction keeps its index read and its records, and sees each row at the same version, until it installs or ends. Assumes nothing.
+-- A finished read remains: over any steps the transaction keeps its index read and its records, and sees each row at the same version, until it installs or
+-- ends. Assumes nothing.
 use mathlib.Core.Path.{_≡_, refl, sym, _∙_}
 use mathlib.Core.Bool.{true, false}
 use mathlib.Core.Logic.{_≢_}
@@ -13,7 +14,8 @@ use Rattle.model.specs.Seeing.{seen, versionOf, keyAt, recordOf, Live}
 use Rattle.model.specs.Steps.{newTxn, hasRead, foundRows, withPhase, installed, versionRows}
 use Rattle.model.specs.Refusals.{Step}
 use Rattle.model.specs.Machine.{run}
-use Rattle.model.proofs.Move.{Move, stay, did-begin, did-mark, did-capture, did-collect, did-rows, did-write, did-prepare, did-install, did-end, did-publish, did-abort, run-inv}
+use Rattle.model.proofs.Move.{Move, stay, did-begin, did-mark, did-capture, did-collect, did-rows, did-write, did-prepare, did-install, did-end}
+use Rattle.model.proofs.Move.{did-publish, did-abort, run-inv}
 use Rattle.model.proofs.Numbers.{clock-move}
 use Rattle.model.proofs.SeeingLaws.{addRead-keeps, recordAll-keeps}
 use Rattle.model.proofs.Grown.{Grown}
@@ -70,14 +72,19 @@ module _ (c₁ : Chains) (v : Snapshot) (k n : ℕ) where
       gr : Grown (s .txns i) (versionRows (s .sizes) (s .chains) (s .txns i .writes)) (s .chains) (installed s i .chains)
       gr = installs s i (g .chained)
 
-      other : (j : ℕ) → j ≢ i → s .txns j .number ≡ n → Remains c₁ v k (s .sizes) (s .chains) (s .txns j) → Remains c₁ v k (s .sizes) (installed s i .chains) (s .txns j)
+      other : (j : ℕ) → j ≢ i → s .txns j .number ≡ n → Remains c₁ v k (s .sizes) (s .chains) (s .txns j)
+          → Remains c₁ v k (s .sizes) (installed s i .chains) (s .txns j)
       other j d p r =
-          let unseen : seen v (s .txns i .number) ≡ false = rw (r .snapshot-is) at (unseen-other (s .clock) (s .txns) (g .numbers) i j (λ e. d (sym e)) l (omega (arith, w .number-pos)) (omega arith)) in
+          let unseen : seen v (s .txns i .number) ≡ false =
+          rw (r .snapshot-is) at (unseen-other (s .clock) (s .txns) (g .numbers) i j (λ e. d (sym e)) l (omega (arith, w .number-pos)) (omega arith)) in
           record {
             snapshot-is = r .snapshot-is;
             bucket-read = r .bucket-read;
             records-keep = r .records-keep;
-            same-version = λ o. rw (xmin-grown (s .txns i) _ (s .chains) (installed s i .chains) (g .chained) (g′ .chained) gr v unseen o, version-grown (s .txns i) _ (s .chains) (installed s i .chains) (g .chained) (g′ .chained) gr v unseen o) (r .same-version o);
+            same-version = λ o. rw (
+              xmin-grown (s .txns i) _ (s .chains) (installed s i .chains) (g .chained) (g′ .chained) gr v unseen o,
+              version-grown (s .txns i) _ (s .chains) (installed s i .chains) (g .chained) (g′ .chained) gr v unseen o,
+            ) (r .same-version o);
             same-key = λ o. key-grown (s .txns i) _ (s .chains) (installed s i .chains) (g .chained) (g′ .chained) gr v unseen o ∙ r .same-key o;
           }
 
@@ -89,7 +96,9 @@ module _ (c₁ : Chains) (v : Snapshot) (k n : ℕ) where
   here-move s s′ g g′ w (did-mark i a b) = remains-set s i _ w refl refl (λ h. omega arith) (λ o h. h) (λ q m. m)
   here-move s s′ g g′ w (did-capture i m a b c) = remains-set s i _ w refl refl (λ h. omega arith) (λ o h. addRead-keeps (s .txns i .reads) _ _ o h) (λ q m. m)
   here-move s s′ g g′ w (did-collect i a b) = remains-set s i _ w refl refl (λ h. omega arith) (λ o h. h) (λ q m. m)
-  here-move s s′ g g′ w (did-rows i a b c) = remains-set s i _ w refl refl (λ h. omega arith) (λ o h. h) (λ q m. recordAll-keeps (s .chains) (s .txns i) (s .txns i .records) (foundRows s (s .txns i)) q m)
+  here-move s s′ g g′ w (did-rows i a b c) =
+      remains-set s i _ w refl refl (λ h. omega arith) (λ o h. h)
+      (λ q m. recordAll-keeps (s .chains) (s .txns i) (s .txns i .records) (foundRows s (s .txns i)) q m)
   here-move s s′ g g′ w (did-write i x a b c d) = remains-set s i _ w refl refl (λ h. omega arith) (λ o h. h) (λ q m. m)
   here-move s s′ g g′ w (did-prepare i a b c) = remains-set s i _ w refl refl (λ h. omega arith) (λ o h. h) (λ q m. m)
   here-move s s′ g g′ w (did-install i a b) = remains-install s i g g′ w a b
@@ -98,7 +107,9 @@ module _ (c₁ : Chains) (v : Snapshot) (k n : ℕ) where
   here-move s s′ g g′ w (did-abort i a b) = remains-other s i noTxn w (λ e. omega (arith, w .number-pos))
 
   pub remains-move : (s s′ : Store) {a : ℕ} → Good s → RemainsAt c₁ v k n s → Move s a s′ → RemainsAt c₁ v k n s′
-  remains-move s s′ g w m = record { number-pos = w .number-pos; number-old = omega (arith, w .number-old, clock-move s s′ m); here = here-move s s′ g (good-move s s′ g m) w m }
+  remains-move s s′ g w m =
+      record { number-pos = w .number-pos; number-old = omega (arith, w .number-old, clock-move s s′ m); here = here-move s s′ g (good-move s s′ g m) w m }
 
   pub remains-run : (s : Store) → Good s → RemainsAt c₁ v k n s → (more : List Step) → RemainsAt c₁ v k n (run s more)
-  remains-run s g w more = run-inv (λ s. Good s × RemainsAt c₁ v k n s) (λ s s′ i p m. (good-move s s′ (p .0) m, remains-move s s′ (p .0) (p .1) m)) s more (g, w) .1
+  remains-run s g w more =
+      run-inv (λ s. Good s × RemainsAt c₁ v k n s) (λ s s′ i p m. (good-move s s′ (p .0) m, remains-move s s′ (p .0) (p .1) m)) s more (g, w) .1

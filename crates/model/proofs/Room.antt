@@ -17,7 +17,8 @@ use Rattle.model.specs.Seeing.{keyAt, lastWrite, live, Live}
 use Rattle.model.specs.Steps.{withPhase, newTxn, oldKey, newKey, versionRows, prepared, push, writtenPayload, pushAll, installed}
 use Rattle.model.specs.Refusals.{liveCount, reservedBy, reserved, versionsAfter}
 use Rattle.model.specs.Holding.{Writes}
-use Rattle.model.proofs.Move.{live-test, Move, stay, did-begin, did-mark, did-capture, did-collect, did-rows, did-write, did-prepare, did-install, did-end, did-publish, did-abort}
+use Rattle.model.proofs.Move.{live-test, Move, stay, did-begin, did-mark, did-capture, did-collect, did-rows, did-write, did-prepare, did-install}
+use Rattle.model.proofs.Move.{did-end, did-publish, did-abort}
 use Rattle.model.proofs.Chained.{Chained}
 use Rattle.model.proofs.Numbers.{Numbers, in-place}
 use Rattle.model.proofs.Holders.{HoldersAt, one-claim}
@@ -43,11 +44,13 @@ unfolding reserved sum
 reserved-sum z c t zero = refl
 reserved-sum z c t (suc n) = rw (reserved-sum z c t n)
 
-reserved-set : (z : Sizes) (c : Chains) (t : ℕ → Txn) (i : ℕ) (x : Txn) (n : ℕ) → i < n → reserved z c (update t i x) n + reservedBy z c (t i) ≡ reserved z c t n + reservedBy z c x
+reserved-set : (z : Sizes) (c : Chains) (t : ℕ → Txn) (i : ℕ) (x : Txn) (n : ℕ) → i < n
+    → reserved z c (update t i x) n + reservedBy z c (t i) ≡ reserved z c t n + reservedBy z c x
 reserved-set z c t i x n l = rw (reserved-sum z c (update t i x) n, reserved-sum z c t n) (sum-set (reservedBy z c) t i x n l)
 
 -- what each reserves is the same over two chains
-reserved-same : (z : Sizes) (c c′ : Chains) (t : ℕ → Txn) (n : ℕ) → ((j : ℕ) → reservedBy z c′ (t j) ≡ reservedBy z c (t j)) → reserved z c′ t n ≡ reserved z c t n
+reserved-same : (z : Sizes) (c c′ : Chains) (t : ℕ → Txn) (n : ℕ) → ((j : ℕ) → reservedBy z c′ (t j) ≡ reservedBy z c (t j))
+    → reserved z c′ t n ≡ reserved z c t n
 reserved-same z c c′ t n h = rw (reserved-sum z c′ t n, reserved-sum z c t n) (sum-same (reservedBy z c) (reservedBy z c′) t t n (λ j l. h j))
 
 -- who reserves nothing, all together, reserve nothing
@@ -72,7 +75,8 @@ used-pushAll x [] c = omega arith
 used-pushAll x (r ∷ rs) c = omega (arith, used-pushAll x rs (push (x .number) r (newKey x r) (writtenPayload (lastWrite (x .writes) r)) c))
 
 -- one place changes, and takes no more than it had
-room-set : (z : Sizes) (clock clock′ : ℕ) (c : Chains) (t : ℕ → Txn) (i : ℕ) (x : Txn) → i < mostLive → clock′ + one (live x) ≤ clock + one (live (t i)) → reservedBy z c x ≤ reservedBy z c (t i)
+room-set : (z : Sizes) (clock clock′ : ℕ) (c : Chains) (t : ℕ → Txn) (i : ℕ) (x : Txn) → i < mostLive → clock′ + one (live x) ≤ clock + one (live (t i))
+    → reservedBy z c x ≤ reservedBy z c (t i)
     → Room z clock c t → Room z clock′ c (update t i x)
 room-set z clock clock′ c t i x l a b g = record {
   numbers-left = omega (arith, g .numbers-left, live-set t i x l);
@@ -86,24 +90,33 @@ module _ (s : Store) (i : ℕ) (n : Numbers (s .clock) (s .txns)) (g : RoomAt s)
   -- neither before nor after Prepared
   room-quiet : (x : Txn) → x .number ≡ s .txns i .number → rank (s .txns i .phase) ≢ phasePrepared → rank (x .phase) ≢ phasePrepared
       → Room (s .sizes) (s .clock) (s .chains) (update (s .txns) i x)
-  room-quiet x e p q = room-set _ _ _ (s .chains) (s .txns) i x here (rw e (omega arith)) (omega (arith, reserves-none (s .sizes) (s .chains) x q, reserves-none (s .sizes) (s .chains) (s .txns i) p)) g
+  room-quiet x e p q = room-set _ _ _ (s .chains) (s .txns) i x here (rw e (omega arith))
+      (omega (arith, reserves-none (s .sizes) (s .chains) x q, reserves-none (s .sizes) (s .chains) (s .txns i) p)) g
 
   -- the record ends
   room-free : (clock′ : ℕ) → clock′ ≤ suc (s .clock) → Room (s .sizes) clock′ (s .chains) (update (s .txns) i noTxn)
-  room-free clock′ h = room-set _ _ _ (s .chains) (s .txns) i noTxn here (omega (arith, ap one (live-test (s .txns i) a))) (omega (arith, reserves-none (s .sizes) (s .chains) noTxn (λ e. omega arith))) g
+  room-free clock′ h = room-set _ _ _ (s .chains) (s .txns) i noTxn here (omega (arith, ap one (live-test (s .txns i) a)))
+      (omega (arith, reserves-none (s .sizes) (s .chains) noTxn (λ e. omega arith))) g
 
   room-prepare : rank (s .txns i .phase) ≡ phaseOpen → versionsAfter s (s .txns i) ≤ s .sizes .versions → RoomAt (prepared s i)
   room-prepare r h = let x = withPhase (s .txns i) Prepared in record {
     numbers-left = omega (arith, g .numbers-left, live-set (s .txns) i x here);
-    versions-left = omega (arith, reserved-set (s .sizes) (s .chains) (s .txns) i x mostLive here, reserves (s .sizes) (s .chains) x a refl, reserves-none (s .sizes) (s .chains) (s .txns i) (λ e. omega arith));
+    versions-left = omega (
+      arith,
+      reserved-set (s .sizes) (s .chains) (s .txns) i x mostLive here,
+      reserves (s .sizes) (s .chains) x a refl,
+      reserves-none (s .sizes) (s .chains) (s .txns i) (λ e. omega arith),
+    );
   }
 
   -- what another reserved, it still reserves: its rows are not mine
   others-reserve : Chained (s .chains) → HoldersAt s → rank (s .txns i .phase) ≡ phasePrepared → (j : ℕ)
       → reservedBy (s .sizes) (installed s i .chains) (installed s i .txns j) ≡ reservedBy (s .sizes) (s .chains) (installed s i .txns j)
   unfolding reservedBy
-  others-reserve ch h r j = update-elim (λ y. reservedBy (s .sizes) (installed s i .chains) y ≡ reservedBy (s .sizes) (s .chains) y) (s .txns) i (withPhase (s .txns i) Installed) j
-      (λ e. reserves-none (s .sizes) (installed s i .chains) (withPhase (s .txns i) Installed) (λ f. omega arith) ∙ sym (reserves-none (s .sizes) (s .chains) (withPhase (s .txns i) Installed) (λ f. omega arith)))
+  others-reserve ch h r j =
+      update-elim (λ y. reservedBy (s .sizes) (installed s i .chains) y ≡ reservedBy (s .sizes) (s .chains) y) (s .txns) i (withPhase (s .txns i) Installed) j
+      (λ e. reserves-none (s .sizes) (installed s i .chains) (withPhase (s .txns i) Installed) (λ f. omega arith)
+      ∙ sym (reserves-none (s .sizes) (s .chains) (withPhase (s .txns i) Installed) (λ f. omega arith)))
       (λ d. elim (ℕ-discrete (rank (s .txns j .phase)) phasePrepared) [
         | yes e ↦ same d e
         | no f ↦ reserves-none (s .sizes) (installed s i .chains) (s .txns j) f ∙ sym (reserves-none (s .sizes) (s .chains) (s .txns j) f)
@@ -141,7 +154,12 @@ pub room-move : (s s′ : Store) {a : ℕ} → Chained (s .chains) → Numbers (
 room-move s s′ ch n h g (stay i) = g
 room-move s s′ ch n h g (did-begin i a b c d) = record {
   numbers-left = omega (arith, live-set (s .txns) i (newTxn s) a, ap one (live-test (newTxn s) (n .clock-pos)));
-  versions-left = omega (arith, g .versions-left, reserved-set (s .sizes) (s .chains) (s .txns) i (newTxn s) mostLive a, reserves-none (s .sizes) (s .chains) (newTxn s) (λ e. omega arith));
+  versions-left = omega (
+    arith,
+    g .versions-left,
+    reserved-set (s .sizes) (s .chains) (s .txns) i (newTxn s) mostLive a,
+    reserves-none (s .sizes) (s .chains) (newTxn s) (λ e. omega arith),
+  );
 }
 room-move s s′ ch n h g (did-mark i a b) = room-quiet s i n g a _ refl (λ e. omega arith) (λ e. omega arith)
 room-move s s′ ch n h g (did-capture i k a b c) = room-quiet s i n g a _ refl (λ e. omega arith) (λ e. omega arith)

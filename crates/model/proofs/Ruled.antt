@@ -8,7 +8,8 @@ use lib.Dec.{ltb}
 use Rattle.base_lists.specs.Lists.{all-of}
 use Rattle.base_lists.proofs.ListLaws.{is-false}
 use Rattle.model.specs.Store.{Store, phaseOpen, phaseHolding, phaseCollected, phasePrepared, phaseInstalled, phaseEnded, rank}
-use Rattle.model.specs.Refusals.{Refusal, refusalNumber, WrongShape, Step, begin, capture, collect, rows, write, prepare, install, end, publish, validate, abort, txnOf, found}
+use Rattle.model.specs.Refusals.{Refusal, refusalNumber, WrongShape, Step, begin, capture, collect, rows, write, prepare, install, end, publish, validate}
+use Rattle.model.specs.Refusals.{abort, txnOf, found}
 use Rattle.model.specs.Shape.{rightShape}
 use Rattle.model.specs.Machine.{Answer, Done, Number, Stamp, Count, Rows, Judged, Refused, rule, actor, checks, accepted, isStale}
 use Rattle.model.specs.Upstream.{Event}

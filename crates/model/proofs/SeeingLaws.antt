@@ -69,7 +69,8 @@ pub match-version : (c : Chains) (x : Txn) (k r : ℕ) → pending (x .writes) r
 unfolding matches shownKey
 match-version c x k r p m = same-key _ _ (rw p at m)
 
-pub version-match : (c : Chains) (x : Txn) (k r : ℕ) → pending (x .writes) r ≡ false → matches c x k r ≡ sameKey (keyAt c (versionOf c (x .snapshot) r)) (some k)
+pub version-match : (c : Chains) (x : Txn) (k r : ℕ) → pending (x .writes) r ≡ false
+    → matches c x k r ≡ sameKey (keyAt c (versionOf c (x .snapshot) r)) (some k)
 unfolding matches shownKey
 version-match c x k r p = rw p
 
@@ -124,7 +125,8 @@ addRead-cases rs b stamp r = cond-elim (λ qs. Among r qs → Among r rs ⊎ (r 
 -- records: what is there stays, and what comes is of a row that was read through a version
 pub recording-cases : (rs : List ReadRecord) (q r : ReadRecord) → Among r (recording rs q) → Among r rs ⊎ (r ≡ q)
 unfolding recording
-recording-cases rs q r = cond-elim (λ l. Among r l → Among r rs ⊎ (r ≡ q)) (recorded rs (q .ptr)) rs (rs ++ (q ∷ [])) (λ e m. inl m) (λ e m. among-last r q rs m)
+recording-cases rs q r =
+    cond-elim (λ l. Among r l → Among r rs ⊎ (r ≡ q)) (recorded rs (q .ptr)) rs (rs ++ (q ∷ [])) (λ e m. inl m) (λ e m. among-last r q rs m)
 
 pub recording-keeps : (rs : List ReadRecord) (q r : ReadRecord) → Among r rs → Among r (recording rs q)
 unfolding recording
@@ -133,7 +135,8 @@ recording-keeps rs q r m = cond-elim (λ l. Among r l) (recorded rs (q .ptr)) rs
 -- a pointer is recorded afterwards
 pub recording-has : (rs : List ReadRecord) (q : ReadRecord) → (r : ReadRecord) × Among r (recording rs q) × (r .ptr ≡ q .ptr)
 unfolding recording recorded
-recording-has rs q = cond-elim (λ l. (r : ReadRecord) × Among r l × (r .ptr ≡ q .ptr)) (recorded rs (q .ptr)) rs (rs ++ (q ∷ [])) (λ e. old e) (λ e. (q, among-right q rs (q ∷ []) (inl refl), refl))
+recording-has rs q = cond-elim (λ l. (r : ReadRecord) × Among r l × (r .ptr ≡ q .ptr)) (recorded rs (q .ptr)) rs (rs ++ (q ∷ [])) (λ e. old e)
+    (λ e. (q, among-right q rs (q ∷ []) (inl refl), refl))
   where
     old : recorded rs (q .ptr) ≡ true → (r : ReadRecord) × Among r rs × (r .ptr ≡ q .ptr)
     old e = let w = some-which (λ (r : ReadRecord). eqb (r .ptr) (q .ptr)) rs e in (w .0, w .1, eqb-true _ _ (w .2))
@@ -143,15 +146,18 @@ module _ (c : Chains) (x : Txn) where
   recordRow : List ReadRecord → ℕ → List ReadRecord
   recordRow rs r = cond (pending (x .writes) r) rs (recording rs (recordOf c (x .snapshot) r))
 
-  row-cases : (rs : List ReadRecord) (r : ℕ) (q : ReadRecord) → Among q (recordRow rs r) → Among q rs ⊎ ((pending (x .writes) r ≡ false) × (q ≡ recordOf c (x .snapshot) r))
+  row-cases : (rs : List ReadRecord) (r : ℕ) (q : ReadRecord) → Among q (recordRow rs r)
+      → Among q rs ⊎ ((pending (x .writes) r ≡ false) × (q ≡ recordOf c (x .snapshot) r))
   unfolding recordRow
-  row-cases rs r q = cond-elim (λ l. Among q l → Among q rs ⊎ ((pending (x .writes) r ≡ false) × (q ≡ recordOf c (x .snapshot) r))) (pending (x .writes) r) rs (recording rs (recordOf c (x .snapshot) r))
+  row-cases rs r q = cond-elim (λ l. Among q l → Among q rs ⊎ ((pending (x .writes) r ≡ false) × (q ≡ recordOf c (x .snapshot) r)))
+      (pending (x .writes) r) rs (recording rs (recordOf c (x .snapshot) r))
       (λ e m. inl m)
       (λ e m. ⊎-elim inl (λ f. inr (e, f)) (recording-cases rs (recordOf c (x .snapshot) r) q m))
 
   row-keeps : (rs : List ReadRecord) (r : ℕ) (q : ReadRecord) → Among q rs → Among q (recordRow rs r)
   unfolding recordRow
-  row-keeps rs r q m = cond-elim (λ l. Among q l) (pending (x .writes) r) rs (recording rs (recordOf c (x .snapshot) r)) (λ e. m) (λ e. recording-keeps rs (recordOf c (x .snapshot) r) q m)
+  row-keeps rs r q m = cond-elim (λ l. Among q l) (pending (x .writes) r) rs (recording rs (recordOf c (x .snapshot) r)) (λ e. m)
+      (λ e. recording-keeps rs (recordOf c (x .snapshot) r) q m)
 
   pub recordAll-cases : (rs : List ReadRecord) (found : List ℕ) (q : ReadRecord) → Among q (recordAll c x rs found)
       → Among q rs ⊎ ((r : ℕ) × Among r found × (pending (x .writes) r ≡ false) × (q ≡ recordOf c (x .snapshot) r))

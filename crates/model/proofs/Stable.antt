@@ -33,11 +33,13 @@ unseen-other clock t n i j d l v r = ⊎-elim before after (old-or-new (t j .num
     after : t j .number < t i .number → seen (t j .snapshot) (t i .number) ≡ false
     after h = unseen-late (t j .snapshot) (t i .number) (omega (arith, n .snapped j v .xmax-is))
 
-module _ (x : Txn) (rs : List ℕ) (c c′ : Chains) (g : Chained c) (g′ : Chained c′) (gr : Grown x rs c c′) (v : Snapshot) (unseen : seen v (x .number) ≡ false) where
+module _ (x : Txn) (rs : List ℕ) (c c′ : Chains) (g : Chained c) (g′ : Chained c′) (gr : Grown x rs c c′) (v : Snapshot)
+    (unseen : seen v (x .number) ≡ false) where
   finds-grown : (p q : ℕ) → Finds c v p q → Finds c′ v p q
   finds-grown p q (nothing a b) = nothing a b
   finds-grown p q (here l u t f) = here {p = p} {q = q} l (omega (arith, gr .used-up)) (ap (seen v) (gr .xmin-old p u) ∙ t) f
-  finds-grown p q (down l u t m) = down {p = p} {q = q} l (omega (arith, gr .used-up)) (ap (seen v) (gr .xmin-old p u) ∙ t) (rw (gr .next-old p u) (finds-grown (c .next p) q m))
+  finds-grown p q (down l u t m) =
+      down {p = p} {q = q} l (omega (arith, gr .used-up)) (ap (seen v) (gr .xmin-old p u) ∙ t) (rw (gr .next-old p u) (finds-grown (c .next p) q m))
 
   pub version-grown : (r : ℕ) → versionOf c′ v r ≡ versionOf c v r
   version-grown r = finds-one c′ v (c′ .head r) _ _ (version-finds c′ v g′ r) (go (member r rs) refl)

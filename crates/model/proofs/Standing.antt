@@ -37,25 +37,30 @@ finished z clock before t room rs e =
     }
 
 -- the versions of a store last through a step, any steps and another step
-lasts-through : (s₁ : Store) (a b : Step) (between : List Step) → Good s₁ → let s₂ = run (step s₁ a .store) between in Lasts (s₁ .chains) (step s₂ b .store .chains)
+lasts-through : (s₁ : Store) (a b : Step) (between : List Step) → Good s₁ → let s₂ = run (step s₁ a .store) between in
+    Lasts (s₁ .chains) (step s₂ b .store .chains)
 lasts-through s₁ a b between g = lasts-step (s₁ .chains) _ b (lasts-on (s₁ .chains) _ (lasts-step (s₁ .chains) s₁ a (g, lasts-all (s₁ .chains))) between) .1
 
 -- what was shown keeps its key and its payload
-module _ (z : Sizes) (s₁ s₂ : Store) (t k : ℕ) (h : Lasts (s₁ .chains) (s₂ .chains)) (q : ReadRecord) (m : Among q (shows (s₁ .chains) (z .rows) (txnOf s₁ t .snapshot) k)) where
+module _ (z : Sizes) (s₁ s₂ : Store) (t k : ℕ) (h : Lasts (s₁ .chains) (s₂ .chains)) (q : ReadRecord)
+    (m : Among q (shows (s₁ .chains) (z .rows) (txnOf s₁ t .snapshot) k)) where
   kept-shown : KeptVersion (s₁ .chains) (s₂ .chains) (q .ptr)
   kept-shown = let w = shown-in (s₁ .chains) (z .rows) (txnOf s₁ t .snapshot) k q m in h (q .ptr) (w .0) (w .1)
 
   shown-keys : (s₁ .chains .key (q .ptr) ≡ some k) × (s₂ .chains .key (q .ptr) ≡ some k)
   shown-keys = let e = shown-in (s₁ .chains) (z .rows) (txnOf s₁ t .snapshot) k q m .2 in (e, kept-shown .same .key-stays ∙ e)
 
-stands : (z : Sizes) (s₁ s₂ : Store) (t k : ℕ) (rs : List ℕ) → Lasts (s₁ .chains) (s₂ .chains) → shows (s₂ .chains) (z .rows) (snapshotNow s₂) k ≡ shows (s₁ .chains) (z .rows) (txnOf s₁ t .snapshot) k
+stands : (z : Sizes) (s₁ s₂ : Store) (t k : ℕ) (rs : List ℕ) → Lasts (s₁ .chains) (s₂ .chains)
+    → shows (s₂ .chains) (z .rows) (snapshotNow s₂) k ≡ shows (s₁ .chains) (z .rows) (txnOf s₁ t .snapshot) k
     → map (λ (q : ReadRecord). q .row) (shows (s₁ .chains) (z .rows) (txnOf s₁ t .snapshot) k) ≡ rs → StandingRead z s₁ s₂ t k rs
-stands z s₁ s₂ t k rs h a b = record { shows-same = a; rows-are = b; keys-are = shown-keys z s₁ s₂ t k h; payloads-same = λ q m. kept-shown z s₁ s₂ t k h q m .same .payload-stays }
+stands z s₁ s₂ t k rs h a b =
+    record { shows-same = a; rows-are = b; keys-are = shown-keys z s₁ s₂ t k h; payloads-same = λ q m. kept-shown z s₁ s₂ t k h q m .same .payload-stays }
 
 pub validated : (z : Sizes) (clock : ℕ) (before : List Step) (t room k : ℕ) (rs : List ℕ) (between : List Step) →
     let s₁ = run (fresh z clock) before in
     let s₂ = run (step s₁ (rows t room) .store) between in
-    step s₁ (rows t room) .answer ≡ Rows rs → txnOf s₁ t .phase ≡ Collected k → txnOf s₁ t .writes ≡ [] → step s₂ (validate t) .answer ≡ Judged Clear → StandingRead z s₁ (step s₂ (validate t) .store) t k rs
+    step s₁ (rows t room) .answer ≡ Rows rs → txnOf s₁ t .phase ≡ Collected k → txnOf s₁ t .writes ≡ [] → step s₂ (validate t) .answer ≡ Judged Clear
+    → StandingRead z s₁ (step s₂ (validate t) .store) t k rs
 validated z clock before t room k rs between e p w v =
     let g = reached z clock before (rows t room) (ap refuses e) in
     let h = lasts-through (run (fresh z clock) before) (rows t room) (validate t) between g in
@@ -66,7 +71,8 @@ validated z clock before t room k rs between e p w v =
 pub prepared : (z : Sizes) (clock : ℕ) (before : List Step) (t room k : ℕ) (rs : List ℕ) (between : List Step) →
     let s₁ = run (fresh z clock) before in
     let s₂ = run (step s₁ (rows t room) .store) between in
-    step s₁ (rows t room) .answer ≡ Rows rs → txnOf s₁ t .phase ≡ Collected k → txnOf s₁ t .writes ≡ [] → step s₂ (prepare t) .answer ≡ Done → StandingRead z s₁ (step s₂ (prepare t) .store) t k rs
+    step s₁ (rows t room) .answer ≡ Rows rs → txnOf s₁ t .phase ≡ Collected k → txnOf s₁ t .writes ≡ [] → step s₂ (prepare t) .answer ≡ Done
+    → StandingRead z s₁ (step s₂ (prepare t) .store) t k rs
 prepared z clock before t room k rs between e p w v =
     let g = reached z clock before (rows t room) (ap refuses e) in
     let h = lasts-through (run (fresh z clock) before) (rows t room) (prepare t) between g in

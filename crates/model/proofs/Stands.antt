@@ -35,7 +35,8 @@ module _ (s : Store) (g : Good s) (i : ℕ) (l : Live (s .txns i)) (a : rank (s 
 
   pub stands : shows c (s .sizes .rows) (snapshotNow s) k ≡ shows c₁ (s .sizes .rows) v k
   unfolding shows
-  stands = map-pick (recordOf c (snapshotNow s)) (recordOf c₁ v) (λ r. sameKey (keyAt c (versionOf c (snapshotNow s) r)) (some k)) (λ r. sameKey (keyAt c₁ (versionOf c₁ v r)) (some k)) 0 (s .sizes .rows)
+  stands = map-pick (recordOf c (snapshotNow s)) (recordOf c₁ v) (λ r. sameKey (keyAt c (versionOf c (snapshotNow s) r)) (some k))
+      (λ r. sameKey (keyAt c₁ (versionOf c₁ v r)) (some k)) 0 (s .sizes .rows)
       (λ r lo hi. same-test _ _
       (λ t. key-same _ _ (sym (kept .same-key r) ∙ now-read s g i l a k [] relied clear untaken r (same-key _ _ t)))
       (λ t. let e = kept .same-key r ∙ same-key _ _ t in key-same _ _ (ap (keyAt c) (same-now r (omega arith) e) ∙ e)))

@@ -43,13 +43,16 @@ abbrev pub one : Bool → ℕ
 one b = cond b 1 0
 
 -- how many places a test picks
-picked-from : (test : Txn → Bool) (t : ℕ → Txn) (k n : ℕ) → length (pick (λ i. test (t i)) k n) + sum (λ x. one (test x)) t k ≡ sum (λ x. one (test x)) t (k + n)
+picked-from : (test : Txn → Bool) (t : ℕ → Txn) (k n : ℕ)
+    → length (pick (λ i. test (t i)) k n) + sum (λ x. one (test x)) t k ≡ sum (λ x. one (test x)) t (k + n)
 unfolding pick sum
 picked-from test t k zero = let e : k + 0 ≡ k = omega arith in rw e (omega arith)
 picked-from test t k (suc n) = let e : k + suc n ≡ suc k + n = omega arith in rw e (go (test (t k)) refl (picked-from test t (suc k) n))
   where
-    go : (b : Bool) → test (t k) ≡ b → length (pick (λ i. test (t i)) (suc k) n) + (sum (λ x. one (test x)) t k + one (test (t k))) ≡ sum (λ x. one (test x)) t (suc k + n)
-        → length (cond b (k ∷ pick (λ i. test (t i)) (suc k) n) (pick (λ i. test (t i)) (suc k) n)) + sum (λ x. one (test x)) t k ≡ sum (λ x. one (test x)) t (suc k + n)
+    go : (b : Bool) → test (t k) ≡ b → length (pick (λ i. test (t i)) (suc k) n) + (sum (λ x. one (test x)) t k + one (test (t k)))
+        ≡ sum (λ x. one (test x)) t (suc k + n)
+        → length (cond b (k ∷ pick (λ i. test (t i)) (suc k) n) (pick (λ i. test (t i)) (suc k) n)) + sum (λ x. one (test x)) t k
+        ≡ sum (λ x. one (test x)) t (suc k + n)
     go true e h = omega (arith, h, ap one e)
     go false e h = omega (arith, h, ap one e)
 

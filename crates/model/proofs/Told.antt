@@ -1,4 +1,5 @@
--- A live transaction that does not see a change of key is told of it: the maker is still live, or both keys' buckets are stamped above the transaction's number. Assumes nothing.
+-- A live transaction that does not see a change of key is told of it: the maker is still live, or both keys' buckets are stamped above the transaction's
+-- number. Assumes nothing.
 use mathlib.Core.Path.{_≡_, refl, sym, ap, _∙_}
 use mathlib.Core.Bool.{Bool, true, false, cond, not, true≢false}
 use mathlib.Core.Logic.{_≢_, _⊎_, inl, inr, ⊎-elim}
@@ -12,11 +13,13 @@ use borrow.Author.Tests.{ltb-true, lt-ltb, not-true}
 use Rattle.base_lists.specs.Lists.{member, Among}
 use Rattle.base_lists.specs.Table.{update, update-elim, update-same, update-other, updateAll-elim}
 use Rattle.base_lists.proofs.ListLaws.{and-l, and-r, is-false, member-among, among-member, not-member, among-left, among-right, which-join}
-use Rattle.model.specs.Store.{Sizes, Chains, Snapshot, Installed, Txn, Store, noTxn, fresh, rank, phasePrepared, phaseInstalled, phaseEnded, sameKey, bucketOf}
+use Rattle.model.specs.Store.{Sizes, Chains, Snapshot, Installed, Txn, Store, noTxn, fresh, rank, phasePrepared, phaseInstalled, phaseEnded, sameKey}
+use Rattle.model.specs.Store.{bucketOf}
 use Rattle.model.specs.Seeing.{seen, keyAt, Live}
 use Rattle.model.specs.Steps.{withPhase, newTxn, begun, keyBefore, newKey, keyBuckets, changedBuckets, installed, published, versionRows, madeRows}
 use Rattle.model.specs.Holding.{Made}
-use Rattle.model.proofs.Move.{Move, stay, did-begin, did-mark, did-capture, did-collect, did-rows, did-write, did-prepare, did-install, did-end, did-publish, did-abort}
+use Rattle.model.proofs.Move.{Move, stay, did-begin, did-mark, did-capture, did-collect, did-rows, did-write, did-prepare, did-install, did-end}
+use Rattle.model.proofs.Move.{did-publish, did-abort}
 use Rattle.model.proofs.Chained.{Chained}
 use Rattle.model.proofs.Numbers.{Numbers, BelowAt, Kept, kept-free, active-which}
 use Rattle.model.proofs.SeeingLaws.{same-key, key-same, key-bucket}
@@ -74,7 +77,8 @@ told-frame : (z : Sizes) (c : Chains) (stamp stamp′ : ℕ → ℕ) (t t′ : �
     → Told z c stamp t → Told z c stamp′ t′
 told-frame z c stamp stamp′ t t′ kp up fate g q j u l e = go (g q j u (omega (arith, kp .number j l)) (rw (kp .snapshot j l) at e))
   where
-    fated : (m : ℕ) → c .xmin q ≡ t m .number → Live (t′ m) ⊎ ((j k : ℕ) → Carries c q k → t j .number < stamp′ (bucketOf z k)) → Learns z c stamp′ t′ q (t′ j .number)
+    fated : (m : ℕ) → c .xmin q ≡ t m .number → Live (t′ m) ⊎ ((j k : ℕ) → Carries c q k → t j .number < stamp′ (bucketOf z k))
+        → Learns z c stamp′ t′ q (t′ j .number)
     fated m f (inl v) = inl (m, v, f ∙ sym (kp .number m v))
     fated m f (inr h) = inr (λ k w. omega (arith, h j k w, kp .number j l))
 
@@ -83,21 +87,29 @@ told-frame z c stamp stamp′ t t′ kp up fate g q j u l e = go (g q j u (omega
     go (inr h) = inr (λ k w. omega (arith, h k w, kp .number j l, up (bucketOf z k)))
 
 -- the buckets that publish stamps
-changed-has : (s : Store) (x : Txn) (r k : ℕ) → Made (s .sizes) (s .chains) x r → sameKey (keyBefore (s .chains) r) (newKey x r) ≡ false → (keyBefore (s .chains) r ≡ some k) ⊎ (newKey x r ≡ some k) → Among (bucketOf (s .sizes) k) (changedBuckets s x)
+changed-has : (s : Store) (x : Txn) (r k : ℕ) → Made (s .sizes) (s .chains) x r → sameKey (keyBefore (s .chains) r) (newKey x r) ≡ false
+    → (keyBefore (s .chains) r ≡ some k) ⊎ (newKey x r ≡ some k) → Among (bucketOf (s .sizes) k) (changedBuckets s x)
 unfolding changedBuckets
-changed-has s x r k w d h = which-join (λ q. cond (sameKey (keyBefore (s .chains) q) (newKey x q)) [] (keyBuckets (s .sizes) (keyBefore (s .chains) q) ++ keyBuckets (s .sizes) (newKey x q))) (madeRows (s .sizes) (s .chains) (x .number) (x .writes)) (bucketOf (s .sizes) k) r w
-    (rw d (⊎-elim (λ e. among-left _ (keyBuckets (s .sizes) (keyBefore (s .chains) r)) _ (key-bucket (s .sizes) _ k e)) (λ e. among-right _ (keyBuckets (s .sizes) (keyBefore (s .chains) r)) _ (key-bucket (s .sizes) _ k e)) h))
+changed-has s x r k w d h =
+    which-join (λ q. cond (sameKey (keyBefore (s .chains) q) (newKey x q)) []
+    (keyBuckets (s .sizes) (keyBefore (s .chains) q) ++ keyBuckets (s .sizes) (newKey x q))) (madeRows (s .sizes) (s .chains) (x .number) (x .writes))
+    (bucketOf (s .sizes) k) r w
+    (rw d (⊎-elim (λ e. among-left _ (keyBuckets (s .sizes) (keyBefore (s .chains) r)) _ (key-bucket (s .sizes) _ k e))
+    (λ e. among-right _ (keyBuckets (s .sizes) (keyBefore (s .chains) r)) _ (key-bucket (s .sizes) _ k e)) h))
 
 module _ (s : Store) (i : ℕ) (g : ToldAt s) where
   -- one place goes on under its number, with its snapshot
   told-on : (x : Txn) → x .number ≡ s .txns i .number → x .snapshot ≡ s .txns i .snapshot → Told (s .sizes) (s .chains) (s .index .stamp) (update (s .txns) i x)
-  told-on x e v q j u = update-elim (λ y. Live y → seen (y .snapshot) (s .chains .xmin q) ≡ false → Learns (s .sizes) (s .chains) (s .index .stamp) (update (s .txns) i x) q (y .number)) (s .txns) i x j
+  told-on x e v q j u = update-elim (λ y. Live y → seen (y .snapshot) (s .chains .xmin q) ≡ false
+      → Learns (s .sizes) (s .chains) (s .index .stamp) (update (s .txns) i x) q (y .number)) (s .txns) i x j
       (λ d l f. go x e (g q i u (omega arith) (rw v at f)))
       (λ d l f. go (s .txns j) refl (g q j u l f))
     where
-      go : {m : ℕ} (y : Txn) → y .number ≡ m → Learns (s .sizes) (s .chains) (s .index .stamp) (s .txns) q m → Learns (s .sizes) (s .chains) (s .index .stamp) (update (s .txns) i x) q (y .number)
+      go : {m : ℕ} (y : Txn) → y .number ≡ m → Learns (s .sizes) (s .chains) (s .index .stamp) (s .txns) q m
+          → Learns (s .sizes) (s .chains) (s .index .stamp) (update (s .txns) i x) q (y .number)
       go y f (inl o) =
-          let w = update-elim (λ w. Live w × (s .chains .xmin q ≡ w .number)) (s .txns) i x (o .0) (λ d. (omega (arith, rw d at (o .1)), (rw d at (o .2)) ∙ sym e)) (λ d. (o .1, o .2)) in
+          let w = update-elim (λ w. Live w × (s .chains .xmin q ≡ w .number)) (s .txns) i x (o .0)
+          (λ d. (omega (arith, rw d at (o .1)), (rw d at (o .2)) ∙ sym e)) (λ d. (o .1, o .2)) in
           inl (o .0, w .0, w .1)
       go y f (inr h) = inr (λ k w. omega (arith, h k w))
 
@@ -120,21 +132,27 @@ module _ (s : Store) (i : ℕ) (g : ToldAt s) where
 
   told-publish : Numbers (s .clock) (s .txns) → BelowAt s → WrittenAt s → Live (s .txns i) → rank (s .txns i .phase) ≡ phaseEnded → ToldAt (published s i)
   told-publish n b w l a = told-frame (s .sizes) (s .chains) (s .index .stamp) (published s i .index .stamp) (s .txns) _ (kept-free (s .txns) i)
-      (λ c. updateAll-elim (λ v. s .index .stamp c ≤ v) (s .index .stamp) (changedBuckets s (s .txns i)) _ c (λ m. omega (arith, b .stamp-below c)) (λ m. omega arith))
+      (λ c. updateAll-elim (λ v. s .index .stamp c ≤ v) (s .index .stamp) (changedBuckets s (s .txns i)) _ c (λ m. omega (arith, b .stamp-below c))
+      (λ m. omega arith))
       (λ q m u v f. fate q m u v f (ℕ-discrete m i)) g
     where
-      fate : (q m : ℕ) → Turn (s .chains) q → Live (s .txns m) → s .chains .xmin q ≡ s .txns m .number → Dec (m ≡ i) → Live (published s i .txns m) ⊎ ((j k : ℕ) → Carries (s .chains) q k → s .txns j .number < published s i .index .stamp (bucketOf (s .sizes) k))
-      fate q m u v f (yes d) = inr (λ j k h. updateAll-elim (λ o. s .txns j .number < o) (s .index .stamp) (changedBuckets s (s .txns i)) _ (bucketOf (s .sizes) k)
+      fate : (q m : ℕ) → Turn (s .chains) q → Live (s .txns m) → s .chains .xmin q ≡ s .txns m .number → Dec (m ≡ i)
+          → Live (published s i .txns m) ⊎ ((j k : ℕ) → Carries (s .chains) q k → s .txns j .number < published s i .index .stamp (bucketOf (s .sizes) k))
+      fate q m u v f (yes d) =
+          inr (λ j k h. updateAll-elim (λ o. s .txns j .number < o) (s .index .stamp) (changedBuckets s (s .txns i)) _ (bucketOf (s .sizes) k)
           (λ y. n .below j)
           (λ y. absurd (true≢false (sym (among-member _ _ (turn-stamped w l a q k u (rw d at f) h)) ∙ y))))
       fate q m u v f (no d) = inl (rw (update-other (s .txns) i noTxn m d) v)
 
   told-begin : Numbers (s .clock) (s .txns) → BelowAt s → s .txns i .number ≡ 0 → Told (s .sizes) (s .chains) (s .index .stamp) (begun s i .txns)
-  told-begin n b z q j u = update-elim (λ y. Live y → seen (y .snapshot) (s .chains .xmin q) ≡ false → Learns (s .sizes) (s .chains) (s .index .stamp) (begun s i .txns) q (y .number)) (s .txns) i (newTxn s) j
+  told-begin n b z q j u =
+      update-elim (λ y. Live y → seen (y .snapshot) (s .chains .xmin q) ≡ false
+      → Learns (s .sizes) (s .chains) (s .index .stamp) (begun s i .txns) q (y .number)) (s .txns) i (newTxn s) j
       (λ d l e. let w = active-which (s .txns) _ (unseen-which (newTxn s .snapshot) _ e (omega (arith, b .xmin-below q))) in inl (other (w .0) (w .2) (w .4)))
       (λ d l e. ⊎-elim (λ o. inl (other (o .0) (o .1) (o .2))) inr (g q j u l e))
     where
-      other : (m : ℕ) → Live (s .txns m) → s .chains .xmin q ≡ s .txns m .number → (k : ℕ) × Live (begun s i .txns k) × (s .chains .xmin q ≡ begun s i .txns k .number)
+      other : (m : ℕ) → Live (s .txns m) → s .chains .xmin q ≡ s .txns m .number
+          → (k : ℕ) × Live (begun s i .txns k) × (s .chains .xmin q ≡ begun s i .txns k .number)
       other m l f =
           let d : m ≢ i = λ e. omega (arith, rw e at l) in
           (m, rw (update-other (s .txns) i (newTxn s) m d) l, rw (update-other (s .txns) i (newTxn s) m d) f)
@@ -149,7 +167,8 @@ module _ (s : Store) (i : ℕ) (g : ToldAt s) where
       on = told-on (withPhase (s .txns i) Installed) refl refl
 
       key-under : q ≤ s .chains .used → keyAt (installed s i .chains) (installed s i .chains .next q) ≡ keyAt (s .chains) (s .chains .next q)
-      key-under o = ap (keyAt (installed s i .chains)) (gr .next-old q o) ∙ keyAt-grown _ _ _ _ gr (s .chains .next q) (omega (arith, ch .next-falls q (u .from) o))
+      key-under o = ap (keyAt (installed s i .chains)) (gr .next-old q o)
+          ∙ keyAt-grown _ _ _ _ gr (s .chains .next q) (omega (arith, ch .next-falls q (u .from) o))
 
       key-here : q ≤ s .chains .used → keyAt (installed s i .chains) q ≡ keyAt (s .chains) q
       key-here o = keyAt-grown _ _ _ _ gr q o

@@ -34,30 +34,38 @@ use Rattle.model.proofs.Outcomes.{refused-store, done-does, free-place}
 use Rattle.model.proofs.Snapshots.{Traced, start, own, other, RowTraced, whole, waiting, TracedAt}
 
 -- events of other rows are passed over
-added-other : (s : Store) (x : Txn) (c : Chains) (rs : List ℕ) (older : List Event) (r p : ℕ) → (Among r rs → ⊥) → Traced c r older p → Traced c r (addEvents s x rs older) p
+added-other : (s : Store) (x : Txn) (c : Chains) (rs : List ℕ) (older : List Event) (r p : ℕ) → (Among r rs → ⊥) → Traced c r older p
+    → Traced c r (addEvents s x rs older) p
 unfolding addEvents
 added-other s x c [] older r p no-row d = d
 added-other s x c (q ∷ rs) older r p no-row d = added-other s x c rs (eventOf s x q ∷ older) r p (λ m. no-row (inr m)) (other (λ e. no-row (inl (sym e))) d)
 
 -- the row's own event is told of its head
-added-own : (s : Store) (x : Txn) (k : ℕ) (rs : List ℕ) (older : List Event) (r : ℕ) → Rising k rs → Among r rs → Chained (s .chains) → Mine (s .chains) (s .index .posted) x r
+added-own : (s : Store) (x : Txn) (k : ℕ) (rs : List ℕ) (older : List Event) (r : ℕ) → Rising k rs → Among r rs → Chained (s .chains)
+    → Mine (s .chains) (s .index .posted) x r
     → Traced (s .chains) r older (s .chains .next (s .chains .head r)) → Traced (s .chains) r (addEvents s x rs older) (s .chains .head r)
 unfolding addEvents
-added-own s x k (q ∷ rs) older r o (inl e) ch m d = added-other s x (s .chains) rs (eventOf s x q ∷ older) r (s .chains .head r) (λ n. omega (arith, rising-above (suc q) rs (o .1) r n))
-    (own (sym e) (m .head-pos) (ch .heads-in r) (m .xmin-is) (sym (keyAt-key (s .chains) (s .chains .head r) (λ z. omega (arith, m .head-pos))) ∙ (m .key-is ∙ ap (newKey x) e)) d)
-added-own s x k (q ∷ rs) older r o (inr n) ch m d = added-own s x (suc q) rs (eventOf s x q ∷ older) r (o .1) n ch m (other (λ e. omega (arith, rising-above (suc q) rs (o .1) r n)) d)
+added-own s x k (q ∷ rs) older r o (inl e) ch m d =
+    added-other s x (s .chains) rs (eventOf s x q ∷ older) r (s .chains .head r) (λ n. omega (arith, rising-above (suc q) rs (o .1) r n))
+    (own (sym e) (m .head-pos) (ch .heads-in r) (m .xmin-is) (sym (keyAt-key (s .chains) (s .chains .head r) (λ z. omega (arith, m .head-pos)))
+    ∙ (m .key-is ∙ ap (newKey x) e)) d)
+added-own s x k (q ∷ rs) older r o (inr n) ch m d =
+    added-own s x (suc q) rs (eventOf s x q ∷ older) r (o .1) n ch m (other (λ e. omega (arith, rising-above (suc q) rs (o .1) r n)) d)
 
 -- an install keeps the versions that were there
-traced-grown : (x : Txn) (rs : List ℕ) (c c′ : Chains) → Grown x rs c c′ → Chained c → (r : ℕ) (es : List Event) (p : ℕ) → Traced c r es p → p ≤ c .used → Traced c′ r es p
+traced-grown : (x : Txn) (rs : List ℕ) (c c′ : Chains) → Grown x rs c c′ → Chained c → (r : ℕ) (es : List Event) (p : ℕ) → Traced c r es p → p ≤ c .used
+    → Traced c′ r es p
 traced-grown x rs c c′ gr ch r [] p (start e) u = start e
 traced-grown x rs c c′ gr ch r (e ∷ older) p (own d l v m k n) u =
-    let deeper : Traced c′ r older (c′ .next p) = rw (gr .next-old p u) (traced-grown x rs c c′ gr ch r older (c .next p) n (omega (arith, ch .next-falls p l u))) in
+    let deeper : Traced c′ r older (c′ .next p) =
+    rw (gr .next-old p u) (traced-grown x rs c c′ gr ch r older (c .next p) n (omega (arith, ch .next-falls p l u))) in
     own d l (omega (arith, gr .used-up)) (gr .xmin-old p u ∙ m) (gr .key-old p u ∙ k) deeper
 traced-grown x rs c c′ gr ch r (e ∷ older) p (other d n) u = other d (traced-grown x rs c c′ gr ch r older p n u)
 
 module _ (z : Sizes) (c : Chains) (t : ℕ → Txn) (es : List Event) (r : ℕ) where
   -- who has installed and not published stays the same
-  row-kept : (t′ : ℕ → Txn) → ((j : ℕ) → Unpublished z c (t′ j) r → Unpublished z c (t j) r) → ((j : ℕ) → Unpublished z c (t j) r → Unpublished z c (t′ j) r) → RowTraced z c t es r → RowTraced z c t′ es r
+  row-kept : (t′ : ℕ → Txn) → ((j : ℕ) → Unpublished z c (t′ j) r → Unpublished z c (t j) r)
+      → ((j : ℕ) → Unpublished z c (t j) r → Unpublished z c (t′ j) r) → RowTraced z c t es r → RowTraced z c t′ es r
   row-kept t′ back on (whole no-one d) = whole (λ j u. no-one j (back j u)) d
   row-kept t′ back on (waiting j u d) = waiting j (on j u) d
 
@@ -72,7 +80,8 @@ module _ (z : Sizes) (c : Chains) (t : ℕ → Txn) (es : List Event) (r : ℕ) 
   row-on : (i : ℕ) (x : Txn) → x .number ≡ t i .number → x .writes ≡ t i .writes → (phaseInstalled ≤ rank (x .phase) → phaseInstalled ≤ rank (t i .phase))
       → (phaseInstalled ≤ rank (t i .phase) → phaseInstalled ≤ rank (x .phase)) → RowTraced z c t es r → RowTraced z c (update t i x) es r
   row-on i x n w a b = row-kept (update t i x)
-      (λ j. update-elim (λ y. Unpublished z c y r → Unpublished z c (t j) r) t i x j (λ e u. rw e (omega (arith, u .0), a (u .1), rw (n, w) at (u .2))) (λ d u. u))
+      (λ j. update-elim (λ y. Unpublished z c y r → Unpublished z c (t j) r) t i x j (λ e u. rw e (omega (arith, u .0), a (u .1), rw (n, w) at (u .2)))
+      (λ d u. u))
       (λ j. elim (ℕ-discrete j i) [ yes e ↦ λ u. rw (e, update-same) (same (rw e at u)) | no d ↦ λ u. rw (update-other t i x j d) u ])
     where
       same : Unpublished z c (t i) r → Unpublished z c x r
@@ -90,8 +99,11 @@ module _ (s : Store) (es : List Event) (g : Good s) (h : TracedAt s es) (i : ℕ
       gr : Grown (s .txns i) (versionRows (s .sizes) (s .chains) (s .txns i .writes)) (s .chains) (installed s i .chains)
       gr = installs s i (g .chained)
 
-      new : Gets (s .sizes) (s .chains) (s .txns i) r → RowTraced (s .sizes) (s .chains) (s .txns) es r → RowTraced (s .sizes) (installed s i .chains) (installed s i .txns) es r
-      new w (whole no-one d) = let m = made-new s i (g .chained) r w in waiting i (rw update-same (l, omega arith, m)) (rw (gr .head-new r w .next-is) (traced-grown _ _ _ _ gr (g .chained) r es (s .chains .head r) d (g .chained .heads-in r)))
+      new : Gets (s .sizes) (s .chains) (s .txns i) r → RowTraced (s .sizes) (s .chains) (s .txns) es r
+          → RowTraced (s .sizes) (installed s i .chains) (installed s i .txns) es r
+      new w (whole no-one d) = let m = made-new s i (g .chained) r w in
+          waiting i (rw update-same (l, omega arith, m))
+          (rw (gr .head-new r w .next-is) (traced-grown _ _ _ _ gr (g .chained) r es (s .chains .head r) d (g .chained .heads-in r)))
       new w (waiting j u d) = absurd (omega (arith, rw (only-claim (omega arith) r (gets-writes (s .sizes) (s .chains) (s .txns i) r w) j u) at (u .1)))
 
       -- who heads the row now headed it before
@@ -101,7 +113,8 @@ module _ (s : Store) (es : List Event) (g : Good s) (h : TracedAt s es) (i : ℕ
       after : (Gets (s .sizes) (s .chains) (s .txns i) r → ⊥) → (y : Txn) → Made (s .sizes) (s .chains) y r → Made (s .sizes) (installed s i .chains) y r
       after n y m = made-still s i (g .chained) r n y m
 
-      old : (Gets (s .sizes) (s .chains) (s .txns i) r → ⊥) → RowTraced (s .sizes) (s .chains) (s .txns) es r → RowTraced (s .sizes) (installed s i .chains) (installed s i .txns) es r
+      old : (Gets (s .sizes) (s .chains) (s .txns i) r → ⊥) → RowTraced (s .sizes) (s .chains) (s .txns) es r
+          → RowTraced (s .sizes) (installed s i .chains) (installed s i .txns) es r
       old n (whole no-one d) = whole
           (λ j. update-elim (λ y. Unpublished (s .sizes) (installed s i .chains) y r → ⊥) (s .txns) i (withPhase (s .txns i) Installed) j
           (λ e u. mine-early (before n (s .txns i) (u .2)))
@@ -109,14 +122,23 @@ module _ (s : Store) (es : List Event) (g : Good s) (h : TracedAt s es) (i : ℕ
           (rw (gr .head-old r n) (traced-grown _ _ _ _ gr (g .chained) r es (s .chains .head r) d (g .chained .heads-in r)))
         where
           mine-early : Made (s .sizes) (s .chains) (s .txns i) r → ⊥
-          mine-early m = let p = made-head (s .sizes) (s .chains) (s .txns i) r m in omega (arith, g .written .made (s .chains .head r) i (p .0) (g .chained .heads-in r) l (p .1) .0)
+          mine-early m = let p = made-head (s .sizes) (s .chains) (s .txns i) r m in
+              omega (arith, g .written .made (s .chains .head r) i (p .0) (g .chained .heads-in r) l (p .1) .0)
       old n (waiting j u d) =
           let ne : j ≢ i = λ e. omega (arith, rw e at (u .1)) in
           let m = after n (s .txns j) (u .2) in
           waiting j (rw (update-other (s .txns) i (withPhase (s .txns i) Installed) j ne) (u .0, u .1, m))
-          (rw (gr .head-old r n, gr .next-old (s .chains .head r) (g .chained .heads-in r)) (traced-grown _ _ _ _ gr (g .chained) r es (s .chains .next (s .chains .head r)) d (omega (arith, g .chained .heads-in r, g .chained .next-falls (s .chains .head r) (g .written .mine j r (u .0) (u .1) (u .2) .head-pos) (g .chained .heads-in r)))))
+          (rw (gr .head-old r n, gr .next-old (s .chains .head r) (g .chained .heads-in r))
+          (traced-grown _ _ _ _ gr (g .chained) r es (s .chains .next (s .chains .head r)) d
+          (omega (
+            arith,
+            g .chained .heads-in r,
+            g .chained .next-falls (s .chains .head r) (g .written .mine j r (u .0) (u .1) (u .2) .head-pos)
+                (g .chained .heads-in r),
+          ))))
 
-      go : (b : Bool) → member r (versionRows (s .sizes) (s .chains) (s .txns i .writes)) ≡ b → RowTraced (s .sizes) (installed s i .chains) (installed s i .txns) es r
+      go : (b : Bool) → member r (versionRows (s .sizes) (s .chains) (s .txns i .writes)) ≡ b
+          → RowTraced (s .sizes) (installed s i .chains) (installed s i .txns) es r
       go true e = new (member-among r _ e) (h r)
       go false e = old (λ m. true≢false (sym (among-member r _ m) ∙ e)) (h r)
 
@@ -128,17 +150,21 @@ module _ (s : Store) (es : List Event) (g : Good s) (h : TracedAt s es) (i : ℕ
       rs : List ℕ
       rs = madeRows (s .sizes) (s .chains) (s .txns i .number) (s .txns i .writes)
 
-      mine : Made (s .sizes) (s .chains) (s .txns i) r → RowTraced (s .sizes) (s .chains) (s .txns) es r → RowTraced (s .sizes) (s .chains) (published s i .txns) (addEvents s (s .txns i) rs es) r
+      mine : Made (s .sizes) (s .chains) (s .txns i) r → RowTraced (s .sizes) (s .chains) (s .txns) es r
+          → RowTraced (s .sizes) (s .chains) (published s i .txns) (addEvents s (s .txns i) rs es) r
       mine w (whole no-one d) = absurd (no-one i (l, omega arith, w))
       mine w (waiting j u d) = whole
-          (λ k. update-elim (λ y. Unpublished (s .sizes) (s .chains) y r → ⊥) (s .txns) i noTxn k (λ e v. omega (arith, v .1)) (λ e v. e (only-claim (omega arith) r (made-writes (s .sizes) (s .chains) (s .txns i) r w) k v)))
+          (λ k. update-elim (λ y. Unpublished (s .sizes) (s .chains) y r → ⊥) (s .txns) i noTxn k (λ e v. omega (arith, v .1))
+          (λ e v. e (only-claim (omega arith) r (made-writes (s .sizes) (s .chains) (s .txns i) r w) k v)))
           (added-own s (s .txns i) 0 rs es r (pick-rising _ 0 (s .sizes .rows)) w (g .chained) (g .written .mine i r l (omega arith) w) d)
 
-      others : (Made (s .sizes) (s .chains) (s .txns i) r → ⊥) → RowTraced (s .sizes) (s .chains) (s .txns) es r → RowTraced (s .sizes) (s .chains) (published s i .txns) (addEvents s (s .txns i) rs es) r
+      others : (Made (s .sizes) (s .chains) (s .txns i) r → ⊥) → RowTraced (s .sizes) (s .chains) (s .txns) es r
+          → RowTraced (s .sizes) (s .chains) (published s i .txns) (addEvents s (s .txns i) rs es) r
       others n (whole no-one d) = whole
           (λ k. update-elim (λ y. Unpublished (s .sizes) (s .chains) y r → ⊥) (s .txns) i noTxn k (λ e v. omega (arith, v .1)) (λ e v. no-one k v))
           (added-other s (s .txns i) (s .chains) rs es r _ n d)
-      others n (waiting j u d) = waiting j (rw (update-other (s .txns) i noTxn j (λ e. n (rw e at (u .2)))) u) (added-other s (s .txns i) (s .chains) rs es r _ n d)
+      others n (waiting j u d) =
+          waiting j (rw (update-other (s .txns) i noTxn j (λ e. n (rw e at (u .2)))) u) (added-other s (s .txns i) (s .chains) rs es r _ n d)
 
       go : (b : Bool) → member r rs ≡ b → RowTraced (s .sizes) (s .chains) (published s i .txns) (addEvents s (s .txns i) rs es) r
       go true e = mine (member-among r _ e) (h r)
@@ -148,7 +174,8 @@ module _ (s : Store) (es : List Event) (g : Good s) (h : TracedAt s es) (i : ℕ
 no-event : (s : Store) (a : Step) (es : List Event) → TracedAt s es → (number s a ≡ 0 → TracedAt (accepted s a .store) es) → TracedAt (step s a .store) es
 no-event s a es h done = elim (ℕ-discrete (number s a) 0) [
   | yes z ↦ rw (done-does s a z) (done z)
-  | no d ↦ ⊎-elim (λ e. rw e h) (λ e. rw e (λ r. row-on (s .sizes) (s .chains) (s .txns) es r (at s (actor a)) _ refl refl (λ v. v) (λ v. v) (h r))) (refused-store s a d)
+  | no d ↦ ⊎-elim (λ e. rw e h) (λ e. rw e (λ r. row-on (s .sizes) (s .chains) (s .txns) es r (at s (actor a)) _ refl refl (λ v. v) (λ v. v) (h r)))
+      (refused-store s a d)
 ]
 
 -- one who is ready is live
@@ -160,7 +187,8 @@ module _ (s : Store) (es : List Event) (g : Good s) (h : TracedAt s es) where
       → RowTraced (s .sizes) (s .chains) (update (s .txns) i x) es r
   early i x a b r = row-early (s .sizes) (s .chains) (s .txns) es r i x a b (h r)
 
-  published-or-not : (t : ℕ) (b : Bool) → eqb (number s (publish t)) 0 ≡ b → TracedAt (step s (publish t) .store) (cond b (addEvents s (txnOf s t) (madeRows (s .sizes) (s .chains) (txnOf s t .number) (txnOf s t .writes)) es) es)
+  published-or-not : (t : ℕ) (b : Bool) → eqb (number s (publish t)) 0 ≡ b
+      → TracedAt (step s (publish t) .store) (cond b (addEvents s (txnOf s t) (madeRows (s .sizes) (s .chains) (txnOf s t .number) (txnOf s t .writes)) es) es)
   unfolding accepted
   published-or-not t true e =
       let z = eqb-true _ _ e in
@@ -177,8 +205,10 @@ module _ (s : Store) (es : List Event) (g : Good s) (h : TracedAt s es) where
   traced-step (write t r c) = no-event s (write t r c) es h
       (λ z. early (at s t) _ (λ l. omega (arith, write-0 s t r c .0 z .0 .2)) (omega (arith, write-0 s t r c .0 z .0 .2)))
   traced-step (prepare t) = no-event s (prepare t) es h (λ z. early (at s t) _ (λ l. omega (arith, prepare-0 s t .0 z .0 .2)) (omega arith))
-  traced-step (install t) = no-event s (install t) es h (λ z. let w = install-0 s t .0 z in traced-install s es g h (at s t) (ready-live s (install t) w) (w .2))
-  traced-step (end t) = no-event s (end t) es h (λ z r. row-on (s .sizes) (s .chains) (s .txns) es r (at s t) _ refl refl (λ v. omega (arith, end-0 s t .0 z .2)) (λ v. omega arith) (h r))
+  traced-step (install t) =
+      no-event s (install t) es h (λ z. let w = install-0 s t .0 z in traced-install s es g h (at s t) (ready-live s (install t) w) (w .2))
+  traced-step (end t) = no-event s (end t) es h
+      (λ z r. row-on (s .sizes) (s .chains) (s .txns) es r (at s t) _ refl refl (λ v. omega (arith, end-0 s t .0 z .2)) (λ v. omega arith) (h r))
   traced-step (publish t) = published-or-not t (eqb (number s (publish t)) 0) refl
   traced-step (validate t) = no-event s (validate t) es h (λ z. h)
   traced-step (abort t) = no-event s (abort t) es h (λ z. early (at s t) _ (λ l. abort-0 s t .0 z .2) (omega arith))
@@ -188,6 +218,7 @@ unfolding run historyOver
 traced-run s es [] g h = h
 traced-run s es (a ∷ more) g h = traced-run (step s a .store) (stepEvents s a es) more (good-run s g (a ∷ [])) (traced-step s es g h a)
 
-pub traced-opened : (z : Sizes) (clock : ℕ) (before : List Step) → canOpen z clock ≡ true → clock ≤ lastNumber → TracedAt (run (fresh z clock) before) (history (fresh z clock) before)
+pub traced-opened : (z : Sizes) (clock : ℕ) (before : List Step) → canOpen z clock ≡ true → clock ≤ lastNumber
+    → TracedAt (run (fresh z clock) before) (history (fresh z clock) before)
 unfolding run
 traced-opened z clock before e l = traced-run (fresh z clock) [] before (opened-good z clock [] e l) (λ r. whole (λ j u. omega (arith, u .0)) (start refl))

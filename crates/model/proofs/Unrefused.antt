@@ -26,7 +26,8 @@ pub is-accepted : (s : Store) (a : Step) → refuses (step s a .answer) ≡ fals
 unfolding step stepIn carried
 is-accepted s a = go (rightShape s) refl (refusal (checks s a)) refl
   where
-    go : (b : Bool) → rightShape s ≡ b → (o : Option Refusal) → refusal (checks s a) ≡ o → refuses (cond b (carried s a o) (gives s (Refused WrongShape)) .answer) ≡ false → Accepted s a
+    go : (b : Bool) → rightShape s ≡ b → (o : Option Refusal) → refusal (checks s a) ≡ o
+        → refuses (cond b (carried s a o) (gives s (Refused WrongShape)) .answer) ≡ false → Accepted s a
     go true p none q = λ e. record { shape = p; tests = q; does = rw (p, q) }
     go true p (some r) q = λ e. absurd (true≢false e)
     go false p o q = λ e. absurd (true≢false e)
@@ -45,7 +46,8 @@ open-shape z clock e =
     let c : leb (clock + liveCount (fresh z clock .txns)) lastNumber ≡ true = search (and-l, and-r) depth 8 in
     good-fresh z clock a (leb-true 1 clock b) (omega (arith, leb-true (clock + liveCount (fresh z clock .txns)) lastNumber c))
 
-pub reached : (z : Sizes) (clock : ℕ) (before : List Step) (a : Step) → refuses (step (run (fresh z clock) before) a .answer) ≡ false → Good (run (fresh z clock) before)
+pub reached : (z : Sizes) (clock : ℕ) (before : List Step) (a : Step) → refuses (step (run (fresh z clock) before) a .answer) ≡ false
+    → Good (run (fresh z clock) before)
 reached z clock before a e = go (rightShape (fresh z clock)) refl
   where
     go : (b : Bool) → rightShape (fresh z clock) ≡ b → Good (run (fresh z clock) before)

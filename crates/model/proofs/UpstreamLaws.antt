@@ -13,10 +13,12 @@ use borrow.Author.Tests.{eqb-true, eq-eqb, ne-eqb, ltb-true, ltb-false, leb-true
 use Rattle.base_lists.specs.Lists.{member}
 use Rattle.base_lists.proofs.ListLaws.{and-l, and-r, or-right, or-cases, same-test, least-own, least-each}
 use Rattle.model.specs.Store.{Chains, Index, IndexRead, Snapshot, Write, ReadRecord, Txn, Store, sameKey}
-use Rattle.model.specs.Seeing.{seen, visible, known, walk, firstVisible, versionOf, keyAt, lastWriteFrom, lastWrite, pending, writtenKey, shownKey, matches, Live}
+use Rattle.model.specs.Seeing.{seen, visible, known, walk, firstVisible, versionOf, keyAt, lastWriteFrom, lastWrite, pending, writtenKey, shownKey}
+use Rattle.model.specs.Seeing.{matches, Live}
 use Rattle.model.specs.Verdict.{badRead, badRecord}
 use Rattle.model.specs.Steps.{recorded, recording}
-use Rattle.model.specs.Upstream.{creatorVisible, rowVisible, firstRow, lastOf, keyOf, selected, holdsKey, matchesRow, recordingOf, readConflict, readGood, pointer}
+use Rattle.model.specs.Upstream.{creatorVisible, rowVisible, firstRow, lastOf, keyOf, selected, holdsKey, matchesRow, recordingOf, readConflict, readGood}
+use Rattle.model.specs.Upstream.{pointer}
 use Rattle.model.proofs.Numbers.{Snapped}
 use Rattle.model.proofs.SeeingLaws.{keyAt-zero, keyAt-key}
 use Rattle.model.proofs.Told.{which-seen}
@@ -63,7 +65,8 @@ module _ (x : Txn) (g : Snapped (x .number) (x .snapshot)) where
   own-seen m e = which-seen (x .snapshot) m (omega (arith, g .xmax-is)) (λ a. omega (arith, g .active-below m a))
 
   pub low-seen : (m : ℕ) → m < x .snapshot .xmin → seen (x .snapshot) m ≡ true
-  low-seen m l = which-seen (x .snapshot) m (omega (arith, g .xmax-is, g .xmin-is, least-own (x .number) (x .snapshot .active))) (λ a. omega (arith, g .xmin-is, least-each (x .number) (x .snapshot .active) m a))
+  low-seen m l = which-seen (x .snapshot) m (omega (arith, g .xmax-is, g .xmin-is, least-own (x .number) (x .snapshot .active)))
+      (λ a. omega (arith, g .xmin-is, least-each (x .number) (x .snapshot .active) m a))
 
   pub creator-seen : (m : ℕ) → creatorVisible x m ≡ seen (x .snapshot) m
   unfolding creatorVisible seen
@@ -73,7 +76,8 @@ module _ (x : Txn) (g : Snapped (x .number) (x .snapshot)) where
 
   -- an end that upstream does not see is one that is not seen
   end-unseen : (m : ℕ) → not (eqb m (x .number)) && (leb (x .snapshot .xmax) m || member m (x .snapshot .active)) ≡ not (seen (x .snapshot) m)
-  end-unseen m = elim (ℕ-discrete m (x .number)) [ yes e ↦ rw (eq-eqb m (x .number) e, own-seen m e) | no d ↦ rw (ne-eqb m (x .number) d) (unseen-is (x .snapshot) m) ]
+  end-unseen m = elim (ℕ-discrete m (x .number))
+      [ yes e ↦ rw (eq-eqb m (x .number) e, own-seen m e) | no d ↦ rw (ne-eqb m (x .number) d) (unseen-is (x .snapshot) m) ]
 
   -- visible: a version that the own number made is not ended, so both see it
   pub row-visible : (c : Chains) (p : ℕ) → (c .xmin p ≡ x .number → c .xmax p ≡ 0) → rowVisible c x p ≡ visible c (x .snapshot) p
@@ -90,7 +94,8 @@ own-open s g j p l a u e =
     ap (s .chains .xmax) (sym (m .1 .2)) ∙ g .chained .head-open (m .1 .0) (λ z. omega (arith, m .1 .2))
 
 -- on every version of a reached store upstream's `visible` is ours, for every live transaction
-pub visible-same : (s : Store) → Good s → (j p : ℕ) → Live (s .txns j) → 1 ≤ p → p ≤ s .chains .used → rowVisible (s .chains) (s .txns j) p ≡ visible (s .chains) (s .txns j .snapshot) p
+pub visible-same : (s : Store) → Good s → (j p : ℕ) → Live (s .txns j) → 1 ≤ p → p ≤ s .chains .used
+    → rowVisible (s .chains) (s .txns j) p ≡ visible (s .chains) (s .txns j .snapshot) p
 visible-same s g j p l a u = row-visible (s .txns j) (g .numbers .snapped j l) (s .chains) p (own-open s g j p l a u)
 
 some-pointer : (p : ℕ) → 1 ≤ p → some p ≡ pointer p
@@ -104,12 +109,15 @@ module _ (s : Store) (g : Good s) (j : ℕ) (l : Live (s .txns j)) where
   row-walk zero p = refl
   row-walk (suc f) p = go (known (s .chains) p) refl (row-walk f (s .chains .next p))
     where
-      go : (b : Bool) → known (s .chains) p ≡ b → firstRow (s .chains) (s .txns j) f (s .chains .next p) ≡ pointer (walk (s .chains) (s .txns j .snapshot) f (s .chains .next p))
+      go : (b : Bool) → known (s .chains) p ≡ b
+          → firstRow (s .chains) (s .txns j) f (s .chains .next p) ≡ pointer (walk (s .chains) (s .txns j .snapshot) f (s .chains .next p))
           → cond b (cond (rowVisible (s .chains) (s .txns j) p) (some p) (firstRow (s .chains) (s .txns j) f (s .chains .next p))) none
           ≡ pointer (cond b (cond (visible (s .chains) (s .txns j .snapshot) p) p (walk (s .chains) (s .txns j .snapshot) f (s .chains .next p))) 0)
-      go true e ih = let k = known-which (s .chains) p e in rw (visible-same s g j p l (k .0) (k .1)) (shown (visible (s .chains) (s .txns j .snapshot) p) (k .0))
+      go true e ih = let k = known-which (s .chains) p e in
+          rw (visible-same s g j p l (k .0) (k .1)) (shown (visible (s .chains) (s .txns j .snapshot) p) (k .0))
         where
-          shown : (b : Bool) → 1 ≤ p → cond b (some p) (firstRow (s .chains) (s .txns j) f (s .chains .next p)) ≡ pointer (cond b p (walk (s .chains) (s .txns j .snapshot) f (s .chains .next p)))
+          shown : (b : Bool) → 1 ≤ p → cond b (some p) (firstRow (s .chains) (s .txns j) f (s .chains .next p))
+              ≡ pointer (cond b p (walk (s .chains) (s .txns j .snapshot) f (s .chains .next p)))
           shown true a = some-pointer p a
           shown false a = ih
       go false e ih = refl
@@ -129,7 +137,8 @@ unfolding lastWriteFrom orElse
 from-last so [] r = refl
 from-last so (w ∷ ws) r = go (eqb (w .row) r) (lastWriteFrom none ws r) refl (λ o. from-last o ws r)
   where
-    go : (b : Bool) (o : Option Write) → lastWriteFrom none ws r ≡ o → ((p : Option Write) → lastWriteFrom p ws r ≡ orElse (lastWriteFrom none ws r) p) → lastWriteFrom (cond b (some w) so) ws r ≡ orElse (lastWriteFrom (cond b (some w) none) ws r) so
+    go : (b : Bool) (o : Option Write) → lastWriteFrom none ws r ≡ o → ((p : Option Write) → lastWriteFrom p ws r ≡ orElse (lastWriteFrom none ws r) p)
+        → lastWriteFrom (cond b (some w) so) ws r ≡ orElse (lastWriteFrom (cond b (some w) none) ws r) so
     go true none e h = rw (h (some w), e)
     go true (some v) e h = rw (h (some w), e)
     go false o e h = h so
@@ -140,14 +149,16 @@ back-last w ws r zero = refl
 back-last w ws r (suc n) = go (eqb (getD ws n (record { row = 0; key = none; payload = 0 }) .row) r) (back-last w ws r n)
   where
     go : (b : Bool) → lastOf (w ∷ ws) r (suc n) ≡ orElse (lastOf ws r n) (cond (eqb (w .row) r) (some w) none)
-        → cond b (some (getD ws n (record { row = 0; key = none; payload = 0 }))) (lastOf (w ∷ ws) r (suc n)) ≡ orElse (cond b (some (getD ws n (record { row = 0; key = none; payload = 0 }))) (lastOf ws r n)) (cond (eqb (w .row) r) (some w) none)
+        → cond b (some (getD ws n (record { row = 0; key = none; payload = 0 }))) (lastOf (w ∷ ws) r (suc n))
+        ≡ orElse (cond b (some (getD ws n (record { row = 0; key = none; payload = 0 }))) (lastOf ws r n)) (cond (eqb (w .row) r) (some w) none)
     go true ih = refl
     go false ih = ih
 
 pub last-same : (ws : List Write) (r : ℕ) → lastOf ws r (length ws) ≡ lastWrite ws r
 unfolding lastOf lastWriteFrom
 last-same [] r = refl
-last-same (w ∷ ws) r = back-last w ws r (length ws) ∙ (ap (λ o. orElse o (cond (eqb (w .row) r) (some w) none)) (last-same ws r) ∙ sym (from-last (cond (eqb (w .row) r) (some w) none) ws r))
+last-same (w ∷ ws) r = back-last w ws r (length ws)
+    ∙ (ap (λ o. orElse o (cond (eqb (w .row) r) (some w) none)) (last-same ws r) ∙ sym (from-last (cond (eqb (w .row) r) (some w) none) ws r))
 
 -- a row is pending exactly where it has a last write
 abbrev isFound : Option Write → Bool
@@ -172,10 +183,13 @@ key-pointer c k zero = rw (keyAt-zero c)
 key-pointer c k (suc q) = rw (keyAt-key c (suc q) (omega arith))
 
 -- matches_row, with key equality, is the matching rule on the rows of the store
-pub matches-same : (s : Store) → Good s → (j : ℕ) → Live (s .txns j) → (k r : ℕ) → matchesRow (s .sizes .rows) (s .chains) (s .txns j) k r ≡ ltb r (s .sizes .rows) && matches (s .chains) (s .txns j) k r
+pub matches-same : (s : Store) → Good s → (j : ℕ) → Live (s .txns j) → (k r : ℕ)
+    → matchesRow (s .sizes .rows) (s .chains) (s .txns j) k r ≡ ltb r (s .sizes .rows) && matches (s .chains) (s .txns j) k r
 unfolding matchesRow matches shownKey selected writtenKey holdsKey
-matches-same s g j l k r = rw (last-same (s .txns j .writes) r, pending-found (s .txns j .writes) r) (ap (λ b. ltb r (s .sizes .rows) && b) (go (lastWrite (s .txns j .writes) r)))
+matches-same s g j l k r =
+    rw (last-same (s .txns j .writes) r, pending-found (s .txns j .writes) r) (ap (λ b. ltb r (s .sizes .rows) && b) (go (lastWrite (s .txns j .writes) r)))
   where
-    go : (o : Option Write) → holdsKey k (selected (s .chains) (s .txns j) r o) ≡ sameKey (cond (isFound o) (writtenKey o) (keyAt (s .chains) (versionOf (s .chains) (s .txns j .snapshot) r))) (some k)
+    go : (o : Option Write) → holdsKey k (selected (s .chains) (s .txns j) r o)
+        ≡ sameKey (cond (isFound o) (writtenKey o) (keyAt (s .chains) (versionOf (s .chains) (s .txns j .snapshot) r))) (some k)
     go none = rw (first-same s g j l (s .chains .head r)) (key-pointer (s .chains) k (firstVisible (s .chains) (s .txns j .snapshot) (s .chains .head r)))
     go (some w) = refl

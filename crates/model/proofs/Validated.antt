@@ -36,7 +36,9 @@ module _ (s : Store) (t room : ℕ) (rs : List ℕ) (g : Good s) (d : RowsDone s
   -- what was read is what the snapshot shows
   pub read-shows : map (λ (q : ReadRecord). q .row) (shows (s .chains) (s .sizes .rows) (txnOf s t .snapshot) (keyIn (txnOf s t .phase))) ≡ rs
   unfolding shows
-  read-shows = same _ ∙ (pick-same _ (matches (s .chains) (txnOf s t) (keyIn (txnOf s t .phase))) 0 (s .sizes .rows) (λ r lo hi. sym (version-match (s .chains) (txnOf s t) _ r (none-pending (txnOf s t) none-written r))) ∙ sym (d .answer-is ∙ found-whole s g (at s t) (d .alive) (d .collected)))
+  read-shows = same _ ∙ (pick-same _ (matches (s .chains) (txnOf s t) (keyIn (txnOf s t .phase))) 0 (s .sizes .rows)
+      (λ r lo hi. sym (version-match (s .chains) (txnOf s t) _ r (none-pending (txnOf s t) none-written r)))
+      ∙ sym (d .answer-is ∙ found-whole s g (at s t) (d .alive) (d .collected)))
     where
       same : (ps : List ℕ) → map (λ (q : ReadRecord). q .row) (map (recordOf (s .chains) (txnOf s t .snapshot)) ps) ≡ ps
       same [] = refl
@@ -61,9 +63,11 @@ module _ (s : Store) (t room : ℕ) (rs : List ℕ) (g : Good s) (d : RowsDone s
         same-key = λ r. refl;
       }
         where
-          found : (r : ℕ) → r < s .sizes .rows → keyAt (s .chains) (versionOf (s .chains) (txnOf s t .snapshot) r) ≡ some (keyIn (txnOf s t .phase)) → Among r rs
+          found : (r : ℕ) → r < s .sizes .rows → keyAt (s .chains) (versionOf (s .chains) (txnOf s t .snapshot) r) ≡ some (keyIn (txnOf s t .phase))
+              → Among r rs
           found r u e = rw (d .answer-is ∙ found-whole s g (at s t) (d .alive) (d .collected))
-              (which-pick (matches (s .chains) (txnOf s t) (keyIn (txnOf s t .phase))) 0 (s .sizes .rows) r (omega arith) (omega arith) (version-match (s .chains) (txnOf s t) _ r (none-pending (txnOf s t) none-written r) ∙ key-same _ _ e))
+              (which-pick (matches (s .chains) (txnOf s t) (keyIn (txnOf s t .phase))) 0 (s .sizes .rows) r (omega arith) (omega arith)
+              (version-match (s .chains) (txnOf s t) _ r (none-pending (txnOf s t) none-written r) ∙ key-same _ _ e))
 
 -- a validation or a prepare that has found no conflict, and no bucket of an index read held by another
 pub record Passed (s : Store) (t : ℕ) : Type 0 where
@@ -78,8 +82,16 @@ unfolding checks accepted
 validate-passed s t e =
     let ok = is-accepted s (validate t) (ap refuses e) in
     let f = finds s t _ _ (ok .tests) in
-    let j : Judged (verdict (s .chains) (s .index) (txnOf s t)) ≡ Judged Clear = sym (ap (λ w. w .answer) (ok .does)) ∙ e in
-    (record { alive = f .alive; number-is = f .number; opened = eqb-true _ _ (f .phase-is); clear = cc; untaken = λ b m. none-each _ (readBuckets (txnOf s t)) (passes _ _ _ (f .rest) .0) b m }, ap (λ w. w .store) (ok .does))
+    let j : Judged (verdict (s .chains) (s .index) (txnOf s t)) ≡ Judged Clear = sym (ap (λ w. w .answer) (ok .does)) ∙ e in (
+      record {
+        alive = f .alive;
+        number-is = f .number;
+        opened = eqb-true _ _ (f .phase-is);
+        clear = cc;
+        untaken = λ b m. none-each _ (readBuckets (txnOf s t)) (passes _ _ _ (f .rest) .0) b m;
+      },
+      ap (λ w. w .store) (ok .does),
+    )
 
 pub prepare-passed : (s : Store) (t : ℕ) → step s (prepare t) .answer ≡ Done → Passed s t × (step s (prepare t) .store ≡ prepared s (at s t))
 unfolding checks accepted neededBuckets
@@ -99,11 +111,13 @@ prepare-passed s t e =
     )
 
 -- what remains of a read at a store where it passed is what a snapshot shows there
-pub passed-stands : (s : Store) (t k : ℕ) (c₁ : Chains) (v : Snapshot) → Good s → RemainsAt c₁ v k t s → Passed s t → shows (s .chains) (s .sizes .rows) (snapshotNow s) k ≡ shows c₁ (s .sizes .rows) v k
+pub passed-stands : (s : Store) (t k : ℕ) (c₁ : Chains) (v : Snapshot) → Good s → RemainsAt c₁ v k t s → Passed s t
+    → shows (s .chains) (s .sizes .rows) (snapshotNow s) k ≡ shows c₁ (s .sizes .rows) v k
 passed-stands s t k c₁ v g w p =
     let r = w .here (at s t) (p .number-is) (omega (arith, p .opened)) in
     let kept : Remains c₁ (txnOf s t .snapshot) k (s .sizes) (s .chains) (txnOf s t) = rw (sym (r .snapshot-is)) at r in
-    rw (sym (r .snapshot-is)) (stands s g (at s t) (p .alive) (omega (arith, p .opened)) c₁ k kept (cleared (s .chains) (s .index) (txnOf s t) (p .clear)) (p .untaken))
+    rw (sym (r .snapshot-is))
+    (stands s g (at s t) (p .alive) (omega (arith, p .opened)) c₁ k kept (cleared (s .chains) (s .index) (txnOf s t) (p .clear)) (p .untaken))
 
 -- a prepared transaction is as active as an open one
 pub prepared-now : (s : Store) (i : ℕ) → rank (s .txns i .phase) ≡ phaseOpen → snapshotNow (prepared s i) ≡ snapshotNow s
@@ -115,25 +129,33 @@ prepared-now s i a = rw same
         (λ r lo hi. update-field (λ y. active y) (s .txns) i (withPhase (s .txns i) Prepared) r (rw a))
         (λ r lo hi e. update-field (λ y. y .number) (s .txns) i (withPhase (s .txns i) Prepared) r refl)
 
-pub validated-shows : (s : Store) (t k n : ℕ) → Passed s t × (step s (validate t) .store ≡ s) → shows (step s (validate t) .store .chains) n (snapshotNow (step s (validate t) .store)) k ≡ shows (s .chains) n (snapshotNow s) k
+pub validated-shows : (s : Store) (t k n : ℕ) → Passed s t × (step s (validate t) .store ≡ s)
+    → shows (step s (validate t) .store .chains) n (snapshotNow (step s (validate t) .store)) k ≡ shows (s .chains) n (snapshotNow s) k
 validated-shows s t k n ok = ap (λ w. shows (w .chains) n (snapshotNow w) k) (ok .1)
 
-pub prepared-shows : (s : Store) (t k n : ℕ) → Passed s t × (step s (prepare t) .store ≡ prepared s (at s t)) → shows (step s (prepare t) .store .chains) n (snapshotNow (step s (prepare t) .store)) k ≡ shows (s .chains) n (snapshotNow s) k
-prepared-shows s t k n ok = ap (λ w. shows (w .chains) n (snapshotNow w) k) (ok .1) ∙ ap (λ v. shows (s .chains) n v k) (prepared-now s (at s t) (ok .0 .opened))
+pub prepared-shows : (s : Store) (t k n : ℕ) → Passed s t × (step s (prepare t) .store ≡ prepared s (at s t))
+    → shows (step s (prepare t) .store .chains) n (snapshotNow (step s (prepare t) .store)) k ≡ shows (s .chains) n (snapshotNow s) k
+prepared-shows s t k n ok = ap (λ w. shows (w .chains) n (snapshotNow w) k) (ok .1)
+    ∙ ap (λ v. shows (s .chains) n v k) (prepared-now s (at s t) (ok .0 .opened))
 
 -- any steps between a read and a store where it passed
-pub standing : (z : Sizes) (s₁ : Store) (t room k : ℕ) (rs : List ℕ) (between : List Step) → Good s₁ → s₁ .sizes ≡ z → step s₁ (rows t room) .answer ≡ Rows rs → txnOf s₁ t .phase ≡ Collected k → txnOf s₁ t .writes ≡ []
+pub standing : (z : Sizes) (s₁ : Store) (t room k : ℕ) (rs : List ℕ) (between : List Step) → Good s₁ → s₁ .sizes ≡ z
+    → step s₁ (rows t room) .answer ≡ Rows rs → txnOf s₁ t .phase ≡ Collected k → txnOf s₁ t .writes ≡ []
     → let s₂ = run (step s₁ (rows t room) .store) between in Passed s₂ t
-    → (shows (s₂ .chains) (z .rows) (snapshotNow s₂) k ≡ shows (s₁ .chains) (z .rows) (txnOf s₁ t .snapshot) k) × (map (λ (q : ReadRecord). q .row) (shows (s₁ .chains) (z .rows) (txnOf s₁ t .snapshot) k) ≡ rs)
+    → (shows (s₂ .chains) (z .rows) (snapshotNow s₂) k ≡ shows (s₁ .chains) (z .rows) (txnOf s₁ t .snapshot) k)
+    × (map (λ (q : ReadRecord). q .row) (shows (s₁ .chains) (z .rows) (txnOf s₁ t .snapshot) k) ≡ rs)
 standing z s₁ t room k rs between g size e p w v =
     let s₂ = run (step s₁ (rows t room) .store) between in
     let d = rows-done s₁ t room rs e in
     let key : keyIn (txnOf s₁ t .phase) ≡ k = ap keyIn p in
     let after : Good (step s₁ (rows t room) .store) = rw (d .store-is) (rows-good s₁ t room rs g d) in
     let size₂ : s₂ .sizes ≡ z = sizes-run (step s₁ (rows t room) .store) between ∙ (ap (λ q. q .sizes) (d .store-is) ∙ size) in
-    let m = remains-run (s₁ .chains) (txnOf s₁ t .snapshot) (keyIn (txnOf s₁ t .phase)) t (step s₁ (rows t room) .store) after (rw (d .store-is) (read-remains s₁ t room rs g d w)) between in
-    let same = passed-stands s₂ t (keyIn (txnOf s₁ t .phase)) (s₁ .chains) (txnOf s₁ t .snapshot) (good-run (step s₁ (rows t room) .store) after between) m v in (
-      rw key at (counted s₂ size₂ (snapshotNow s₂) (keyIn (txnOf s₁ t .phase)) ∙ (same ∙ ap (λ n. shows (s₁ .chains) n (txnOf s₁ t .snapshot) (keyIn (txnOf s₁ t .phase))) (ap (λ q. q .rows) size₂))),
+    let m = remains-run (s₁ .chains) (txnOf s₁ t .snapshot) (keyIn (txnOf s₁ t .phase)) t (step s₁ (rows t room) .store) after
+    (rw (d .store-is) (read-remains s₁ t room rs g d w)) between in
+    let same = passed-stands s₂ t (keyIn (txnOf s₁ t .phase)) (s₁ .chains) (txnOf s₁ t .snapshot) (good-run (step s₁ (rows t room) .store) after between)
+    m v in (
+      rw key at (counted s₂ size₂ (snapshotNow s₂) (keyIn (txnOf s₁ t .phase))
+          ∙ (same ∙ ap (λ n. shows (s₁ .chains) n (txnOf s₁ t .snapshot) (keyIn (txnOf s₁ t .phase))) (ap (λ q. q .rows) size₂))),
       rw key at (ap (map (λ (q : ReadRecord). q .row)) (counted s₁ size (txnOf s₁ t .snapshot) (keyIn (txnOf s₁ t .phase))) ∙ read-shows s₁ t room rs g d w),
     )
   where

@@ -17,7 +17,12 @@ use Rattle.model.proofs.UpstreamLaws.{conflict-same, good-same}
 
 -- the tests of an entry
 among-test : (n : ℕ) (xs : List ℕ) → Test (member n xs) (Among n xs) (Among n xs → ⊥)
-among-test n xs = record { holds = member-among n xs; fails = λ e m. true≢false (sym (among-member n xs m) ∙ e); if-yes = among-member n xs; if-no = not-member n xs }
+among-test n xs = record {
+  holds = member-among n xs;
+  fails = λ e m. true≢false (sym (among-member n xs m) ∙ e);
+  if-yes = among-member n xs;
+  if-no = not-member n xs;
+}
 
 pub read-bad : (i : Index) (n : ℕ) (r : IndexRead) → Test (badRead i n r) (ReadBad i n r) (ReadGood i n r)
 unfolding badRead
@@ -26,7 +31,8 @@ read-bad i n r = either (opposite (equal (i .stamp (r .bucket)) (r .stamp))) (op
 pub record-bad : (c : Chains) (x : Txn) (q : ReadRecord) → Test (badRecord c (x .number) (x .snapshot) q) (RecordBad c x q) (RecordGood c x q)
 unfolding badRecord
 record-bad c x q = let m = c .xmax (q .ptr) in
-    either (opposite (equal (c .xmin (q .ptr)) (q .xmin))) (both (both (opposite (equal m 0)) (opposite (equal m (x .number)))) (either (at-most (x .snapshot .xmax) m) (among-test m (x .snapshot .active))))
+    either (opposite (equal (c .xmin (q .ptr)) (q .xmin)))
+    (both (both (opposite (equal m 0)) (opposite (equal m (x .number)))) (either (at-most (x .snapshot .xmax) m) (among-test m (x .snapshot .active))))
 
 -- a list is scanned to its first bad entry
 scan : {A : Type 0} → (A → Bool) → (A → Verdict) → Verdict → List A → Verdict
@@ -44,18 +50,32 @@ module _ {A : Type 0} (test : A → Bool) (Bad Good : A → Type 0) (t : (y : A)
   scan-good [] good = refl
   scan-good (z ∷ ys) good = rw (t z .if-no (good z (inl refl))) (scan-good ys (λ w m. good w (inr m)))
 
-  scan-cases : (ys : List A) → ((y : A) × First Bad Good ys y × (scan test said otherwise ys ≡ said y)) ⊎ (((z : A) → Among z ys → Good z) × (scan test said otherwise ys ≡ otherwise))
+  scan-cases : (ys : List A) → ((y : A) × First Bad Good ys y × (scan test said otherwise ys ≡ said y))
+      ⊎ (((z : A) → Among z ys → Good z) × (scan test said otherwise ys ≡ otherwise))
   unfolding scan
   scan-cases [] = inr ((λ z m. absurd m), refl)
   scan-cases (z ∷ ys) = go (test z) refl (scan-cases ys)
     where
-      go : (b : Bool) → test z ≡ b → ((y : A) × First Bad Good ys y × (scan test said otherwise ys ≡ said y)) ⊎ (((z : A) → Among z ys → Good z) × (scan test said otherwise ys ≡ otherwise))
-          → ((y : A) × First Bad Good (z ∷ ys) y × (cond b (said z) (scan test said otherwise ys) ≡ said y)) ⊎ (((w : A) → Among w (z ∷ ys) → Good w) × (cond b (said z) (scan test said otherwise ys) ≡ otherwise))
+      go : (b : Bool) → test z ≡ b → ((y : A) × First Bad Good ys y × (scan test said otherwise ys ≡ said y))
+          ⊎ (((z : A) → Among z ys → Good z) × (scan test said otherwise ys ≡ otherwise))
+          → ((y : A) × First Bad Good (z ∷ ys) y × (cond b (said z) (scan test said otherwise ys) ≡ said y))
+          ⊎ (((w : A) → Among w (z ∷ ys) → Good w) × (cond b (said z) (scan test said otherwise ys) ≡ otherwise))
       go true e ih = inl (z, record { earlier = []; later = ys; stands = refl; good = λ w m. absurd m; bad = t z .holds e }, refl)
-      go false e (inl w) = inl (w .0, record { earlier = z ∷ w .1 .earlier; later = w .1 .later; stands = ap (λ l. z ∷ l) (w .1 .stands); good = λ y m. ⊎-elim (λ f. rw f (t z .fails e)) (w .1 .good y) m; bad = w .1 .bad }, w .2)
+      go false e (inl w) = inl (
+        w .0,
+        record {
+          earlier = z ∷ w .1 .earlier;
+          later = w .1 .later;
+          stands = ap (λ l. z ∷ l) (w .1 .stands);
+          good = λ y m. ⊎-elim (λ f. rw f (t z .fails e)) (w .1 .good y) m;
+          bad = w .1 .bad;
+        },
+        w .2,
+      )
       go false e (inr w) = inr ((λ y m. ⊎-elim (λ f. rw f (t z .fails e)) (w .0 y) m), w .1)
 
-reads-scan : (i : Index) (n : ℕ) (o : Verdict) (rs : List IndexRead) → judgeReads i n rs o ≡ scan (badRead i n) (λ r. Bucket (r .bucket) (r .stamp) (i .stamp (r .bucket))) o rs
+reads-scan : (i : Index) (n : ℕ) (o : Verdict) (rs : List IndexRead)
+    → judgeReads i n rs o ≡ scan (badRead i n) (λ r. Bucket (r .bucket) (r .stamp) (i .stamp (r .bucket))) o rs
 unfolding judgeReads scan
 reads-scan i n o [] = refl
 reads-scan i n o (r ∷ rs) = rw (reads-scan i n o rs)
@@ -66,11 +86,18 @@ records-scan c n v [] = refl
 records-scan c n v (q ∷ qs) = rw (records-scan c n v qs)
 
 module _ (c : Chains) (i : Index) (x : Txn) where
-  reads-cases : (o : Verdict) → ((r : IndexRead) × First (ReadBad i (x .number)) (ReadGood i (x .number)) (x .reads) r × (judgeReads i (x .number) (x .reads) o ≡ Bucket (r .bucket) (r .stamp) (i .stamp (r .bucket)))) ⊎ (AllReadsGood i x × (judgeReads i (x .number) (x .reads) o ≡ o))
-  reads-cases o = rw (reads-scan i (x .number) o (x .reads)) (scan-cases (badRead i (x .number)) (ReadBad i (x .number)) (ReadGood i (x .number)) (read-bad i (x .number)) _ o (x .reads))
+  reads-cases : (o : Verdict)
+      → ((r : IndexRead) × First (ReadBad i (x .number)) (ReadGood i (x .number)) (x .reads) r
+      × (judgeReads i (x .number) (x .reads) o ≡ Bucket (r .bucket) (r .stamp) (i .stamp (r .bucket))))
+      ⊎ (AllReadsGood i x × (judgeReads i (x .number) (x .reads) o ≡ o))
+  reads-cases o = rw (reads-scan i (x .number) o (x .reads))
+      (scan-cases (badRead i (x .number)) (ReadBad i (x .number)) (ReadGood i (x .number)) (read-bad i (x .number)) _ o (x .reads))
 
-  records-cases : ((q : ReadRecord) × First (RecordBad c x) (RecordGood c x) (x .records) q × (judgeRecords c (x .number) (x .snapshot) (x .records) ≡ Row (q .row) (q .ptr))) ⊎ (AllRecordsGood c x × (judgeRecords c (x .number) (x .snapshot) (x .records) ≡ Clear))
-  records-cases = rw (records-scan c (x .number) (x .snapshot) (x .records)) (scan-cases (badRecord c (x .number) (x .snapshot)) (RecordBad c x) (RecordGood c x) (record-bad c x) _ Clear (x .records))
+  records-cases : ((q : ReadRecord) × First (RecordBad c x) (RecordGood c x) (x .records) q
+      × (judgeRecords c (x .number) (x .snapshot) (x .records) ≡ Row (q .row) (q .ptr)))
+      ⊎ (AllRecordsGood c x × (judgeRecords c (x .number) (x .snapshot) (x .records) ≡ Clear))
+  records-cases = rw (records-scan c (x .number) (x .snapshot) (x .records))
+      (scan-cases (badRecord c (x .number) (x .snapshot)) (RecordBad c x) (RecordGood c x) (record-bad c x) _ Clear (x .records))
 
   caused : Cause c i x (verdict c i x)
   unfolding verdict
@@ -88,14 +115,28 @@ module _ (c : Chains) (i : Index) (x : Txn) where
 
   -- all reads are good, so the records decide; all records are good, so nothing is in the way
   reads-good-is : AllReadsGood i x → (o : Verdict) → judgeReads i (x .number) (x .reads) o ≡ o
-  reads-good-is g o = reads-scan i (x .number) o (x .reads) ∙ scan-good (badRead i (x .number)) (ReadBad i (x .number)) (ReadGood i (x .number)) (read-bad i (x .number)) _ o (x .reads) g
+  reads-good-is g o = reads-scan i (x .number) o (x .reads)
+      ∙ scan-good (badRead i (x .number)) (ReadBad i (x .number)) (ReadGood i (x .number)) (read-bad i (x .number)) _ o (x .reads) g
 
   causes : (v : Verdict) → Cause c i x v → verdict c i x ≡ v
   unfolding verdict
   causes Mark (by-mark e) = rw e
-  causes (Bucket b captured present) (by-read r e f p q w) = rw (e, reads-scan i (x .number) (judgeRecords c (x .number) (x .snapshot) (x .records)) (x .reads), f .stands, p, q, w) (scan-bad (badRead i (x .number)) (ReadBad i (x .number)) (ReadGood i (x .number)) (read-bad i (x .number)) _ _ (f .earlier) (f .later) r (f .good) (f .bad))
-  causes (Row row ptr) (by-record q e g f p w) = rw (e, reads-good-is g (judgeRecords c (x .number) (x .snapshot) (x .records)), records-scan c (x .number) (x .snapshot) (x .records), f .stands, p, w) (scan-bad (badRecord c (x .number) (x .snapshot)) (RecordBad c x) (RecordGood c x) (record-bad c x) _ _ (f .earlier) (f .later) q (f .good) (f .bad))
-  causes Clear (by-none e g h) = rw (e, reads-good-is g (judgeRecords c (x .number) (x .snapshot) (x .records))) (records-scan c (x .number) (x .snapshot) (x .records) ∙ scan-good (badRecord c (x .number) (x .snapshot)) (RecordBad c x) (RecordGood c x) (record-bad c x) _ Clear (x .records) h)
+  causes (Bucket b captured present) (by-read r e f p q w) =
+      rw (e, reads-scan i (x .number) (judgeRecords c (x .number) (x .snapshot) (x .records)) (x .reads), f .stands, p, q, w)
+      (scan-bad (badRead i (x .number)) (ReadBad i (x .number)) (ReadGood i (x .number)) (read-bad i (x .number)) _ _ (f .earlier) (f .later) r (f .good)
+      (f .bad))
+  causes (Row row ptr) (by-record q e g f p w) =
+      rw (
+        e,
+        reads-good-is g (judgeRecords c (x .number) (x .snapshot) (x .records)),
+        records-scan c (x .number) (x .snapshot) (x .records),
+        f .stands,
+        p,
+        w,
+      ) (scan-bad (badRecord c (x .number) (x .snapshot)) (RecordBad c x) (RecordGood c x) (record-bad c x) _ _ (f .earlier) (f .later) q (f .good) (f .bad))
+  causes Clear (by-none e g h) =
+      rw (e, reads-good-is g (judgeRecords c (x .number) (x .snapshot) (x .records))) (records-scan c (x .number) (x .snapshot) (x .records)
+      ∙ scan-good (badRecord c (x .number) (x .snapshot)) (RecordBad c x) (RecordGood c x) (record-bad c x) _ Clear (x .records) h)
 
   -- the verdict is v exactly when v has its cause
   pub verdict-cause : (v : Verdict) → verdict c i x ≡ v ↔ Cause c i x v
@@ -110,18 +151,30 @@ module _ (c : Chains) (i : Index) (x : Txn) where
 
   -- 1 with bucket, captured and present stamp exactly for the first bad index read
   pub verdict-1 : (b captured present : ℕ) → verdict c i x ≡ Bucket b captured present
-      ↔ (x .marked ≡ false) and ((r : IndexRead) × First (ReadBad i (x .number)) (ReadGood i (x .number)) (x .reads) r × (b ≡ r .bucket) × (captured ≡ r .stamp) × (present ≡ i .stamp (r .bucket)))
-  verdict-1 b captured present = (λ e. go (verdict-cause (Bucket b captured present) .0 e), λ w. causes (Bucket b captured present) (by-read (w .1 .0) (w .0) (w .1 .1) (w .1 .2) (w .1 .3) (w .1 .4)))
+      ↔ (x .marked ≡ false) and ((r : IndexRead) × First (ReadBad i (x .number)) (ReadGood i (x .number)) (x .reads) r × (b ≡ r .bucket)
+      × (captured ≡ r .stamp) × (present ≡ i .stamp (r .bucket)))
+  verdict-1 b captured present = (
+    λ e. go (verdict-cause (Bucket b captured present) .0 e),
+    λ w. causes (Bucket b captured present) (by-read (w .1 .0) (w .0) (w .1 .1) (w .1 .2) (w .1 .3) (w .1 .4)),
+  )
     where
-      go : Cause c i x (Bucket b captured present) → (x .marked ≡ false) and ((r : IndexRead) × First (ReadBad i (x .number)) (ReadGood i (x .number)) (x .reads) r × (b ≡ r .bucket) × (captured ≡ r .stamp) × (present ≡ i .stamp (r .bucket)))
+      go : Cause c i x (Bucket b captured present)
+          → (x .marked ≡ false) and ((r : IndexRead) × First (ReadBad i (x .number)) (ReadGood i (x .number)) (x .reads) r × (b ≡ r .bucket)
+          × (captured ≡ r .stamp) × (present ≡ i .stamp (r .bucket)))
       go (by-read r m f p q w) = (m, (r, f, p, q, w))
 
   -- 2 with row and pointer exactly for the first bad record, all reads good
   pub verdict-2 : (row ptr : ℕ) → verdict c i x ≡ Row row ptr
-      ↔ (x .marked ≡ false) and AllReadsGood i x and ((q : ReadRecord) × First (RecordBad c x) (RecordGood c x) (x .records) q × (row ≡ q .row) × (ptr ≡ q .ptr))
-  verdict-2 row ptr = (λ e. go (verdict-cause (Row row ptr) .0 e), λ w. causes (Row row ptr) (by-record (w .1 .1 .0) (w .0) (w .1 .0) (w .1 .1 .1) (w .1 .1 .2) (w .1 .1 .3)))
+      ↔ (x .marked ≡ false) and AllReadsGood i x
+      and ((q : ReadRecord) × First (RecordBad c x) (RecordGood c x) (x .records) q × (row ≡ q .row) × (ptr ≡ q .ptr))
+  verdict-2 row ptr = (
+    λ e. go (verdict-cause (Row row ptr) .0 e),
+    λ w. causes (Row row ptr) (by-record (w .1 .1 .0) (w .0) (w .1 .0) (w .1 .1 .1) (w .1 .1 .2) (w .1 .1 .3)),
+  )
     where
-      go : Cause c i x (Row row ptr) → (x .marked ≡ false) and AllReadsGood i x and ((q : ReadRecord) × First (RecordBad c x) (RecordGood c x) (x .records) q × (row ≡ q .row) × (ptr ≡ q .ptr))
+      go : Cause c i x (Row row ptr)
+          → (x .marked ≡ false) and AllReadsGood i x
+          and ((q : ReadRecord) × First (RecordBad c x) (RecordGood c x) (x .records) q × (row ≡ q .row) × (ptr ≡ q .ptr))
       go (by-record q m g f p w) = (m, (g, (q, f, p, w)))
 
   -- 0 exactly when none of these

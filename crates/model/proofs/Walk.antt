@@ -59,7 +59,8 @@ walk-finds c v g (suc f) p l u h = elim (ℕ-discrete p 0) [
     above : p ≢ 0 → c .next p ≢ 0 → seen v (c .xmin p) ≡ false → Reached c v (c .next p)
     above d z e = inr (rw (g .closed-by p (omega arith) u z) e)
 
-    go : p ≢ 0 → (b : Bool) → seen v (c .xmin p) ≡ b → ((c .next p ≢ 0 → Reached c v (c .next p)) → Finds c v (c .next p) (walk c v f (c .next p))) → Finds c v p (cond b p (walk c v f (c .next p)))
+    go : p ≢ 0 → (b : Bool) → seen v (c .xmin p) ≡ b → ((c .next p ≢ 0 → Reached c v (c .next p)) → Finds c v (c .next p) (walk c v f (c .next p)))
+        → Finds c v p (cond b p (walk c v f (c .next p)))
     go d true e ih = here {p = p} (omega arith) u e refl
     go d false e ih = down {p = p} (omega arith) u e (ih (λ z. above d z e))
 
@@ -88,7 +89,8 @@ finds-head c v g r sees = finds-one c v (c .head r) _ _ (version-finds c v g r) 
     go (no d) = here {p = c .head r} (omega arith) (g .heads-in r) (sees (omega arith)) refl
 
 -- the walk of one who sees less goes on from where another's ends
-pub finds-through : (c : Chains) (now v : Snapshot) → ((p : ℕ) → 1 ≤ p → p ≤ c .used → seen now (c .xmin p) ≡ false → seen v (c .xmin p) ≡ false) → (p q w : ℕ) → Finds c now p q → q ≢ 0 → Finds c v p w → Finds c v q w
+pub finds-through : (c : Chains) (now v : Snapshot) → ((p : ℕ) → 1 ≤ p → p ≤ c .used → seen now (c .xmin p) ≡ false → seen v (c .xmin p) ≡ false)
+    → (p q w : ℕ) → Finds c now p q → q ≢ 0 → Finds c v p w → Finds c v q w
 finds-through c now v less p q w (nothing a b) z f = absurd (z b)
 finds-through c now v less p q w (here l u t e) z f = rw e f
 finds-through c now v less p q w (down l u t m) z (nothing a b) = absurd (omega arith)
@@ -139,7 +141,8 @@ finds-chain c v r p q (here l u t f) h z = rw f h
 finds-chain c v r p q (down l u t n) h z = finds-chain c v r (c .next p) q n (below h l u refl) z
 
 -- who sees the same versions of a row finds the same
-pub finds-alike : (c : Chains) (v w : Snapshot) (r : ℕ) → ((p : ℕ) → 1 ≤ p → p ≤ c .used → InChain c r p → seen w (c .xmin p) ≡ seen v (c .xmin p)) → (p q : ℕ) → InChain c r p → Finds c v p q → Finds c w p q
+pub finds-alike : (c : Chains) (v w : Snapshot) (r : ℕ) → ((p : ℕ) → 1 ≤ p → p ≤ c .used → InChain c r p → seen w (c .xmin p) ≡ seen v (c .xmin p))
+    → (p q : ℕ) → InChain c r p → Finds c v p q → Finds c w p q
 finds-alike c v w r same p q i (nothing a b) = nothing a b
 finds-alike c v w r same p q i (here l u t f) = here {p = p} {q = q} l u (same p l u i ∙ t) f
 finds-alike c v w r same p q i (down l u t n) = down {p = p} {q = q} l u (same p l u i ∙ t) (finds-alike c v w r same (c .next p) q (below i l u refl) n)

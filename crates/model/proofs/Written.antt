@@ -1,4 +1,5 @@
--- Who made a version, and what is posted: a live maker has installed and its versions head its pending rows; a row is posted with the key at its head, or with the key before it while its maker is unpublished. Assumes nothing.
+-- Who made a version, and what is posted: a live maker has installed and its versions head its pending rows; a row is posted with the key at its head, or with
+-- the key before it while its maker is unpublished. Assumes nothing.
 use mathlib.Core.Path.{_≡_, refl, sym, ap, _∙_}
 use mathlib.Core.Bool.{Bool, true, false, true≢false}
 use mathlib.Core.Logic.{_≢_, _⊎_, inl, inr, ⊎-elim}
@@ -16,7 +17,8 @@ use Rattle.model.specs.Store.{Sizes, Chains, Installed, Ended, Txn, Stor
 use Rattle.model.specs.Seeing.{keyAt, lastWrite, Live}
 use Rattle.model.specs.Steps.{withPhase, pendingRows, oldKey, newKey, writtenPayload, installed, published, versionRows}
 use Rattle.model.specs.Holding.{Writes, Gets, Made, ErasesNothing}
-use Rattle.model.proofs.Move.{Move, stay, did-begin, did-mark, did-capture, did-collect, did-rows, did-write, did-prepare, did-install, did-end, did-publish, did-abort}
+use Rattle.model.proofs.Move.{Move, stay, did-begin, did-mark, did-capture, did-collect, did-rows, did-write, did-prepare, did-install, did-end}
+use Rattle.model.proofs.Move.{did-publish, did-abort}
 use Rattle.model.proofs.Chained.{Chained}
 use Rattle.model.proofs.Numbers.{Numbers, BelowAt}
 use Rattle.model.proofs.SeeingLaws.{keyAt-zero, keyAt-key, keyAt-same}
@@ -70,17 +72,28 @@ written-on z c posted t i x e a b g = written-early z c posted t i x (λ l. a) b
 -- the posted key of a row that is claimed by a Prepared transaction, or by none, is the old one
 pub posted-old : (s : Store) → Numbers (s .clock) (s .txns) → HoldersAt s → WrittenAt s → (i r : ℕ) → rank (s .txns i .phase) ≡ phasePrepared
     → Writes (s .sizes) (s .txns i) r → s .index .posted r ≡ oldKey (s .chains) r
-posted-old s n h g i r a w = ⊎-elim (λ e. e) (λ o. absurd (omega (arith, rw (one-claim s i n h (o .0) i r (omega (arith, o .2), made-writes (s .sizes) (s .chains) (s .txns (o .0)) r (o .3)) (omega arith, w)) at (o .2)))) (g .posts r)
+posted-old s n h g i r a w =
+    ⊎-elim (λ e. e) (λ o. absurd
+    (omega (
+      arith,
+      rw (one-claim s i n h (o .0) i r (omega (arith, o .2), made-writes (s .sizes) (s .chains) (s .txns (o .0)) r (o .3)) (omega arith, w))
+          at (o .2),
+    ))) (g .posts r)
 
-pub posted-free : (s : Store) → Numbers (s .clock) (s .txns) → HoldersAt s → WrittenAt s → (r : ℕ) → s .held .claim r ≡ 0 → s .index .posted r ≡ oldKey (s .chains) r
-posted-free s n h g r z = ⊎-elim (λ e. e) (λ o. absurd (omega (arith, o .1, h .claims .owns (o .0) r (omega (arith, o .2), made-writes (s .sizes) (s .chains) (s .txns (o .0)) r (o .3))))) (g .posts r)
+pub posted-free : (s : Store) → Numbers (s .clock) (s .txns) → HoldersAt s → WrittenAt s → (r : ℕ) → s .held .claim r ≡ 0
+    → s .index .posted r ≡ oldKey (s .chains) r
+posted-free s n h g r z =
+    ⊎-elim (λ e. e) (λ o. absurd
+    (omega (arith, o .1, h .claims .owns (o .0) r (omega (arith, o .2), made-writes (s .sizes) (s .chains) (s .txns (o .0)) r (o .3))))) (g .posts r)
 
 -- an installed row is headed by a version of its own; or it erases nothing, and no key is posted, which is the new key
 module _ (s : Store) (n : Numbers (s .clock) (s .txns)) (h : HoldersAt s) (g : WrittenAt s) (i r : ℕ) (l : Live (s .txns i))
     (a : phaseInstalled ≤ rank (s .txns i .phase)) (w : Writes (s .sizes) (s .txns i) r) where
   pub posted-either : Made (s .sizes) (s .chains) (s .txns i) r ⊎ (ErasesNothing (s .chains) (s .txns i) r × (s .index .posted r ≡ none))
   posted-either = ⊎-elim inl
-      (λ q. ⊎-elim (λ e. inr (q, e ∙ q .0)) (λ o. inl (rw (one-claim s i n h (o .0) i r (omega (arith, o .2), made-writes (s .sizes) (s .chains) (s .txns (o .0)) r (o .3)) (omega arith, w)) at (o .3))) (g .posts r))
+      (λ q. ⊎-elim (λ e. inr (q, e ∙ q .0))
+      (λ o. inl (rw (one-claim s i n h (o .0) i r (omega (arith, o .2), made-writes (s .sizes) (s .chains) (s .txns (o .0)) r (o .3))
+      (omega arith, w)) at (o .3))) (g .posts r))
       (g .made-or-nothing i r l a w)
 
   pub posted-new : (Made (s .sizes) (s .chains) (s .txns i) r → ⊥) → s .index .posted r ≡ newKey (s .txns i) r
@@ -94,7 +107,8 @@ module _ (s : Store) (i : ℕ) (n : Numbers (s .clock) (s .txns)) (h : HoldersAt
         (s .txns) i x j (λ e v b w. g .made-or-nothing i r v (omega arith) w) (λ d v b w. g .made-or-nothing j r v b w);
     mine = λ j r. update-elim (λ y. Live y → phaseInstalled ≤ rank (y .phase) → Made (s .sizes) (s .chains) y r → Mine (s .chains) (s .index .posted) y r)
         (s .txns) i x j
-        (λ e v b w. let m = g .mine i r v (omega arith) w in record { head-pos = m .head-pos; xmin-is = m .xmin-is; key-is = m .key-is; payload-is = m .payload-is; before = m .before })
+        (λ e v b w. let m = g .mine i r v (omega arith) w in
+        record { head-pos = m .head-pos; xmin-is = m .xmin-is; key-is = m .key-is; payload-is = m .payload-is; before = m .before })
         (λ d v b w. g .mine j r v b w);
     made = λ q j p u. update-elim (λ y. Live y → s .chains .xmin q ≡ y .number → (phaseInstalled ≤ rank (y .phase)) ×
         ((r : ℕ) × Made (s .sizes) (s .chains) y r × (s .chains .head r ≡ q))) (s .txns) i x j
@@ -117,7 +131,14 @@ module _ (s : Store) (i : ℕ) (n : Numbers (s .clock) (s .txns)) (h : HoldersAt
     mine = λ j r. update-elim (λ y. Live y → phaseInstalled ≤ rank (y .phase) → Made (s .sizes) (s .chains) y r → Mine (s .chains)
         (published s i .index .posted) y r) (s .txns) i noTxn j
         (λ e v b w. absurd (omega arith))
-        (λ d v b w. let m = g .mine j r v b w in record { head-pos = m .head-pos; xmin-is = m .xmin-is; key-is = m .key-is; payload-is = m .payload-is; before = m .before ∙ sym (posted-kept s i n h (omega arith) j r d (omega arith) (made-writes (s .sizes) (s .chains) (s .txns j) r w)) });
+        (λ d v b w. let m = g .mine j r v b w in
+        record {
+          head-pos = m .head-pos;
+          xmin-is = m .xmin-is;
+          key-is = m .key-is;
+          payload-is = m .payload-is;
+          before = m .before ∙ sym (posted-kept s i n h (omega arith) j r d (omega arith) (made-writes (s .sizes) (s .chains) (s .txns j) r w));
+        });
     made = λ q j p u. update-elim (λ y. Live y → s .chains .xmin q ≡ y .number → (phaseInstalled ≤ rank (y .phase)) ×
         ((r : ℕ) × Made (s .sizes) (s .chains) y r × (s .chains .head r ≡ q))) (s .txns) i noTxn j
         (λ e v f. absurd (omega arith))
@@ -148,14 +169,18 @@ old-or-new old q = go (ltb old q) refl
 pub keyAt-grown : (x : Txn) (rs : List ℕ) (c c′ : Chains) → Grown x rs c c′ → (p : ℕ) → p ≤ c .used → keyAt c′ p ≡ keyAt c p
 keyAt-grown x rs c c′ gr p u = keyAt-same c′ c p (λ z. gr .key-old p u)
 
-pub installs : (s : Store) (i : ℕ) → Chained (s .chains) → Grown (s .txns i) (versionRows (s .sizes) (s .chains) (s .txns i .writes)) (s .chains) (installed s i .chains)
+pub installs : (s : Store) (i : ℕ) → Chained (s .chains)
+    → Grown (s .txns i) (versionRows (s .sizes) (s .chains) (s .txns i .writes)) (s .chains) (installed s i .chains)
 unfolding versionRows
-installs s i ch = grown (s .txns i) 0 (versionRows (s .sizes) (s .chains) (s .txns i .writes)) (s .chains) (λ r m. ch .heads-in r) (pick-rising _ 0 (s .sizes .rows))
+installs s i ch = grown (s .txns i) 0 (versionRows (s .sizes) (s .chains) (s .txns i .writes)) (s .chains) (λ r m. ch .heads-in r)
+    (pick-rising _ 0 (s .sizes .rows))
 
 -- a row that gets a version is headed by it; any other is headed as it was
 module _ (s : Store) (i : ℕ) (ch : Chained (s .chains)) (r : ℕ) where
   pub made-new : Gets (s .sizes) (s .chains) (s .txns i) r → Made (s .sizes) (installed s i .chains) (s .txns i) r
-  made-new m = let new = installs s i ch .head-new r m in which-made (s .sizes) (installed s i .chains) (s .txns i) r (gets-writes (s .sizes) (s .chains) (s .txns i) r m) (omega (arith, new .above)) (new .xmin-is)
+  made-new m = let new = installs s i ch .head-new r m in
+      which-made (s .sizes) (installed s i .chains) (s .txns i) r (gets-writes (s .sizes) (s .chains) (s .txns i) r m) (omega (arith, new .above))
+      (new .xmin-is)
 
   module _ (no : Gets (s .sizes) (s .chains) (s .txns i) r → ⊥) (y : Txn) where
     same-xmin : installed s i .chains .xmin (installed s i .chains .head r) ≡ s .chains .xmin (s .chains .head r)
@@ -164,12 +189,14 @@ module _ (s : Store) (i : ℕ) (ch : Chained (s .chains)) (r : ℕ) where
     pub made-still : Made (s .sizes) (s .chains) y r → Made (s .sizes) (installed s i .chains) y r
     made-still m =
         let p = made-head (s .sizes) (s .chains) y r m in
-        which-made (s .sizes) (installed s i .chains) y r (made-writes (s .sizes) (s .chains) y r m) (omega (arith, p .0, installs s i ch .head-old r no)) (same-xmin ∙ p .1)
+        which-made (s .sizes) (installed s i .chains) y r (made-writes (s .sizes) (s .chains) y r m) (omega (arith, p .0, installs s i ch .head-old r no))
+        (same-xmin ∙ p .1)
 
     pub made-old : Made (s .sizes) (installed s i .chains) y r → Made (s .sizes) (s .chains) y r
     made-old m =
         let p = made-head (s .sizes) (installed s i .chains) y r m in
-        which-made (s .sizes) (s .chains) y r (made-writes (s .sizes) (installed s i .chains) y r m) (omega (arith, p .0, installs s i ch .head-old r no)) (sym same-xmin ∙ p .1)
+        which-made (s .sizes) (s .chains) y r (made-writes (s .sizes) (installed s i .chains) y r m) (omega (arith, p .0, installs s i ch .head-old r no))
+        (sym same-xmin ∙ p .1)
 
 module _ (s : Store) (i : ℕ) (ch : Chained (s .chains)) (n : Numbers (s .clock) (s .txns)) (h : HoldersAt s) (g : WrittenAt s) (l : Live (s .txns i))
     (a : rank (s .txns i .phase) ≡ phasePrepared) where
@@ -189,25 +216,33 @@ module _ (s : Store) (i : ℕ) (ch : Chained (s .chains)) (n : Numbers (s .clock
   same-old r e = ap (keyAt (installed s i .chains)) e ∙ keyAt-grown _ _ _ _ gr (s .chains .head r) (ch .heads-in r)
 
   got : (r : ℕ) → Made (s .sizes) (installed s i .chains) (s .txns i) r → Gets (s .sizes) (s .chains) (s .txns i) r
-  got r w = ⊎-elim (λ m. m) (λ e. absurd (no-head e (made-head (s .sizes) (installed s i .chains) (s .txns i) r w))) (gets-or-not (s .sizes) (s .chains) (s .txns i) r (made-writes (s .sizes) (installed s i .chains) (s .txns i) r w))
+  got r w = ⊎-elim (λ m. m) (λ e. absurd (no-head e (made-head (s .sizes) (installed s i .chains) (s .txns i) r w)))
+      (gets-or-not (s .sizes) (s .chains) (s .txns i) r (made-writes (s .sizes) (installed s i .chains) (s .txns i) r w))
     where
-      no-head : ErasesNothing (s .chains) (s .txns i) r → (1 ≤ installed s i .chains .head r) × (installed s i .chains .xmin (installed s i .chains .head r) ≡ s .txns i .number) → ⊥
+      no-head : ErasesNothing (s .chains) (s .txns i) r
+          → (1 ≤ installed s i .chains .head r) × (installed s i .chains .xmin (installed s i .chains .head r) ≡ s .txns i .number) → ⊥
       no-head e p =
           let f = same-head r e in
-          let m = g .made (s .chains .head r) i (omega (arith, p .0)) (ch .heads-in r) l (sym (ap (installed s i .chains .xmin) f ∙ gr .xmin-old (s .chains .head r) (ch .heads-in r)) ∙ p .1) in
+          let m = g .made (s .chains .head r) i (omega (arith, p .0)) (ch .heads-in r) l
+          (sym (ap (installed s i .chains .xmin) f ∙ gr .xmin-old (s .chains .head r) (ch .heads-in r)) ∙ p .1) in
           omega (arith, m .0)
 
-  install-mine : (r : ℕ) → Made (s .sizes) (installed s i .chains) (s .txns i) r → Mine (installed s i .chains) (s .index .posted) (withPhase (s .txns i) Installed) r
+  install-mine : (r : ℕ) → Made (s .sizes) (installed s i .chains) (s .txns i) r
+      → Mine (installed s i .chains) (s .index .posted) (withPhase (s .txns i) Installed) r
   install-mine r w = let new = gr .head-new r (got r w) in record {
     head-pos = omega (arith, new .above);
     xmin-is = new .xmin-is;
     key-is = keyAt-key (installed s i .chains) _ (λ e. omega (arith, new .above)) ∙ new .key-is;
     payload-is = new .payload-is;
-    before = ap (keyAt (installed s i .chains)) (new .next-is) ∙ (keyAt-grown _ _ _ _ gr (s .chains .head r) (ch .heads-in r) ∙ sym (posted-old s n h g i r a (made-writes (s .sizes) (installed s i .chains) (s .txns i) r w)));
+    before = ap (keyAt (installed s i .chains)) (new .next-is)
+        ∙ (keyAt-grown _ _ _ _ gr (s .chains .head r) (ch .heads-in r)
+        ∙ sym (posted-old s n h g i r a (made-writes (s .sizes) (installed s i .chains) (s .txns i) r w)));
   }
 
-  install-either : (r : ℕ) → Writes (s .sizes) (s .txns i) r → Made (s .sizes) (installed s i .chains) (s .txns i) r ⊎ ErasesNothing (installed s i .chains) (s .txns i) r
-  install-either r w = ⊎-elim (λ m. inl (made-new s i ch r m)) (λ e. inr (same-old r (same-head r e) ∙ e .0, e .1)) (gets-or-not (s .sizes) (s .chains) (s .txns i) r w)
+  install-either : (r : ℕ) → Writes (s .sizes) (s .txns i) r
+      → Made (s .sizes) (installed s i .chains) (s .txns i) r ⊎ ErasesNothing (installed s i .chains) (s .txns i) r
+  install-either r w = ⊎-elim (λ m. inl (made-new s i ch r m)) (λ e. inr (same-old r (same-head r e) ∙ e .0, e .1))
+      (gets-or-not (s .sizes) (s .chains) (s .txns i) r w)
 
   -- what others made is theirs, before and after
   not-mine : (j r : ℕ) → j ≢ i → phaseInstalled ≤ rank (s .txns j .phase) → Writes (s .sizes) (s .txns j) r → Gets (s .sizes) (s .chains) (s .txns i) r → ⊥
@@ -223,7 +258,8 @@ module _ (s : Store) (i : ℕ) (ch : Chained (s .chains)) (n : Numbers (s .clock
 
   others-either : (j r : ℕ) → j ≢ i → Live (s .txns j) → phaseInstalled ≤ rank (s .txns j .phase) → Writes (s .sizes) (s .txns j) r
       → Made (s .sizes) (installed s i .chains) (s .txns j) r ⊎ ErasesNothing (installed s i .chains) (s .txns j) r
-  others-either j r d v b w = ⊎-elim (λ m. inl (others-after j r d b m)) (λ e. inr (same-old r (others-row j r d b w) ∙ e .0, e .1)) (g .made-or-nothing j r v b w)
+  others-either j r d v b w =
+      ⊎-elim (λ m. inl (others-after j r d b m)) (λ e. inr (same-old r (others-row j r d b w) ∙ e .0, e .1)) (g .made-or-nothing j r v b w)
 
   install-others : (j r : ℕ) → j ≢ i → Live (s .txns j) → phaseInstalled ≤ rank (s .txns j .phase) → Made (s .sizes) (s .chains) (s .txns j) r
       → Mine (installed s i .chains) (s .index .posted) (s .txns j) r
@@ -237,21 +273,35 @@ module _ (s : Store) (i : ℕ) (ch : Chained (s .chains)) (n : Numbers (s .clock
         key-is = ap (keyAt (installed s i .chains)) e ∙ (keyAt-grown _ _ _ _ gr (s .chains .head r) u ∙ m .key-is);
         payload-is = ap (installed s i .chains .payload) e ∙ (gr .payload-old (s .chains .head r) u ∙ m .payload-is);
         before = ap (λ p. keyAt (installed s i .chains) (installed s i .chains .next p)) e
-            ∙ (ap (keyAt (installed s i .chains)) (gr .next-old (s .chains .head r) u) ∙ (keyAt-grown _ _ _ _ gr (s .chains .next (s .chains .head r)) (omega (arith, ch .next-falls (s .chains .head r) (m .head-pos) u)) ∙ m .before));
+            ∙ (ap (keyAt (installed s i .chains)) (gr .next-old (s .chains .head r) u)
+            ∙ (keyAt-grown _ _ _ _ gr (s .chains .next (s .chains .head r)) (omega (arith, ch .next-falls (s .chains .head r) (m .head-pos) u))
+            ∙ m .before));
       }
 
-  install-made : (q j : ℕ) → 1 ≤ q → q ≤ installed s i .chains .used → Live (installed s i .txns j) → installed s i .chains .xmin q ≡ installed s i .txns j .number
+  install-made : (q j : ℕ) → 1 ≤ q → q ≤ installed s i .chains .used → Live (installed s i .txns j)
+      → installed s i .chains .xmin q ≡ installed s i .txns j .number
       → (phaseInstalled ≤ rank (installed s i .txns j .phase)) ×
       ((r : ℕ) × Made (s .sizes) (installed s i .chains) (installed s i .txns j) r × (installed s i .chains .head r ≡ q))
   install-made q j p u = update-elim
       (λ y. Live y → installed s i .chains .xmin q ≡ y .number → (phaseInstalled ≤ rank (y .phase)) ×
       ((r : ℕ) × Made (s .sizes) (installed s i .chains) y r × (installed s i .chains .head r ≡ q))) (s .txns) i (withPhase (s .txns i) Installed) j
-      (λ e v f. (omega arith, ⊎-elim (λ o. absurd (omega (arith, g .made q i p o l (sym (gr .xmin-old q o) ∙ f) .0))) (λ o. let w = gr .made q o u in (w .0, made-new s i ch (w .0) (w .1), w .2)) (old-or-new (s .chains .used) q)))
+      (λ e v f. (
+        omega arith,
+        ⊎-elim (λ o. absurd (omega (arith, g .made q i p o l (sym (gr .xmin-old q o) ∙ f) .0))) (λ o. let w = gr .made q o u in
+            (w .0, made-new s i ch (w .0) (w .1), w .2)) (old-or-new (s .chains .used) q),
+      ))
       (λ d v f. ⊎-elim (λ o. old d v o f) (λ o. absurd (d (new v o f))) (old-or-new (s .chains .used) q))
     where
       old : j ≢ i → Live (s .txns j) → q ≤ s .chains .used → installed s i .chains .xmin q ≡ s .txns j .number
           → (phaseInstalled ≤ rank (s .txns j .phase)) × ((r : ℕ) × Made (s .sizes) (installed s i .chains) (s .txns j) r × (installed s i .chains .head r ≡ q))
-      old d v o f = let m = g .made q j p o v (sym (gr .xmin-old q o) ∙ f) in (m .0, (m .1 .0, others-after j (m .1 .0) d (m .0) (m .1 .1), others-row j (m .1 .0) d (m .0) (made-writes (s .sizes) (s .chains) (s .txns j) (m .1 .0) (m .1 .1)) ∙ m .1 .2))
+      old d v o f = let m = g .made q j p o v (sym (gr .xmin-old q o) ∙ f) in (
+        m .0,
+        (
+          m .1 .0,
+          others-after j (m .1 .0) d (m .0) (m .1 .1),
+          others-row j (m .1 .0) d (m .0) (made-writes (s .sizes) (s .chains) (s .txns j) (m .1 .0) (m .1 .1)) ∙ m .1 .2,
+        ),
+      )
 
       new : Live (s .txns j) → s .chains .used < q → installed s i .chains .xmin q ≡ s .txns j .number → j ≡ i
       new v o f =
@@ -298,9 +348,11 @@ module _ (s : Store) (i : ℕ) (ch : Chained (s .chains)) (n : Numbers (s .clock
     posts = install-posts;
   }
 
-pub written-move : (s s′ : Store) {a : ℕ} → Chained (s .chains) → Numbers (s .clock) (s .txns) → BelowAt s → HoldersAt s → WrittenAt s → Move s a s′ → WrittenAt s′
+pub written-move : (s s′ : Store) {a : ℕ} → Chained (s .chains) → Numbers (s .clock) (s .txns) → BelowAt s → HoldersAt s → WrittenAt s → Move s a s′
+    → WrittenAt s′
 written-move s s′ ch n b h g (stay i) = g
-written-move s s′ ch n b h g (did-begin i a e c d) = written-early _ _ _ _ i _ (λ l. absurd (omega arith)) (omega arith) (λ q p u l f. omega (arith, b .xmin-below q)) g
+written-move s s′ ch n b h g (did-begin i a e c d) =
+    written-early _ _ _ _ i _ (λ l. absurd (omega arith)) (omega arith) (λ q p u l f. omega (arith, b .xmin-below q)) g
 written-move s s′ ch n b h g (did-mark i a e) = written-on _ _ _ _ i _ refl (omega arith) (omega arith) g
 written-move s s′ ch n b h g (did-capture i k a e c) = written-on _ _ _ _ i _ refl (omega arith) (omega arith) g
 written-move s s′ ch n b h g (did-collect i a e) = written-on _ _ _ _ i _ refl (omega arith) (omega arith) g

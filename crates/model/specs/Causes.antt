@@ -17,10 +17,12 @@ ReadGood i n r = (i .stamp (r .bucket) ≡ r .stamp) × (i .stamp (r .bucket) < 
 
 -- a record whose version has another xmin, or an xmax that is neither 0 nor the own number and is at or above snapshot xmax or among the active
 abbrev pub RecordBad : Chains → Txn → ReadRecord → Type 0
-RecordBad c x q = let m = c .xmax (q .ptr) in (c .xmin (q .ptr) ≢ q .xmin) ⊎ (((m ≢ 0) × (m ≢ x .number)) × ((x .snapshot .xmax ≤ m) ⊎ Among m (x .snapshot .active)))
+RecordBad c x q = let m = c .xmax (q .ptr) in
+    (c .xmin (q .ptr) ≢ q .xmin) ⊎ (((m ≢ 0) × (m ≢ x .number)) × ((x .snapshot .xmax ≤ m) ⊎ Among m (x .snapshot .active)))
 
 abbrev pub RecordGood : Chains → Txn → ReadRecord → Type 0
-RecordGood c x q = let m = c .xmax (q .ptr) in (c .xmin (q .ptr) ≡ q .xmin) × (((m ≡ 0) ⊎ (m ≡ x .number)) ⊎ ((m < x .snapshot .xmax) × (Among m (x .snapshot .active) → ⊥)))
+RecordGood c x q = let m = c .xmax (q .ptr) in
+    (c .xmin (q .ptr) ≡ q .xmin) × (((m ≡ 0) ⊎ (m ≡ x .number)) ⊎ ((m < x .snapshot .xmax) × (Among m (x .snapshot .active) → ⊥)))
 
 -- x is the first bad entry of a list: all earlier ones are good
 pub record First {A : Type 0} (Bad Good : A → Type 0) (xs : List A) (x : A) : Type 0 where

@@ -11,7 +11,8 @@ use Rattle.model.specs.Store.{Sizes, Chains, IndexRead, ReadRecord, Txn,
 use Rattle.model.specs.Verdict.{Mark}
 use Rattle.model.specs.Seeing.{Live, seen, visible, firstVisible, versionOf, keyAt, pending, matches, recordOf, shows, snapshotNow}
 use Rattle.model.specs.Steps.{hasRead, postedRows, versionRows, madeRows, oldKey, keyBefore, readBuckets, neededBuckets}
-use Rattle.model.specs.Upstream.{creatorVisible, rowVisible, firstRow, pointer, matchesRow, Event, postingsOf, postingReplay, liveRows, snapshotRows, Coherent, stampAt, rawCandidates}
+use Rattle.model.specs.Upstream.{creatorVisible, rowVisible, firstRow, pointer, matchesRow, Event, postingsOf, postingReplay, liveRows, snapshotRows}
+use Rattle.model.specs.Upstream.{Coherent, stampAt, rawCandidates}
 use Rattle.model.specs.Refusals.{Step, begin, capture, collect, rows, write, prepare, install, end, publish, validate, abort, Refusal, WrongShape, txnOf}
 use Rattle.model.specs.Shape.{rightShape}
 use Rattle.model.specs.Machine.{Judged, Refused, lentAfter, at, actor, accepted, step, stepIn, run}
@@ -37,7 +38,8 @@ pub record ExactAnswer (s : Store) (a : Step) : Type 0 where
 
 -- the transaction at place i goes on through a step: it is marked afterwards exactly where it was, or where this step of it met a stale stamp
 abbrev pub MarkLives : Store → Step → ℕ → Type 0
-MarkLives s a i = Live (s .txns i) → step s a .store .txns i .number ≡ s .txns i .number → step s a .store .txns i .marked ≡ true ↔ (s .txns i .marked ≡ true) ⊎ ((i ≡ at s (actor a)) × StaleStamp s a)
+MarkLives s a i = Live (s .txns i) → step s a .store .txns i .number ≡ s .txns i .number → step s a .store .txns i .marked ≡ true
+    ↔ (s .txns i .marked ≡ true) ⊎ ((i ≡ at s (actor a)) × StaleStamp s a)
 
 -- A REACHED STORE
 
@@ -47,7 +49,8 @@ pub record Shapely (s : Store) : Type 0 where
   pub no-sixteen : (a : Step) → step s a .answer ≡ Refused WrongShape → ⊥
   pub untested : (a : Step) → step s a ≡ stepIn s a
 
--- nothing held is lost: whoever is named by a holder or a claim is live and needs it, and has all that it needs; from Prepared on a pending row is posted with its old key
+-- nothing held is lost: whoever is named by a holder or a claim is live and needs it, and has all that it needs; from Prepared on a pending row is posted with
+-- its old key
 pub record NothingLost (s : Store) : Type 0 where
   pub holder-needs : (b : ℕ) → s .held .holder b ≢ 0 → (i : ℕ) × (s .held .holder b ≡ s .txns i .number) × Wants (s .sizes) (s .index .posted) (s .txns i) b
   pub holds : (i b : ℕ) → Wants (s .sizes) (s .index .posted) (s .txns i) b → s .held .holder b ≡ s .txns i .number
@@ -122,7 +125,8 @@ pub record KeptVersion (c c′ : Chains) (p : ℕ) : Type 0 where
   pub same : SameVersion c c′ p
   pub xmax-once : (c′ .xmax p ≡ c .xmax p) ⊎ (c .xmax p ≡ 0)
 
--- the index is upstream's history of the run: its postings are the replay of the events, which are coherent, and its stamps are those of the events that change a key
+-- the index is upstream's history of the run: its postings are the replay of the events, which are coherent, and its stamps are those of the events that change
+-- a key
 pub record HistoryStands (s : Store) (es : List Event) : Type 0 where
   pub postings-are : (k r : ℕ) → postingReplay (postingsOf (λ q. none)) es k r ≡ sameKey (s .index .posted r) (some k)
   pub live-keys : (r : ℕ) → s .index .posted r ≡ liveRows (λ q. none) es r
@@ -130,7 +134,8 @@ pub record HistoryStands (s : Store) (es : List Event) : Type 0 where
   pub stamps-are : (b : ℕ) → s .index .stamp b ≡ stampAt (s .sizes) (λ c. 0) (changing es) b
   pub candidates-are : (k r : ℕ) → member r (postedRows s k) ≡ ltb r (s .sizes .rows) && rawCandidates (postingReplay (postingsOf (λ q. none)) es) k r
   -- what a live transaction sees of a row, unless it sees a version of it that is still unpublished
-  pub snapshots-are : (j r : ℕ) → Live (s .txns j) → ((w : ℕ) → Unpublished (s .sizes) (s .chains) (s .txns w) r → seen (s .txns j .snapshot) (s .chains .xmin (s .chains .head r)) ≡ false)
+  pub snapshots-are : (j r : ℕ) → Live (s .txns j)
+      → ((w : ℕ) → Unpublished (s .sizes) (s .chains) (s .txns w) r → seen (s .txns j .snapshot) (s .chains .xmin (s .chains .head r)) ≡ false)
       → snapshotRows (λ q. none) es (s .txns j) r ≡ keyAt (s .chains) (versionOf (s .chains) (s .txns j .snapshot) r)
 
 -- a live transaction's xmin is the least of its active numbers and its own: so every number below it is seen, and none of these is among the active
@@ -163,13 +168,17 @@ pub record FinishedRead (s s′ : Store) (t : ℕ) (rs : List ℕ) : Type 0 wher
   pub recorded : (r : ℕ) → Among r rs → pending (txnOf s t .writes) r ≡ false → Among (recordOf (s .chains) (txnOf s t .snapshot) r) (txnOf s′ t .records)
   -- no record is lost, and no other is added
   pub kept : (q : ReadRecord) → Among q (txnOf s t .records) → Among q (txnOf s′ t .records)
-  pub no-other : (q : ReadRecord) → Among q (txnOf s′ t .records) → Among q (txnOf s t .records) ⊎ ((r : ℕ) × Among r rs × (pending (txnOf s t .writes) r ≡ false) × (q ≡ recordOf (s .chains) (txnOf s t .snapshot) r))
+  pub no-other : (q : ReadRecord) → Among q (txnOf s′ t .records)
+      → Among q (txnOf s t .records) ⊎ ((r : ℕ) × Among r rs × (pending (txnOf s t .writes) r ≡ false) × (q ≡ recordOf (s .chains) (txnOf s t .snapshot) r))
 
 -- DEMAND 3
 
--- a validated read stands: what transaction t read of key k at s₁, a snapshot taken at s₂ shows too, the same rows at the same versions and no others, each with the key and the payload that it had
+-- a validated read stands: what transaction t read of key k at s₁, a snapshot taken at s₂ shows too, the same rows at the same versions and no others, each
+-- with the key and the payload that it had
 pub record StandingRead (z : Sizes) (s₁ s₂ : Store) (t k : ℕ) (rs : List ℕ) : Type 0 where
   pub shows-same : shows (s₂ .chains) (z .rows) (snapshotNow s₂) k ≡ shows (s₁ .chains) (z .rows) (txnOf s₁ t .snapshot) k
   pub rows-are : map (λ (q : ReadRecord). q .row) (shows (s₁ .chains) (z .rows) (txnOf s₁ t .snapshot) k) ≡ rs
-  pub keys-are : (q : ReadRecord) → Among q (shows (s₁ .chains) (z .rows) (txnOf s₁ t .snapshot) k) → (s₁ .chains .key (q .ptr) ≡ some k) × (s₂ .chains .key (q .ptr) ≡ some k)
-  pub payloads-same : (q : ReadRecord) → Among q (shows (s₁ .chains) (z .rows) (txnOf s₁ t .snapshot) k) → s₂ .chains .payload (q .ptr) ≡ s₁ .chains .payload (q .ptr)
+  pub keys-are : (q : ReadRecord) → Among q (shows (s₁ .chains) (z .rows) (txnOf s₁ t .snapshot) k)
+      → (s₁ .chains .key (q .ptr) ≡ some k) × (s₂ .chains .key (q .ptr) ≡ some k)
+  pub payloads-same : (q : ReadRecord) → Among q (shows (s₁ .chains) (z .rows) (txnOf s₁ t .snapshot) k)
+      → s₂ .chains .payload (q .ptr) ≡ s₁ .chains .payload (q .ptr)

@@ -101,7 +101,8 @@ Stamps s (write t r c) b = ⊥
 Stamps s (prepare t) b = ⊥
 Stamps s (install t) b = ⊥
 Stamps s (end t) b = ⊥
-Stamps s (publish t) b = (r : ℕ) × Among r (madeRows (s .sizes) (s .chains) (txnOf s t .number) (txnOf s t .writes)) × (keyBefore (s .chains) r ≢ newKey (txnOf s t) r)
+Stamps s (publish t) b =
+    (r : ℕ) × Among r (madeRows (s .sizes) (s .chains) (txnOf s t .number) (txnOf s t .writes)) × (keyBefore (s .chains) r ≢ newKey (txnOf s t) r)
     × ((k : ℕ) × ((keyBefore (s .chains) r ≡ some k) ⊎ (newKey (txnOf s t) r ≡ some k)) × (b ≡ bucketOf (s .sizes) k))
 Stamps s (validate t) b = ⊥
 Stamps s (abort t) b = ⊥

@@ -10,7 +10,8 @@ use Rattle.base_lists.specs.Lists.{Among}
 use Rattle.model.specs.Store.{Sizes, Store, phaseOpen, phaseHolding, phaseCollected, phasePrepared, phaseInstalled, phaseEnded, rank, keyIn, bucketOf}
 use Rattle.model.specs.Verdict.{verdict, verdictNumber}
 use Rattle.model.specs.Steps.{hasRead, postedRows, foundRows, recordsAfter, pendingRows, readBuckets, neededBuckets}
-use Rattle.model.specs.Refusals.{WrongSize, refusalNumber, Step, begin, capture, collect, rows, write, prepare, install, end, publish, validate, abort, txnOf, liveCount, versionsAfter}
+use Rattle.model.specs.Refusals.{WrongSize, refusalNumber, Step, begin, capture, collect, rows, write, prepare, install, end, publish, validate, abort}
+use Rattle.model.specs.Refusals.{txnOf, liveCount, versionsAfter}
 use Rattle.model.specs.Shape.{rightShape}
 use Rattle.model.specs.Machine.{Answer, Done, Number, Stamp, Count, Rows, Judged, answerNumber, actor, step, canOpen}
 
@@ -127,7 +128,8 @@ writing s t r n = given 8 (txnOf s t .marked ≡ true) n (given 6 (s .sizes .row
 
 -- the number n that a step gives: the tests of document 01 from the first to the last, and 0 where none holds
 abbrev pub Given : Store → Step → ℕ → Type 0
-Given s begin n = given 16 (rightShape s ≡ false) n (given 3 (mostLive ≤ liveCount (s .txns)) n (given 2 (lastNumber < s .clock + liveCount (s .txns) + 2) n (n ≡ 0)))
+Given s begin n = given 16 (rightShape s ≡ false) n
+    (given 3 (mostLive ≤ liveCount (s .txns)) n (given 2 (lastNumber < s .clock + liveCount (s .txns) + 2) n (n ≡ 0)))
 Given s (capture t k) n = named s (capture t k) n
     (given 8 (txnOf s t .marked ≡ true) n
     (given 7 (ByAnother (s .held .holder) t (bucketFor s k)) n

@@ -27,7 +27,9 @@ stepEvents s (write t r c) older = older
 stepEvents s (prepare t) older = older
 stepEvents s (install t) older = older
 stepEvents s (end t) older = older
-stepEvents s (publish t) older = cond (eqb (answerNumber (step s (publish t) .answer)) 0) (addEvents s (txnOf s t) (madeRows (s .sizes) (s .chains) (txnOf s t .number) (txnOf s t .writes)) older) older
+stepEvents s (publish t) older =
+    cond (eqb (answerNumber (step s (publish t) .answer)) 0)
+    (addEvents s (txnOf s t) (madeRows (s .sizes) (s .chains) (txnOf s t .number) (txnOf s t .writes)) older) older
 stepEvents s (validate t) older = older
 stepEvents s (abort t) older = older
 

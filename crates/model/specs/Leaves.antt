@@ -6,7 +6,8 @@ use mathlib.Core.Logic.{_↔_, _≢_, _⊎_}
 use mathlib.Core.List.{List, [], _∷_, _++_}
 use Rattle.base_limits.specs.Limits.{mostLive}
 use Rattle.base_lists.specs.Lists.{Among}
-use Rattle.model.specs.Store.{Index, Held, Snapshot, Phase, Open, Holding, Collected, Prepared, Installed, Ended, IndexRead, Write, ReadRecord, Txn, Store, noTxn, rank, phaseEnded, keyIn}
+use Rattle.model.specs.Store.{Index, Held, Snapshot, Phase, Open, Holding, Collected, Prepared, Installed, Ended, IndexRead, Write, ReadRecord, Txn}
+use Rattle.model.specs.Store.{Store, noTxn, rank, phaseEnded, keyIn}
 use Rattle.model.specs.Seeing.{Live}
 use Rattle.model.specs.Contents.{keyHeld, payloadHeld}
 use Rattle.model.specs.Steps.{newTxn, addRead, postedRows, recordsAfter}

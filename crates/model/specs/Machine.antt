@@ -5,11 +5,15 @@ use mathlib.Core.Option.{Option, none, some}
 use mathlib.Core.List.{List, [], _∷_, _++_}
 use lib.Dec.{eqb, ltb, leb}
 use lib.ListN.{length, drop}
-use Rattle.model.specs.Store.{Sizes, Txn, Store, Ended, phaseOpen, phaseHolding, phaseCollected, phasePrepared, phaseInstalled, phaseEnded, rank, keyIn, bucketOf}
+use Rattle.model.specs.Store.{Sizes, Txn, Store, Ended, phaseOpen, phaseHolding, phaseCollected, phasePrepared, phaseInstalled, phaseEnded, rank, keyIn}
+use Rattle.model.specs.Store.{bucketOf}
 use Rattle.model.specs.Verdict.{Verdict, verdict, verdictNumber, verdictValues}
 use Rattle.model.specs.Steps.{begun, stale, captured, collected, postedRows, foundRows, readDone, written, prepared, installed, becomes, published, ended}
 use Rattle.model.specs.Contents.{pendingWrite}
-use Rattle.model.specs.Refusals.{Refusal, WrongSize, NoNumbers, Full, NoSuch, WrongPhase, NoRow, Taken, Stale, Marked, ManyReads, NoRoom, ManyRecords, ManyWrites, NoVersions, Conflict, Malformed, WrongShape, refusalNumber, Step, begin, capture, collect, rows, write, prepare, install, end, publish, validate, abort, placeOf, txnOf, found, beginChecks, captureChecks, rowsChecks, writeChecks, prepareChecks, validateChecks, refusal}
+use Rattle.model.specs.Refusals.{Refusal, WrongSize, NoNumbers, Full, NoSuch, WrongPhase, NoRow, Taken, Stale, Marked, ManyReads, NoRoom, ManyRecords}
+use Rattle.model.specs.Refusals.{ManyWrites, NoVersions, Conflict, Malformed, WrongShape, refusalNumber, Step, begin, capture, collect, rows, write}
+use Rattle.model.specs.Refusals.{prepare, install, end, publish, validate, abort, placeOf, txnOf, found, beginChecks, captureChecks, rowsChecks}
+use Rattle.model.specs.Refusals.{writeChecks, prepareChecks, validateChecks, refusal}
 use Rattle.model.specs.Shape.{goodSizes, rightShape}
 
 -- what a step answers

@@ -6,7 +6,8 @@ use mathlib.Core.List.{List, [], _∷_, _++_, map}
 use lib.Dec.{eqb, leb}
 use Rattle.base_lists.specs.Lists.{member, least, pick, some-of, join}
 use Rattle.base_lists.specs.Table.{update, updateAll}
-use Rattle.model.specs.Store.{Sizes, Chains, Index, Held, Phase, Open, Holding, Collected, Prepared, Installed, IndexRead, Write, ReadRecord, Txn, Store, noTxn, bucketIn, keyIn, keyed, sameKey, bucketOf}
+use Rattle.model.specs.Store.{Sizes, Chains, Index, Held, Phase, Open, Holding, Collected, Prepared, Installed, IndexRead, Write, ReadRecord, Txn, Store}
+use Rattle.model.specs.Store.{noTxn, bucketIn, keyIn, keyed, sameKey, bucketOf}
 use Rattle.model.specs.Seeing.{keyAt, lastWrite, pending, writtenKey, matches, recordOf, activeNumbers}
 
 -- one part of the store, or of a transaction, anew
@@ -30,7 +31,16 @@ abbrev pub tick : Store → Store
 tick s = record { sizes = s .sizes; clock = suc (s .clock); chains = s .chains; index = s .index; held = s .held; txns = s .txns }
 
 abbrev pub withPhase : Txn → Phase → Txn
-withPhase x ph = record { number = x .number; snapshot = x .snapshot; marked = x .marked; phase = ph; reads = x .reads; writes = x .writes; records = x .records; candidates = x .candidates }
+withPhase x ph = record {
+  number = x .number;
+  snapshot = x .snapshot;
+  marked = x .marked;
+  phase = ph;
+  reads = x .reads;
+  writes = x .writes;
+  records = x .records;
+  candidates = x .candidates;
+}
 
 abbrev pub becomes : Store → ℕ → Phase → Store
 becomes s i ph = withTxn s i (withPhase (s .txns i) ph)
@@ -53,7 +63,16 @@ begun s i = tick (withTxn s i (newTxn s))
 
 -- capture: a stale stamp sets the mark and nothing else
 abbrev pub markedTxn : Txn → Txn
-markedTxn x = record { number = x .number; snapshot = x .snapshot; marked = true; phase = x .phase; reads = x .reads; writes = x .writes; records = x .records; candidates = x .candidates }
+markedTxn x = record {
+  number = x .number;
+  snapshot = x .snapshot;
+  marked = true;
+  phase = x .phase;
+  reads = x .reads;
+  writes = x .writes;
+  records = x .records;
+  candidates = x .candidates;
+}
 
 abbrev pub stale : Store → ℕ → Store
 stale s i = withTxn s i (markedTxn (s .txns i))
@@ -121,14 +140,32 @@ abbrev pub recordsAfter : Store → Txn → List ReadRecord
 recordsAfter s x = recordAll (s .chains) x (x .records) (foundRows s x)
 
 abbrev pub readTxn : Store → Txn → Txn
-readTxn s x = record { number = x .number; snapshot = x .snapshot; marked = x .marked; phase = Open; reads = x .reads; writes = x .writes; records = recordsAfter s x; candidates = [] }
+readTxn s x = record {
+  number = x .number;
+  snapshot = x .snapshot;
+  marked = x .marked;
+  phase = Open;
+  reads = x .reads;
+  writes = x .writes;
+  records = recordsAfter s x;
+  candidates = [];
+}
 
 abbrev pub readDone : Store → ℕ → Store
 readDone s i = withTxn s i (readTxn s (s .txns i))
 
 -- a write is appended to the pending ones
 abbrev pub writtenTxn : Txn → Write → Txn
-writtenTxn x w = record { number = x .number; snapshot = x .snapshot; marked = x .marked; phase = x .phase; reads = x .reads; writes = x .writes ++ (w ∷ []); records = x .records; candidates = x .candidates }
+writtenTxn x w = record {
+  number = x .number;
+  snapshot = x .snapshot;
+  marked = x .marked;
+  phase = x .phase;
+  reads = x .reads;
+  writes = x .writes ++ (w ∷ []);
+  records = x .records;
+  candidates = x .candidates;
+}
 
 abbrev pub written : Store → ℕ → Write → Store
 written s i w = withTxn s i (writtenTxn (s .txns i) w)
@@ -173,7 +210,8 @@ unfoldable pub readBuckets : Txn → List ℕ
 readBuckets x = map (λ (r : IndexRead). r .bucket) (x .reads)
 
 unfoldable pub neededBuckets : Store → Txn → List ℕ
-neededBuckets s x = readBuckets x ++ join (λ r. keyBuckets (s .sizes) (oldKey (s .chains) r) ++ keyBuckets (s .sizes) (newKey x r)) (pendingRows (s .sizes) (x .writes))
+neededBuckets s x = readBuckets x ++ join (λ r. keyBuckets (s .sizes) (oldKey (s .chains) r) ++ keyBuckets (s .sizes) (newKey x r))
+    (pendingRows (s .sizes) (x .writes))
 
 -- claims every pending row
 abbrev pub preparedHeld : Store → Txn → Held

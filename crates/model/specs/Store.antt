@@ -86,7 +86,16 @@ pub record Store : Type 0 where
 
 -- what stands at a free place
 abbrev pub noTxn : Txn
-noTxn = record { number = 0; snapshot = record { xmin = 0; xmax = 0; active = [] }; marked = false; phase = Open; reads = []; writes = []; records = []; candidates = [] }
+noTxn = record {
+  number = 0;
+  snapshot = record { xmin = 0; xmax = 0; active = [] };
+  marked = false;
+  phase = Open;
+  reads = [];
+  writes = [];
+  records = [];
+  candidates = [];
+}
 
 -- a fresh store has no versions, all stamps 0, no postings, and the clock given to it
 abbrev pub fresh : Sizes → ℕ → Store

@@ -21,7 +21,8 @@ creatorVisible x n = eqb n (x .number) || ltb n (x .snapshot .xmin) || (ltb n (x
 unfoldable pub rowVisible : Chains → Txn → ℕ → Bool
 rowVisible c x p =
     eqb (c .xmin p) (x .number)
-    || (creatorVisible x (c .xmin p) && (eqb (c .xmax p) 0 || (not (eqb (c .xmax p) (x .number)) && (leb (x .snapshot .xmax) (c .xmax p) || member (c .xmax p) (x .snapshot .active)))))
+    || (creatorVisible x (c .xmin p)
+    && (eqb (c .xmax p) 0 || (not (eqb (c .xmax p) (x .number)) && (leb (x .snapshot .xmax) (c .xmax p) || member (c .xmax p) (x .snapshot .active)))))
 
 -- first_visible: from a pointer down its chain; each next is below its own pointer, so as many steps as the pointer are enough
 unfoldable pub firstRow : Chains → Txn → ℕ → ℕ → Option ℕ
@@ -60,13 +61,15 @@ matchesRow capacity c x k r = ltb r capacity && holdsKey k (selectedValue c x r)
 
 -- recording: a record is pushed unless its pointer is among the earlier ones
 unfoldable pub recordingOf : List ReadRecord → ℕ → ℕ → ℕ → List ReadRecord
-recordingOf earlier row ptr xmin = cond (some-of (λ (q : ReadRecord). eqb (q .ptr) ptr) earlier) earlier (earlier ++ (record { row = row; ptr = ptr; xmin = xmin } ∷ []))
+recordingOf earlier row ptr xmin =
+    cond (some-of (λ (q : ReadRecord). eqb (q .ptr) ptr) earlier) earlier (earlier ++ (record { row = row; ptr = ptr; xmin = xmin } ∷ []))
 
 -- read_conflict, reads_conflict
 unfoldable pub readConflict : Chains → Txn → ReadRecord → Bool
 readConflict c x q =
     not (eqb (c .xmin (q .ptr)) (q .xmin))
-    || (not (eqb (c .xmax (q .ptr)) 0) && not (eqb (c .xmax (q .ptr)) (x .number)) && (leb (x .snapshot .xmax) (c .xmax (q .ptr)) || member (c .xmax (q .ptr)) (x .snapshot .active)))
+    || (not (eqb (c .xmax (q .ptr)) 0) && not (eqb (c .xmax (q .ptr)) (x .number))
+    && (leb (x .snapshot .xmax) (c .xmax (q .ptr)) || member (c .xmax (q .ptr)) (x .snapshot .active)))
 
 unfoldable pub readsConflict : Chains → Txn → Bool
 readsConflict c x = some-of (readConflict c x) (x .records)

@@ -1,4 +1,5 @@
--- A quiet store, in which nobody is live, and a transaction that runs in it alone: nobody else holds or claims anything, and it sees the store's rows. Assumes nothing.
+-- A quiet store, in which nobody is live, and a transaction that runs in it alone: nobody else holds or claims anything, and it sees the store's rows. Assumes
+-- nothing.
 use mathlib.Core.Path.{_≡_, sym, ap, _∙_}
 use mathlib.Core.Bool.{true, false}
 use mathlib.Core.Logic.{_≢_, _⊎_, inl, inr}
@@ -74,7 +75,10 @@ module _ (s : Store) (q : Quiet s) where
     -- its snapshot shows the quiet store's rows
     pub shows-quiet : (r : ℕ) → liveRow s r ≡ contentOf (t .chains) (t .txns 0 .snapshot) r
     unfolding contentOf
-    shows-quiet r = rw (a .chains-are) (quiet-head r ∙ ap (λ p. content (keyAt (s .chains) p) (s .chains .payload p)) (sym (finds-head (s .chains) (t .txns 0 .snapshot) (q .good .chained) r sees)))
+    shows-quiet r = rw (a .chains-are)
+        (quiet-head r ∙ ap (λ p. content (keyAt (s .chains) p) (s .chains .payload p))
+        (sym (finds-head (s .chains) (t .txns 0 .snapshot) (q .good .chained) r sees)))
       where
         sees : 1 ≤ s .chains .head r → seen (t .txns 0 .snapshot) (s .chains .xmin (s .chains .head r)) ≡ true
-        sees l = which-seen (t .txns 0 .snapshot) (s .chains .xmin (s .chains .head r)) (omega (arith, a .xmax-is, q .good .below .xmin-below (s .chains .head r))) (λ m. rw (a .active-is) at m)
+        sees l = which-seen (t .txns 0 .snapshot) (s .chains .xmin (s .chains .head r))
+            (omega (arith, a .xmax-is, q .good .below .xmin-below (s .chains .head r))) (λ m. rw (a .active-is) at m)

@@ -35,7 +35,8 @@ use Rattle.model_in_turn.proofs.Following.{Followed, follow-others}
 use Rattle.model_in_turn.proofs.Counting.{waiting, running, over, Counted, counted-move}
 
 -- who is followed under its own number is so under any that equals it
-pub renamed : (s : Store) (i : ℕ) (es : List Entry) (n t : ℕ) → n ≡ t → (x : Local) × Followed s i n (doneBy n es) x → (x : Local) × Followed s i t (doneBy t es) x
+pub renamed : (s : Store) (i : ℕ) (es : List Entry) (n t : ℕ) → n ≡ t → (x : Local) × Followed s i n (doneBy n es) x
+    → (x : Local) × Followed s i t (doneBy t es) x
 renamed s i es n t e w = rw e at w
 
 -- who has ended stays so
@@ -46,8 +47,11 @@ gone-move s s′ m n h = (omega (arith, h .0, clock-move s s′ m), go (numberin
   where
     go : Numbering s s′ → (i : ℕ) → Live (s′ .txns i) → s′ .txns i .number ≡ n → rank (s′ .txns i .phase) ≡ phaseEnded
     go (began j e a b c) i l p = elim (ℕ-discrete i j) [
-      | yes d ↦ let q : s′ .txns j .number ≡ s .clock = ap (λ (w : Store). w .txns j .number) e ∙ ap (λ (v : Txn). v .number) (update-same (s .txns) j (newTxn s)) in let r : s′ .txns i .number ≡ s′ .txns j .number = ap (λ k. s′ .txns k .number) d in absurd (omega (arith, h .0, p, q, r))
-      | no d ↦ let same : s′ .txns i ≡ s .txns i = ap (λ w. w .txns i) e ∙ update-other (s .txns) j (newTxn s) i d in rw same (h .1 i (rw same at l) (rw same at p))
+      | yes d ↦ let q : s′ .txns j .number ≡ s .clock =
+          ap (λ (w : Store). w .txns j .number) e ∙ ap (λ (v : Txn). v .number) (update-same (s .txns) j (newTxn s)) in
+          let r : s′ .txns i .number ≡ s′ .txns j .number = ap (λ k. s′ .txns k .number) d in absurd (omega (arith, h .0, p, q, r))
+      | no d ↦ let same : s′ .txns i ≡ s .txns i = ap (λ w. w .txns i) e ∙ update-other (s .txns) j (newTxn s) i d in
+          rw same (h .1 i (rw same at l) (rw same at p))
     ]
     go (kept k u) i l p = top (ltb (rank (s′ .txns i .phase)) phaseEnded) refl
       where
@@ -86,7 +90,8 @@ module _ (z : Sizes) (c₀ : ℕ) where
     pub beside : Beside s es
 
   -- nobody ends
-  pub beside-still : (s s′ : Store) (es es′ : List Entry) → Beside s es → oneByOne c₀ es′ ≡ oneByOne c₀ es → endOrder es′ ≡ endOrder es → s′ .sizes ≡ s .sizes → ((r : ℕ) → liveRow s′ r ≡ liveRow s r) → Counted s s′ → Beside s′ es′
+  pub beside-still : (s s′ : Store) (es es′ : List Entry) → Beside s es → oneByOne c₀ es′ ≡ oneByOne c₀ es → endOrder es′ ≡ endOrder es
+      → s′ .sizes ≡ s .sizes → ((r : ℕ) → liveRow s′ r ≡ liveRow s r) → Counted s s′ → Beside s′ es′
   beside-still s s′ es es′ h te oe zs live c = record {
     same = rw te (h .same);
     quiet = rw te (h .quiet);
@@ -113,7 +118,13 @@ module _ (z : Sizes) (c₀ : ℕ) where
     no-end : (i : ℕ) → Live (s .txns i) → rank (s .txns i .phase) ≡ phaseInstalled → s′ ≡ becomes s i Ended → ⊥
     no-end i l a c = elim (ℕ-discrete i b) [
       | yes d ↦ not-five (rw d at l) (rw d at a)
-      | no d ↦ omega (arith, a, ap (λ (v : Txn). rank (v .phase)) (untouched s s′ m i d), ap (λ w. rank (w .txns i .phase)) c, ap (λ (v : Txn). rank (v .phase)) (update-same (s .txns) i (withPhase (s .txns i) Ended)))
+      | no d ↦ omega (
+        arith,
+        a,
+        ap (λ (v : Txn). rank (v .phase)) (untouched s s′ m i d),
+        ap (λ w. rank (w .txns i .phase)) c,
+        ap (λ (v : Txn). rank (v .phase)) (update-same (s .txns) i (withPhase (s .txns i) Ended)),
+      )
     ]
 
     order-same : endOrder (es ++ (e ∷ [])) ≡ endOrder es

@@ -70,11 +70,25 @@ writing x w = record { phase = x .phase; buckets = x .buckets; writes = x .write
 -- one accepted step of number n over rows of content m: what it reads, and what it leaves
 pub data Plays (z : Sizes) (m : ℕ → Content) (n : ℕ) (x : Local) : Step → List (ℕ × Content) → Local → Type 0 where
   plays-capture : (k : ℕ) → x .phase ≡ Open → (member (bucketOf z k) (x .buckets) ≡ true) ⊎ (length (x .buckets) < mostIndexReads)
-      → Plays z m n x (capture n k) [] (record { phase = Holding (bucketOf z k) k; buckets = addBucket (x .buckets) (bucketOf z k); writes = x .writes; records = x .records; done = x .done })
+      → Plays z m n x (capture n k) []
+      (record {
+        phase = Holding (bucketOf z k) k;
+        buckets = addBucket (x .buckets) (bucketOf z k);
+        writes = x .writes;
+        records = x .records;
+        done = x .done;
+      })
   plays-collect : (b k : ℕ) → x .phase ≡ Holding b k → Plays z m n x (collect n) [] (phased x (Collected k))
   plays-rows : (room k : ℕ) (rs : List ℕ) (read : List (ℕ × Content)) → x .phase ≡ Collected k → rs ≡ rowsIn z m (x .writes) k → read ≡ readIn z m (x .writes) k
       → length rs ≤ min room mostRows → length (recordRows (x .writes) (x .records) rs) ≤ mostRecords
-      → Plays z m n x (rows n room) read (record { phase = Open; buckets = x .buckets; writes = x .writes; records = recordRows (x .writes) (x .records) rs; done = x .done ++ ((k, x .writes) ∷ []) })
+      → Plays z m n x (rows n room) read
+      (record {
+        phase = Open;
+        buckets = x .buckets;
+        writes = x .writes;
+        records = recordRows (x .writes) (x .records) rs;
+        done = x .done ++ ((k, x .writes) ∷ []);
+      })
   plays-write : (r : ℕ) (c : Content) → x .phase ≡ Open → r < z .rows → length (x .writes) < mostWrites
       → Plays z m n x (write n r c) [] (writing x (pendingWrite r c))
   plays-validate : x .phase ≡ Open → Plays z m n x (validate n) [] x
@@ -85,7 +99,8 @@ pub data Plays (z : Sizes) (m : ℕ → Content) (n : ℕ) (x : Local) : Step �
 -- all accepted steps of number n, from its begin on
 pub data Played (z : Sizes) (m : ℕ → Content) (n : ℕ) : List Entry → Local → Type 0 where
   begins : Played z m n (record { who = n; what = begin; read = [] } ∷ []) started
-  then : {es : List Entry} {x y : Local} {a : Step} {read : List (ℕ × Content)} → Played z m n es x → Plays z m n x a read y → Played z m n (es ++ (record { who = n; what = a; read = read } ∷ [])) y
+  then : {es : List Entry} {x y : Local} {a : Step} {read : List (ℕ × Content)} → Played z m n es x → Plays z m n x a read y
+      → Played z m n (es ++ (record { who = n; what = a; read = read } ∷ [])) y
 
 -- two contents are the same wherever one of them carries the key
 abbrev pub SameOn : ℕ → Content → Content → Type 0
@@ -96,7 +111,8 @@ abbrev pub Agreeing : Sizes → (ℕ → Content) → (ℕ → Content) → Loca
 Agreeing z m m′ x = (q : ℕ × List Write) → Among q (x .done) → (r : ℕ) → r < z .rows → pending (q .1) r ≡ false → SameOn (q .0) (m r) (m′ r)
 
 -- finished reads stay
-done-kept : (z : Sizes) (m : ℕ → Content) (n : ℕ) (x y : Local) (a : Step) (read : List (ℕ × Content)) → Plays z m n x a read y → (q : ℕ × List Write) → Among q (x .done) → Among q (y .done)
+done-kept : (z : Sizes) (m : ℕ → Content) (n : ℕ) (x y : Local) (a : Step) (read : List (ℕ × Content)) → Plays z m n x a read y → (q : ℕ × List Write)
+    → Among q (x .done) → Among q (y .done)
 done-kept z m n x y a read (plays-capture k p o) q i = i
 done-kept z m n x y a read (plays-collect b k p) q i = i
 done-kept z m n x y a read (plays-rows room k rs e p f g u v) q i = among-left q (x .done) _ i
@@ -111,7 +127,8 @@ module _ (z : Sizes) (m m′ : ℕ → Content) (ws : List Write) (k : ℕ) (sam
   unfolding shownIn
   test-same r u = go (pending ws r) refl
     where
-      go : (b : Bool) → pending ws r ≡ b → carries (cond b (content (writtenKey (lastWrite ws r)) (writtenPayload (lastWrite ws r))) (m r)) k ≡ carries (cond b (content (writtenKey (lastWrite ws r)) (writtenPayload (lastWrite ws r))) (m′ r)) k
+      go : (b : Bool) → pending ws r ≡ b → carries (cond b (content (writtenKey (lastWrite ws r)) (writtenPayload (lastWrite ws r))) (m r)) k
+          ≡ carries (cond b (content (writtenKey (lastWrite ws r)) (writtenPayload (lastWrite ws r))) (m′ r)) k
       go true p = refl
       go false p = let s = same r u p in same-test _ _ (λ e. ap (λ c. carries c k) (s .0 e) ∙ e) (λ e. ap (λ c. carries c k) (sym (s .1 e)) ∙ e)
 
@@ -120,7 +137,8 @@ module _ (z : Sizes) (m m′ : ℕ → Content) (ws : List Write) (k : ℕ) (sam
   shown-same r u = go (pending ws r) refl
     where
       go : (b : Bool) → pending ws r ≡ b → carries (cond b (content (writtenKey (lastWrite ws r)) (writtenPayload (lastWrite ws r))) (m′ r)) k ≡ true
-          → cond b (content (writtenKey (lastWrite ws r)) (writtenPayload (lastWrite ws r))) (m r) ≡ cond b (content (writtenKey (lastWrite ws r)) (writtenPayload (lastWrite ws r))) (m′ r)
+          → cond b (content (writtenKey (lastWrite ws r)) (writtenPayload (lastWrite ws r))) (m r)
+          ≡ cond b (content (writtenKey (lastWrite ws r)) (writtenPayload (lastWrite ws r))) (m′ r)
       go true p e = refl
       go false p e = sym (same r u p .1 e)
 
@@ -130,10 +148,12 @@ module _ (z : Sizes) (m m′ : ℕ → Content) (ws : List Write) (k : ℕ) (sam
 
   pub reads-same : readIn z m ws k ≡ readIn z m′ ws k
   unfolding readIn rowsIn
-  reads-same = map-pick (λ r. (r, shownIn m ws r)) (λ r. (r, shownIn m′ ws r)) _ _ 0 (z .rows) (λ r lo hi. test-same r (omega arith)) (λ r lo hi e. ap (λ c. (r, c)) (shown-same r (omega arith) e))
+  reads-same = map-pick (λ r. (r, shownIn m ws r)) (λ r. (r, shownIn m′ ws r)) _ _ 0 (z .rows) (λ r lo hi. test-same r (omega arith))
+      (λ r lo hi e. ap (λ c. (r, c)) (shown-same r (omega arith) e))
 
 -- over rows that agree for its reads, a transaction does the same
-plays-switch : (z : Sizes) (m m′ : ℕ → Content) (n : ℕ) (x y : Local) (a : Step) (read : List (ℕ × Content)) → Agreeing z m m′ y → Plays z m n x a read y → Plays z m′ n x a read y
+plays-switch : (z : Sizes) (m m′ : ℕ → Content) (n : ℕ) (x y : Local) (a : Step) (read : List (ℕ × Content)) → Agreeing z m m′ y → Plays z m n x a read y
+    → Plays z m′ n x a read y
 plays-switch z m m′ n x y a read h (plays-capture k p o) = plays-capture k p o
 plays-switch z m m′ n x y a read h (plays-collect b k p) = plays-collect b k p
 plays-switch z m m′ n x y a read h (plays-rows room k rs e p f g u v) =
@@ -147,4 +167,5 @@ plays-switch z m m′ n x y a read h (plays-end p) = plays-end p
 
 pub played-switch : (z : Sizes) (m m′ : ℕ → Content) (n : ℕ) (es : List Entry) (x : Local) → Agreeing z m m′ x → Played z m n es x → Played z m′ n es x
 played-switch z m m′ n es x h begins = begins
-played-switch z m m′ n es y h (then {x = x} d p) = then (played-switch z m m′ n _ x (λ q i. h q (done-kept z m n x y _ _ p q i)) d) (plays-switch z m m′ n x y _ _ h p)
+played-switch z m m′ n es y h (then {x = x} d p) =
+    then (played-switch z m m′ n _ x (λ q i. h q (done-kept z m n x y _ _ p q i)) d) (plays-switch z m m′ n x y _ _ h p)

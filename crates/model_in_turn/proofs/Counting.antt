@@ -16,7 +16,8 @@ use Rattle.model.specs.Store.{Sizes, Installed, Ended, Txn, Store, noTxn, rank,
 use Rattle.model.specs.Seeing.{live, Live}
 use Rattle.model.specs.Steps.{withPhase, becomes, newTxn, begun, oldKey, versionRows, installed, ended, published}
 use Rattle.model.specs.Refusals.{liveCount}
-use Rattle.model.proofs.Move.{live-test, Move, stay, did-begin, did-mark, did-capture, did-collect, did-rows, did-write, did-prepare, did-install, did-end, did-publish, did-abort}
+use Rattle.model.proofs.Move.{live-test, Move, stay, did-begin, did-mark, did-capture, did-collect, did-rows, did-write, did-prepare, did-install, did-end}
+use Rattle.model.proofs.Move.{did-publish, did-abort}
 use Rattle.model.proofs.Numbers.{in-place}
 use Rattle.model.proofs.Holders.{posted-kept}
 use Rattle.model.proofs.Made.{versionsOver, versions-old, versions-same}
@@ -78,8 +79,7 @@ module _ (z : Sizes) (posted : ℕ → Option ℕ) (x : Txn) where
       waits = wait-not (λ f. omega arith);
       runs = rw
           (not-below (rank (x .phase)) phaseEnded (omega arith), and-false (live x)) refl;
-      is-over =
-          rw (live-test x l, not-below (rank (x .phase)) phaseEnded (omega arith)) refl;
+      is-over = rw (live-test x l, not-below (rank (x .phase)) phaseEnded (omega arith)) refl;
     }
 
 live-parts : (x : Txn) → one (live x) ≡ running x + over x
@@ -107,7 +107,8 @@ record Change (z : Sizes) (posted : ℕ → Option ℕ) (t t′ : ℕ → Txn) (
   pub runs : sum running t′ mostLive + r ≡ sum running t mostLive + r′
   pub are-over : sum over t′ mostLive + o ≡ sum over t mostLive + o′
 
-change : (z : Sizes) (posted : ℕ → Option ℕ) (t : ℕ → Txn) (i : ℕ) (x : Txn) {w r o w′ r′ o′ : ℕ} → i < mostLive → Counts z posted (t i) w r o → Counts z posted x w′ r′ o′ → Change z posted t (update t i x) w r o w′ r′ o′
+change : (z : Sizes) (posted : ℕ → Option ℕ) (t : ℕ → Txn) (i : ℕ) (x : Txn) {w r o w′ r′ o′ : ℕ} → i < mostLive → Counts z posted (t i) w r o
+    → Counts z posted x w′ r′ o′ → Change z posted t (update t i x) w r o w′ r′ o′
 change z posted t i x u c c′ = record {
   waits = omega (arith, sum-set (waiting z posted) t i x mostLive u, c .waits, c′ .waits);
   runs = omega (arith, sum-set running t i x mostLive u, c .runs, c′ .runs);
@@ -116,14 +117,17 @@ change z posted t i x u c c′ = record {
 
 -- what a step that ends nobody adds
 pub record Counted (s s′ : Store) : Type 0 where
-  pub wait-is : s .chains .used + sum (waiting (s .sizes) (s′ .index .posted)) (s′ .txns) mostLive ≡ s′ .chains .used + sum (waiting (s .sizes) (s .index .posted)) (s .txns) mostLive
-  pub count-is : s .clock + sum over (s .txns) mostLive + sum running (s′ .txns) mostLive ≤ s′ .clock + sum over (s′ .txns) mostLive + sum running (s .txns) mostLive
+  pub wait-is : s .chains .used + sum (waiting (s .sizes) (s′ .index .posted)) (s′ .txns) mostLive ≡ s′ .chains .used
+      + sum (waiting (s .sizes) (s .index .posted)) (s .txns) mostLive
+  pub count-is : s .clock + sum over (s .txns) mostLive + sum running (s′ .txns) mostLive ≤ s′ .clock + sum over (s′ .txns) mostLive
+      + sum running (s .txns) mostLive
 
 -- one place goes on and neither installs nor ends
 on-counted : (s s′ : Store) (i : ℕ) (x : Txn) → Good s → s′ .txns ≡ update (s .txns) i x → s′ .chains ≡ s .chains → s′ .index ≡ s .index → s′ .clock ≡ s .clock
     → Live (s .txns i) → x .number ≡ s .txns i .number → rank (s .txns i .phase) < phaseInstalled → rank (x .phase) < phaseInstalled → Counted s s′
 on-counted s s′ i x g ts cs xs ck l e a b =
-    let c = change (s .sizes) (s .index .posted) (s .txns) i x (in-place (s .clock) (s .txns) (g .numbers) i l) (count-early (s .sizes) (s .index .posted) (s .txns i) l a) (count-early (s .sizes) (s .index .posted) x (omega arith) b) in
+    let c = change (s .sizes) (s .index .posted) (s .txns) i x (in-place (s .clock) (s .txns) (g .numbers) i l)
+    (count-early (s .sizes) (s .index .posted) (s .txns i) l a) (count-early (s .sizes) (s .index .posted) x (omega arith) b) in
     record { wait-is = rw (ts, cs, xs) (omega (arith, c .waits)); count-is = rw (ts, ck) (omega (arith, c .runs, c .are-over)) }
 
 -- what one waits for is not changed by another's publish
@@ -145,7 +149,8 @@ module _ (s : Store) (g : Good s) (i : ℕ) where
   -- a new one runs
   begin-counted : i < mostLive → s .txns i .number ≡ 0 → Counted s (begun s i)
   begin-counted u f =
-      let c = change (s .sizes) (s .index .posted) (s .txns) i (newTxn s) u (count-free (s .sizes) (s .index .posted) (s .txns i) f) (count-early (s .sizes) (s .index .posted) (newTxn s) (g .numbers .clock-pos) (omega arith)) in
+      let c = change (s .sizes) (s .index .posted) (s .txns) i (newTxn s) u (count-free (s .sizes) (s .index .posted) (s .txns i) f)
+      (count-early (s .sizes) (s .index .posted) (newTxn s) (g .numbers .clock-pos) (omega arith)) in
       record { wait-is = omega (arith, c .waits); count-is = omega (arith, c .runs, c .are-over) }
 
   module _ (l : Live (s .txns i)) where
@@ -155,22 +160,29 @@ module _ (s : Store) (g : Good s) (i : ℕ) where
     -- the versions that it makes wait for its end
     install-counted : rank (s .txns i .phase) ≡ phasePrepared → Counted s (installed s i)
     install-counted a =
-        let c = change (s .sizes) (s .index .posted) (s .txns) i (withPhase (s .txns i) Installed) u (count-early (s .sizes) (s .index .posted) (s .txns i) l (omega arith)) (count-installed (s .sizes) (s .index .posted) (withPhase (s .txns i) Installed) l refl) in
+        let c = change (s .sizes) (s .index .posted) (s .txns) i (withPhase (s .txns i) Installed) u
+        (count-early (s .sizes) (s .index .posted) (s .txns i) l (omega arith))
+        (count-installed (s .sizes) (s .index .posted) (withPhase (s .txns i) Installed) l refl) in
         let p = used-pushAll (s .txns i) (versionRows (s .sizes) (s .chains) (s .txns i .writes)) (s .chains) in
-        let v = ap length (versions-old (s .sizes) (s .chains) (s .txns i .writes) ∙ versions-same (s .sizes) (s .index .posted) (oldKey (s .chains)) (s .txns i) (λ r w. sym (posted-old s (g .numbers) (g .holders) (g .written) i r a w))) in
+        let v = ap length (versions-old (s .sizes) (s .chains) (s .txns i .writes)
+        ∙ versions-same (s .sizes) (s .index .posted) (oldKey (s .chains)) (s .txns i)
+        (λ r w. sym (posted-old s (g .numbers) (g .holders) (g .written) i r a w))) in
         record { wait-is = omega (arith, c .waits, p, v); count-is = omega (arith, c .runs, c .are-over) }
 
     -- who was over is gone
     publish-counted : rank (s .txns i .phase) ≡ phaseEnded → Counted s (published s i)
     publish-counted a =
-        let c = change (s .sizes) (s .index .posted) (s .txns) i noTxn u (count-ended (s .sizes) (s .index .posted) (s .txns i) l a) (count-free (s .sizes) (s .index .posted) noTxn refl) in
-        let o = sum-same (waiting (s .sizes) (s .index .posted)) (waiting (s .sizes) (published s i .index .posted)) (published s i .txns) (published s i .txns) mostLive (λ j u. posted-waits s i g a j) in
+        let c = change (s .sizes) (s .index .posted) (s .txns) i noTxn u (count-ended (s .sizes) (s .index .posted) (s .txns i) l a)
+        (count-free (s .sizes) (s .index .posted) noTxn refl) in
+        let o = sum-same (waiting (s .sizes) (s .index .posted)) (waiting (s .sizes) (published s i .index .posted)) (published s i .txns)
+        (published s i .txns) mostLive (λ j u. posted-waits s i g a j) in
         record { wait-is = omega (arith, c .waits, o); count-is = omega (arith, c .runs, c .are-over) }
 
     -- who ran is gone
     abort-counted : rank (s .txns i .phase) < phaseInstalled → Counted s (ended s i)
     abort-counted a =
-        let c = change (s .sizes) (s .index .posted) (s .txns) i noTxn u (count-early (s .sizes) (s .index .posted) (s .txns i) l a) (count-free (s .sizes) (s .index .posted) noTxn refl) in
+        let c = change (s .sizes) (s .index .posted) (s .txns) i noTxn u (count-early (s .sizes) (s .index .posted) (s .txns i) l a)
+        (count-free (s .sizes) (s .index .posted) noTxn refl) in
         record { wait-is = omega (arith, c .waits); count-is = omega (arith, c .runs, c .are-over) }
 
 pub counted-move : (s s′ : Store) {b : ℕ} → Good s → Move s b s′
@@ -190,12 +202,14 @@ counted-move s s′ g (did-abort i a b) no-end = abort-counted s g i a b
 
 -- what an end adds: its versions are shown, and it runs no more
 pub record Ends (s : Store) (i : ℕ) : Type 0 where
-  pub wait-is : sum (waiting (s .sizes) (s .index .posted)) (becomes s i Ended .txns) mostLive + length (versionsOver (s .sizes) (s .index .posted) (s .txns i .writes)) ≡ sum (waiting (s .sizes) (s .index .posted)) (s .txns) mostLive
+  pub wait-is : sum (waiting (s .sizes) (s .index .posted)) (becomes s i Ended .txns) mostLive
+      + length (versionsOver (s .sizes) (s .index .posted) (s .txns i .writes)) ≡ sum (waiting (s .sizes) (s .index .posted)) (s .txns) mostLive
   pub runs-are : sum running (becomes s i Ended .txns) mostLive + 1 ≡ sum running (s .txns) mostLive
   pub over-are : sum over (becomes s i Ended .txns) mostLive ≡ sum over (s .txns) mostLive + 1
 
 pub ends : (s : Store) (i : ℕ) → Good s → Live (s .txns i) → rank (s .txns i .phase) ≡ phaseInstalled → Ends s i
 ends s i g l a =
     let x = withPhase (s .txns i) Ended in
-    let c = change (s .sizes) (s .index .posted) (s .txns) i x (in-place (s .clock) (s .txns) (g .numbers) i l) (count-installed (s .sizes) (s .index .posted) (s .txns i) l a) (count-ended (s .sizes) (s .index .posted) x l refl) in
+    let c = change (s .sizes) (s .index .posted) (s .txns) i x (in-place (s .clock) (s .txns) (g .numbers) i l)
+    (count-installed (s .sizes) (s .index .posted) (s .txns i) l a) (count-ended (s .sizes) (s .index .posted) x l refl) in
     record { wait-is = omega (arith, c .waits); runs-are = omega (arith, c .runs); over-are = omega (arith, c .are-over) }

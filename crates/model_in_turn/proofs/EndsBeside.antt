@@ -93,49 +93,82 @@ module _ (z : Sizes) (c₀ : ℕ) where
     S = serially z c₀ es
 
     turn-is : oneByOne c₀ es′ ≡ oneByOne c₀ es ++ wholeOf (S .clock) t es′
-    turn-is = ap (λ l. inTurn c₀ l es′) order-is ∙ (turn-more c₀ (endOrder es) t es′ ∙ (ap (λ l. l ++ wholeOf (c₀ + (length (endOrder es) + length (endOrder es))) t es′) (turn-same c₀ (endOrder es) es′ es (λ n o. others-same n es e (rw (ne-eqb t n (not-yet n o)) refl))) ∙ ap (λ k. oneByOne c₀ es ++ wholeOf k t es′) (sym (h .beside .clock-is))))
+    turn-is = ap (λ l. inTurn c₀ l es′) order-is
+        ∙ (turn-more c₀ (endOrder es) t es′
+        ∙ (ap (λ l. l ++ wholeOf (c₀ + (length (endOrder es) + length (endOrder es))) t es′)
+        (turn-same c₀ (endOrder es) es′ es (λ n o. others-same n es e (rw (ne-eqb t n (not-yet n o)) refl)))
+        ∙ ap (λ k. oneByOne c₀ es ++ wholeOf k t es′) (sym (h .beside .clock-is))))
 
     -- over the turn's rows it does the same, under its new number
     again : Played (S .sizes) (liveRow S) (S .clock) (map (asNumber (S .clock)) (doneBy t es′)) (own .0)
-    again = resized (s .sizes) (S .sizes) (liveRow S) (S .clock) (map (asNumber (S .clock)) (doneBy t es′)) (own .0) (sym (h .beside .sizes-are)) (rw script-is (played-again (s .sizes) (liveRow S) t (S .clock) _ (own .0) (played-switch (s .sizes) (liveRow s) (liveRow S) t _ (own .0) (λ q o r u p. let c = h .beside .rows-are r u in ((λ d. c), (λ d. c))) (own .1))))
+    again = resized (s .sizes) (S .sizes) (liveRow S) (S .clock) (map (asNumber (S .clock)) (doneBy t es′)) (own .0) (sym (h .beside .sizes-are))
+        (rw script-is (played-again (s .sizes) (liveRow S) t (S .clock) _ (own .0)
+        (played-switch (s .sizes) (liveRow s) (liveRow S) t _ (own .0) (λ q o r u p. let c = h .beside .rows-are r u in ((λ d. c), (λ d. c))) (own .1))))
 
     count-b : Counts (s .sizes) (s .index .posted) (s .txns b) (length (versionsOver (s .sizes) (s .index .posted) (s .txns b .writes))) 1 0
     count-b = count-installed (s .sizes) (s .index .posted) (s .txns b) live-b fifth
 
     -- there are numbers left for it, and versions
     numbers-left : S .clock + 2 ≤ lastNumber
-    numbers-left = omega (arith, h .beside .numbers, h .good .room .numbers-left, live-count (s .txns), sum-has running (s .txns) b mostLive (in-place (s .clock) (s .txns) (h .good .numbers) b live-b), count-b .runs)
+    numbers-left = omega (
+      arith,
+      h .beside .numbers,
+      h .good .room .numbers-left,
+      live-count (s .txns),
+      sum-has running (s .txns) b mostLive (in-place (s .clock) (s .txns) (h .good .numbers) b live-b),
+      count-b .runs,
+    )
 
     -- its writes get in turn as many versions as they got
     old-key : (r : ℕ) → Writes (s .sizes) (s .txns b) r → oldKey (S .chains) r ≡ s .index .posted r
     unfolding contentOf pendingRows
     old-key r w =
         let u = pick-which (pending (s .txns b .writes)) 0 (s .sizes .rows) r w .1 in
-        sym (key-content (oldKey (S .chains) r) _) ∙ (ap contentKey (sym (quiet-head S (h .beside .quiet) r) ∙ h .beside .rows-are r (omega (arith, u))) ∙ (key-content (keyAt (s .chains) (versionOf (s .chains) (snapshotNow s) r)) _ ∙ key-before-end s b (h .good) live-b fifth r w))
+        sym (key-content (oldKey (S .chains) r) _)
+        ∙ (ap contentKey (sym (quiet-head S (h .beside .quiet) r) ∙ h .beside .rows-are r (omega (arith, u)))
+        ∙ (key-content (keyAt (s .chains) (versionOf (s .chains) (snapshotNow s) r)) _ ∙ key-before-end s b (h .good) live-b fifth r w))
 
     versions-are : versionRows (S .sizes) (S .chains) (own .0 .writes) ≡ versionsOver (s .sizes) (s .index .posted) (s .txns b .writes)
-    versions-are = ap (λ w. versionRows w (S .chains) (own .0 .writes)) (h .beside .sizes-are) ∙ (ap (versionRows (s .sizes) (S .chains)) (own .3) ∙ (versions-old (s .sizes) (S .chains) (s .txns b .writes) ∙ versions-same (s .sizes) (s .index .posted) (oldKey (S .chains)) (s .txns b) old-key))
+    versions-are = ap (λ w. versionRows w (S .chains) (own .0 .writes)) (h .beside .sizes-are)
+        ∙ (ap (versionRows (s .sizes) (S .chains)) (own .3)
+        ∙ (versions-old (s .sizes) (S .chains) (s .txns b .writes) ∙ versions-same (s .sizes) (s .index .posted) (oldKey (S .chains)) (s .txns b) old-key))
 
     versions-left : VersionsFit S (own .0 .writes)
-    versions-left = omega (arith, ap length versions-are, h .beside .used-is, ap (λ w. w .versions) (h .beside .sizes-are), h .good .room .versions-left, sum-has (waiting (s .sizes) (s .index .posted)) (s .txns) b mostLive (in-place (s .clock) (s .txns) (h .good .numbers) b live-b), count-b .waits)
+    versions-left = omega (
+      arith,
+      ap length versions-are,
+      h .beside .used-is,
+      ap (λ w. w .versions) (h .beside .sizes-are),
+      h .good .room .versions-left,
+      sum-has (waiting (s .sizes) (s .index .posted)) (s .txns) b mostLive (in-place (s .clock) (s .txns) (h .good .numbers) b live-b),
+      count-b .waits,
+    )
 
     took : Turned S (h .beside .quiet) numbers-left (map (asNumber (S .clock)) (doneBy t es′)) (own .0)
     took = turned S (h .beside .quiet) numbers-left (map (asNumber (S .clock)) (doneBy t es′)) (own .0) again (own .2) versions-left
 
     serial-is : serially z c₀ es′ ≡ run S (stepsIn (wholeOf (S .clock) t es′))
-    serial-is = ap (λ l. run (fresh z c₀) (stepsIn l)) turn-is ∙ (ap (run (fresh z c₀)) (map-append (λ (d : Entry). d .what) (oneByOne c₀ es) (wholeOf (S .clock) t es′)) ∙ run-append (fresh z c₀) (stepsIn (oneByOne c₀ es)) (stepsIn (wholeOf (S .clock) t es′)))
+    serial-is = ap (λ l. run (fresh z c₀) (stepsIn l)) turn-is
+        ∙ (ap (run (fresh z c₀)) (map-append (λ (d : Entry). d .what) (oneByOne c₀ es) (wholeOf (S .clock) t es′))
+        ∙ run-append (fresh z c₀) (stepsIn (oneByOne c₀ es)) (stepsIn (wholeOf (S .clock) t es′)))
 
     rows-after : (r : ℕ) → r < s .sizes .rows → shownIn (liveRow S) (own .0 .writes) r ≡ liveRow (becomes s b Ended) r
     unfolding shownIn pendingRows
     rows-after r u = rw (own .3) (go (pending (s .txns b .writes) r) refl)
       where
-        go : (c : Bool) → pending (s .txns b .writes) r ≡ c → cond c (content (writtenKey (lastWrite (s .txns b .writes) r)) (writtenPayload (lastWrite (s .txns b .writes) r))) (liveRow S r) ≡ liveRow (becomes s b Ended) r
+        go : (c : Bool) → pending (s .txns b .writes) r ≡ c
+            → cond c (content (writtenKey (lastWrite (s .txns b .writes) r)) (writtenPayload (lastWrite (s .txns b .writes) r))) (liveRow S r)
+            ≡ liveRow (becomes s b Ended) r
         go true d = sym (live-own s b (h .good) good′ live-b fifth r (which-pendingRows (s .sizes) (s .txns b .writes) r u d))
-        go false d = h .beside .rows-are r u ∙ sym (live-others s b (h .good) good′ live-b fifth r (λ w. true≢false (sym (pick-which (pending (s .txns b .writes)) 0 (s .sizes .rows) r w .2) ∙ d)))
+        go false d = h .beside .rows-are r u
+            ∙ sym (live-others s b (h .good) good′ live-b fifth r
+            (λ w. true≢false (sym (pick-which (pending (s .txns b .writes)) 0 (s .sizes .rows) r w .2) ∙ d)))
 
     turn-beside : Beside z c₀ (becomes s b Ended) es′
     turn-beside = let k = ends s b (h .good) live-b fifth in record {
-      same = rw turn-is (ap (entries (fresh z c₀)) (map-append (λ (d : Entry). d .what) (oneByOne c₀ es) (wholeOf (S .clock) t es′)) ∙ (entries-append (fresh z c₀) (stepsIn (oneByOne c₀ es)) (stepsIn (wholeOf (S .clock) t es′)) ∙ (ap (λ l. l ++ entries S (stepsIn (wholeOf (S .clock) t es′))) (h .beside .same) ∙ ap (λ l. oneByOne c₀ es ++ l) (took .same))));
+      same = rw turn-is (ap (entries (fresh z c₀)) (map-append (λ (d : Entry). d .what) (oneByOne c₀ es) (wholeOf (S .clock) t es′))
+          ∙ (entries-append (fresh z c₀) (stepsIn (oneByOne c₀ es)) (stepsIn (wholeOf (S .clock) t es′))
+          ∙ (ap (λ l. l ++ entries S (stepsIn (wholeOf (S .clock) t es′))) (h .beside .same) ∙ ap (λ l. oneByOne c₀ es ++ l) (took .same))));
       quiet = rw serial-is (took .after .quiet);
       sizes-are = rw serial-is (took .after .sizes-are ∙ h .beside .sizes-are);
       clock-is = rw serial-is (took .after .clock-is ∙ omega (arith, h .beside .clock-is, ap length order-is, length-append (endOrder es) (t ∷ [])));
@@ -159,23 +192,31 @@ module _ (z : Sizes) (c₀ : ℕ) where
         follow′ : (i : ℕ) → Live (becomes s b Ended .txns i) → rank (becomes s b Ended .txns i .phase) < phaseEnded
             → (y : Local) × Followed (becomes s b Ended) i (becomes s b Ended .txns i .number) (doneBy (becomes s b Ended .txns i .number) es′) y
         follow′ i l a = elim (ℕ-discrete i b) [
-          | yes d ↦ absurd (omega (arith, a, ap (λ j. rank (becomes s b Ended .txns j .phase)) d, ap (λ (v : Txn). rank (v .phase)) (update-same (s .txns) b (withPhase (s .txns b) Ended))))
+          | yes d ↦ absurd (omega (
+            arith,
+            a,
+            ap (λ j. rank (becomes s b Ended .txns j .phase)) d,
+            ap (λ (v : Txn). rank (v .phase)) (update-same (s .txns) b (withPhase (s .txns b) Ended)),
+          ))
           | no d ↦
               let same = untouched s (becomes s b Ended) m i d in
               let l₀ : Live (s .txns i) = rw same at l in
               let w = h .follow i l₀ (rw same at a) in
               let f = follow-others s (becomes s b Ended) i (s .txns i .number) (doneBy (s .txns i .number) es) (w .0) (h .good) good′ m d (w .1) in
-              let free : eqb t (s .txns i .number) && true ≡ false = rw (ne-eqb t (s .txns i .number) (λ c. d (h .good .numbers .distinct i b l₀ (sym c ∙ sym number-b)))) refl in
+              let free : eqb t (s .txns i .number) && true ≡ false =
+              rw (ne-eqb t (s .txns i .number) (λ c. d (h .good .numbers .distinct i b l₀ (sym c ∙ sym number-b)))) refl in
               (w .0, rw (same, others-same (s .txns i .number) es e free) f)
         ]
 
         gone′ : (n : ℕ) → Among n (endOrder es′)
             → (n < s .clock) × ((i : ℕ) → Live (becomes s b Ended .txns i) → becomes s b Ended .txns i .number ≡ n
             → rank (becomes s b Ended .txns i .phase) ≡ phaseEnded)
-        gone′ n o = ⊎-elim (λ c. gone-move s (becomes s b Ended) m n (h .gone n c)) (λ c. (omega (arith, c, number-b, h .good .numbers .below b), λ i l p. new i l (p ∙ c))) (among-last n t (endOrder es) (rw order-is at o))
+        gone′ n o = ⊎-elim (λ c. gone-move s (becomes s b Ended) m n (h .gone n c))
+            (λ c. (omega (arith, c, number-b, h .good .numbers .below b), λ i l p. new i l (p ∙ c))) (among-last n t (endOrder es) (rw order-is at o))
           where
             new : (i : ℕ) → Live (becomes s b Ended .txns i) → becomes s b Ended .txns i .number ≡ t → rank (becomes s b Ended .txns i .phase) ≡ phaseEnded
             new i l p = elim (ℕ-discrete i b) [
               | yes d ↦ rw d (ap (λ (v : Txn). rank (v .phase)) (update-same (s .txns) b (withPhase (s .txns b) Ended)))
-              | no d ↦ let same = untouched s (becomes s b Ended) m i d in absurd (d (h .good .numbers .distinct i b (rw same at l) (rw same at p ∙ sym number-b)))
+              | no d ↦ let same = untouched s (becomes s b Ended) m i d in
+                  absurd (d (h .good .numbers .distinct i b (rw same at l) (rw same at p ∙ sym number-b)))
             ]

@@ -14,7 +14,8 @@ use Rattle.model.specs.Contents.{Content}
 use Rattle.model.specs.Refusals.{Step}
 use Rattle.model_in_turn.specs.Done.{Entry}
 use Rattle.model_in_turn.specs.InTurn.{endIn, endOrder, isPublish, doneBy, renumbered, asNumber, wholeOf, inTurn}
-use Rattle.model_in_turn.proofs.ByItself.{Local, Plays, plays-capture, plays-collect, plays-rows, plays-write, plays-validate, plays-prepare, plays-install, plays-end, Played, begins, then}
+use Rattle.model_in_turn.proofs.ByItself.{Local, Plays, plays-capture, plays-collect, plays-rows, plays-write, plays-validate, plays-prepare}
+use Rattle.model_in_turn.proofs.ByItself.{plays-install, plays-end, Played, begins, then}
 
 -- one entry more
 pub mine-more : (n : ℕ) (es : List Entry) (e : Entry) → e .who ≡ n → isPublish (e .what) ≡ false → doneBy n (es ++ (e ∷ [])) ≡ doneBy n es ++ (e ∷ [])
@@ -22,7 +23,8 @@ unfolding doneBy
 mine-more n [] e w p = rw (eq-eqb (e .who) n w, p) refl
 mine-more n (d ∷ es) e w p = go (eqb (d .who) n && not (isPublish (d .what))) (mine-more n es e w p)
   where
-    go : (b : Bool) → doneBy n (es ++ (e ∷ [])) ≡ doneBy n es ++ (e ∷ []) → cond b (d ∷ doneBy n (es ++ (e ∷ []))) (doneBy n (es ++ (e ∷ []))) ≡ cond b (d ∷ doneBy n es) (doneBy n es) ++ (e ∷ [])
+    go : (b : Bool) → doneBy n (es ++ (e ∷ [])) ≡ doneBy n es ++ (e ∷ [])
+        → cond b (d ∷ doneBy n (es ++ (e ∷ []))) (doneBy n (es ++ (e ∷ []))) ≡ cond b (d ∷ doneBy n es) (doneBy n es) ++ (e ∷ [])
     go true h = ap (λ l. d ∷ l) h
     go false h = h
 
@@ -51,10 +53,12 @@ unfolding inTurn
 turn-more c [] n es = append-nil (wholeOf c n es) ∙ ap (λ k. wholeOf k n es) (omega arith)
 turn-more c (k ∷ ns) n es =
     let e : 2 + c + (length ns + length ns) ≡ c + (suc (length ns) + suc (length ns)) = omega arith in
-    ap (λ l. wholeOf c k es ++ l) (turn-more (2 + c) ns n es ∙ ap (λ w. inTurn (2 + c) ns es ++ wholeOf w n es) e) ∙ sym (append-assoc (wholeOf c k es) (inTurn (2 + c) ns es) _)
+    ap (λ l. wholeOf c k es ++ l) (turn-more (2 + c) ns n es ∙ ap (λ w. inTurn (2 + c) ns es ++ wholeOf w n es) e)
+    ∙ sym (append-assoc (wholeOf c k es) (inTurn (2 + c) ns es) _)
 
 -- the same by another number
-plays-again : (z : Sizes) (m : ℕ → Content) (n k : ℕ) (x y : Local) (a : Step) (read : List (ℕ × Content)) → Plays z m n x a read y → Plays z m k x (renumbered k a) read y
+plays-again : (z : Sizes) (m : ℕ → Content) (n k : ℕ) (x y : Local) (a : Step) (read : List (ℕ × Content)) → Plays z m n x a read y
+    → Plays z m k x (renumbered k a) read y
 plays-again z m n k x y a read (plays-capture j p o) = plays-capture j p o
 plays-again z m n k x y a read (plays-collect b j p) = plays-collect b j p
 plays-again z m n k x y a read (plays-rows room j rs rd p e f u v) = plays-rows room j rs rd p e f u v
@@ -66,4 +70,5 @@ plays-again z m n k x y a read (plays-end p) = plays-end p
 
 pub played-again : (z : Sizes) (m : ℕ → Content) (n k : ℕ) (es : List Entry) (x : Local) → Played z m n es x → Played z m k (map (asNumber k) es) x
 played-again z m n k es x begins = begins
-played-again z m n k es y (then {es = ds} {x = x} {a = a} {read = read} d p) = rw (map-append (asNumber k) ds (record { who = n; what = a; read = read } ∷ [])) (then (played-again z m n k ds x d) (plays-again z m n k x y a read p))
+played-again z m n k es y (then {es = ds} {x = x} {a = a} {read = read} d p) =
+    rw (map-append (asNumber k) ds (record { who = n; what = a; read = read } ∷ [])) (then (played-again z m n k ds x d) (plays-again z m n k x y a read p))

@@ -57,7 +57,8 @@ module _ (s : Store) (q : Quiet s) (x : Local) (t : Store) (a : Alone s x t) (p 
   -- before its end the rows are the quiet store's
   rows-still : (r : ℕ) → liveRow t r ≡ liveRow s r
   unfolding contentOf
-  rows-still r = ap (λ v. content (keyAt (t .chains) v) (t .chains .payload v)) (head-shown t (a .good) r (λ l h. none-hidden (h .0) (h .1) (h .2))) ∙ rw (a .chains-are) (sym (quiet-head s q r))
+  rows-still r = ap (λ v. content (keyAt (t .chains) v) (t .chains .payload v)) (head-shown t (a .good) r (λ l h. none-hidden (h .0) (h .1) (h .2)))
+      ∙ rw (a .chains-are) (sym (quiet-head s q r))
     where
       none-hidden : (j : ℕ) → Live (t .txns j) → rank (t .txns j .phase) ≡ phaseInstalled → ⊥
       none-hidden zero b c = omega (arith, fourth)
@@ -65,7 +66,8 @@ module _ (s : Store) (q : Quiet s) (x : Local) (t : Store) (a : Alone s x t) (p 
 
   -- install
   pub install-done : number t (install n) ≡ 0
-  install-done = install-0 t n .1 (right-shape t (a .good), alone-lives t (a .good) n (a .mine) pos, ap (λ i. rank (t .txns i .phase)) (alone-place t (a .good) n (a .mine) pos) ∙ fourth)
+  install-done = install-0 t n .1
+      (right-shape t (a .good), alone-lives t (a .good) n (a .mine) pos, ap (λ i. rank (t .txns i .phase)) (alone-place t (a .good) n (a .mine) pos) ∙ fourth)
 
   abbrev t₁ : Store
   t₁ = installed t 0
@@ -88,7 +90,12 @@ module _ (s : Store) (q : Quiet s) (x : Local) (t : Store) (a : Alone s x t) (p 
 
   -- end
   pub end-done : number t₁ (end n) ≡ 0
-  end-done = end-0 t₁ n .1 (right-shape t₁ good₁, alone-lives t₁ good₁ n mine₁ pos, ap (λ i. rank (t₁ .txns i .phase)) (alone-place t₁ good₁ n mine₁ pos) ∙ fifth)
+  end-done = end-0 t₁ n .1 (
+    right-shape t₁ good₁,
+    alone-lives t₁ good₁ n mine₁ pos,
+    ap (λ i. rank (t₁ .txns i .phase)) (alone-place t₁ good₁ n mine₁ pos)
+        ∙ fifth,
+  )
 
   abbrev t₂ : Store
   t₂ = becomes t₁ 0 Ended
@@ -111,7 +118,8 @@ module _ (s : Store) (q : Quiet s) (x : Local) (t : Store) (a : Alone s x t) (p 
 
   -- publish
   pub publish-done : number t₂ (publish n) ≡ 0
-  publish-done = publish-0 t₂ n .1 (right-shape t₂ good₂, alone-lives t₂ good₂ n mine₂ pos, ap (λ i. rank (t₂ .txns i .phase)) (alone-place t₂ good₂ n mine₂ pos) ∙ sixth)
+  publish-done = publish-0 t₂ n .1
+      (right-shape t₂ good₂, alone-lives t₂ good₂ n mine₂ pos, ap (λ i. rank (t₂ .txns i .phase)) (alone-place t₂ good₂ n mine₂ pos) ∙ sixth)
 
   abbrev t₃ : Store
   t₃ = published t₂ 0
@@ -127,7 +135,8 @@ module _ (s : Store) (q : Quiet s) (x : Local) (t : Store) (a : Alone s x t) (p 
   idle₃ zero = ap (λ (v : Txn). v .number) (update-same (t₂ .txns) 0 noTxn)
   idle₃ (suc i) =
       let d : suc i ≢ 0 = λ e. omega arith in
-      ap (λ (v : Txn). v .number) (update-other (t₂ .txns) 0 noTxn (suc i) d ∙ (update-other (t₁ .txns) 0 _ (suc i) d ∙ update-other (t .txns) 0 _ (suc i) d)) ∙ a .others (suc i) d
+      ap (λ (v : Txn). v .number) (update-other (t₂ .txns) 0 noTxn (suc i) d
+      ∙ (update-other (t₁ .txns) 0 _ (suc i) d ∙ update-other (t .txns) 0 _ (suc i) d)) ∙ a .others (suc i) d
 
   writes₁ : t₁ .txns 0 .writes ≡ x .writes
   writes₁ = ap (λ (v : Txn). v .writes) here₁ ∙ a .writes-are
@@ -139,15 +148,20 @@ module _ (s : Store) (q : Quiet s) (x : Local) (t : Store) (a : Alone s x t) (p 
       live₁ : Live (t₁ .txns 0)
       live₁ = omega (arith, mine₁, pos)
 
-      go : (b : Bool) → pending (x .writes) r ≡ b → liveRow t₂ r ≡ cond b (content (writtenKey (lastWrite (x .writes) r)) (writtenPayload (lastWrite (x .writes) r))) (liveRow s r)
-      go true e = live-own t₁ 0 good₁ good₂ live₁ fifth r (rw (writes₁, a .sizes-are) (which-pendingRows (s .sizes) (x .writes) r u e)) ∙ ap (λ ws. content (writtenKey (lastWrite ws r)) (writtenPayload (lastWrite ws r))) writes₁
-      go false e = live-others t₁ 0 good₁ good₂ live₁ fifth r (λ w. true≢false (sym (pick-which (pending (t₁ .txns 0 .writes)) 0 (t₁ .sizes .rows) r w .2) ∙ (ap (λ ws. pending ws r) writes₁ ∙ e))) ∙ (live-install t 0 (a .good) good₁ live-mine fourth r ∙ rows-still r)
+      go : (b : Bool) → pending (x .writes) r ≡ b
+          → liveRow t₂ r ≡ cond b (content (writtenKey (lastWrite (x .writes) r)) (writtenPayload (lastWrite (x .writes) r))) (liveRow s r)
+      go true e = live-own t₁ 0 good₁ good₂ live₁ fifth r (rw (writes₁, a .sizes-are) (which-pendingRows (s .sizes) (x .writes) r u e))
+          ∙ ap (λ ws. content (writtenKey (lastWrite ws r)) (writtenPayload (lastWrite ws r))) writes₁
+      go false e = live-others t₁ 0 good₁ good₂ live₁ fifth r
+          (λ w. true≢false (sym (pick-which (pending (t₁ .txns 0 .writes)) 0 (t₁ .sizes .rows) r w .2) ∙ (ap (λ ws. pending ws r) writes₁ ∙ e)))
+          ∙ (live-install t 0 (a .good) good₁ live-mine fourth r ∙ rows-still r)
 
   pub finished : Finished s (x .writes) t₃
   finished = record {
     quiet = record { good = good₃; idle = idle₃ };
     sizes-are = a .sizes-are;
     clock-is = ap suc (a .clock-is) ∙ omega arith;
-    used-is = used-pushAll (t .txns 0) (versionRows (t .sizes) (t .chains) (t .txns 0 .writes)) (t .chains) ∙ (rw (a .chains-are, a .writes-are, a .sizes-are) refl);
+    used-is = used-pushAll (t .txns 0) (versionRows (t .sizes) (t .chains) (t .txns 0 .writes)) (t .chains)
+        ∙ (rw (a .chains-are, a .writes-are, a .sizes-are) refl);
     rows-are = rows₃;
   }

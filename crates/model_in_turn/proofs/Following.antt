@@ -1,4 +1,5 @@
--- A live transaction of any run is followed by itself: over what its snapshot shows until it prepares, over the live rows from then on. What others do keeps that. Assumes nothing.
+-- A live transaction of any run is followed by itself: over what its snapshot shows until it prepares, over the live rows from then on. What others do keeps
+-- that. Assumes nothing.
 use mathlib.Core.Path.{_≡_, refl, sym, ap, _∙_}
 use mathlib.Core.Bool.{Bool, true, false}
 use mathlib.Core.Logic.{_≢_}
@@ -13,7 +14,8 @@ use Rattle.model.specs.Store.{Ended, IndexRead, Write, ReadRecord, Txn, Store, 
 use Rattle.model.specs.Seeing.{seen, versionOf, keyAt, recordOf, Live}
 use Rattle.model.specs.Steps.{becomes, hasRead, versionRows, installed}
 use Rattle.model.specs.Contents.{Content, contentOf, liveRow}
-use Rattle.model.proofs.Move.{Move, stay, did-begin, did-mark, did-capture, did-collect, did-rows, did-write, did-prepare, did-install, did-end, did-publish, did-abort}
+use Rattle.model.proofs.Move.{Move, stay, did-begin, did-mark, did-capture, did-collect, did-rows, did-write, did-prepare, did-install, did-end, did-publish}
+use Rattle.model.proofs.Move.{did-abort}
 use Rattle.model.proofs.Grown.{Grown}
 use Rattle.model.proofs.Written.{installs}
 use Rattle.model.proofs.Stable.{unseen-other, version-grown, key-grown, xmin-grown, content-grown}
@@ -47,7 +49,8 @@ Followed s i n script x = (m : ℕ → Content) × Follow s i n script x m
 
 module _ (s : Store) (i n : ℕ) (script : List Entry) (x : Local) (m : ℕ → Content) (f : Follow s i n script x m) where
   -- another changes neither versions nor rows
-  follow-still : (s′ : Store) → s′ .sizes ≡ s .sizes → s′ .chains ≡ s .chains → s′ .txns i ≡ s .txns i → ((r : ℕ) → liveRow s′ r ≡ liveRow s r) → Follow s′ i n script x m
+  follow-still : (s′ : Store) → s′ .sizes ≡ s .sizes → s′ .chains ≡ s .chains → s′ .txns i ≡ s .txns i → ((r : ℕ) → liveRow s′ r ≡ liveRow s r)
+      → Follow s′ i n script x m
   follow-still s′ zs cs ts live = record {
     number-is = rw ts (f .number-is);
     alive = f .alive;
@@ -77,14 +80,18 @@ module _ (s : Store) (i n : ℕ) (script : List Entry) (x : Local) (m : ℕ → 
     version-same : (r : ℕ) → versionOf (installed s j .chains) (s .txns i .snapshot) r ≡ versionOf (s .chains) (s .txns i .snapshot) r
     version-same = version-grown (s .txns j) _ (s .chains) (installed s j .chains) (g .chained) (g′ .chained) gr (s .txns i .snapshot) unseen
 
-    key-same : (r : ℕ) → keyAt (installed s j .chains) (versionOf (installed s j .chains) (s .txns i .snapshot) r) ≡ keyAt (s .chains) (versionOf (s .chains) (s .txns i .snapshot) r)
+    key-same : (r : ℕ) → keyAt (installed s j .chains) (versionOf (installed s j .chains) (s .txns i .snapshot) r)
+        ≡ keyAt (s .chains) (versionOf (s .chains) (s .txns i .snapshot) r)
     key-same = key-grown (s .txns j) _ (s .chains) (installed s j .chains) (g .chained) (g′ .chained) gr (s .txns i .snapshot) unseen
 
     content-same : (r : ℕ) → contentOf (installed s j .chains) (s .txns i .snapshot) r ≡ contentOf (s .chains) (s .txns i .snapshot) r
     content-same = content-grown (s .txns j) _ (s .chains) (installed s j .chains) (g .chained) (g′ .chained) gr (s .txns i .snapshot) unseen
 
     record-same : (r : ℕ) → recordOf (installed s j .chains) (s .txns i .snapshot) r ≡ recordOf (s .chains) (s .txns i .snapshot) r
-    record-same r = rw (xmin-grown (s .txns j) _ (s .chains) (installed s j .chains) (g .chained) (g′ .chained) gr (s .txns i .snapshot) unseen r, version-same r) refl
+    record-same r = rw (
+      xmin-grown (s .txns j) _ (s .chains) (installed s j .chains) (g .chained) (g′ .chained) gr (s .txns i .snapshot) unseen r,
+      version-same r,
+    ) refl
 
     follow-install : Follow (installed s j) i n script x m
     follow-install = record {
@@ -97,7 +104,8 @@ module _ (s : Store) (i n : ℕ) (script : List Entry) (x : Local) (m : ℕ → 
       plays = f .plays;
       early = λ b r. rw here (f .early b r ∙ sym (content-same r));
       late = λ b r. f .late b r ∙ sym (live-install s j g g′ l a r);
-      kept = λ b q o. let k = f .kept b q o in rw here (record { bucket-in = k .bucket-in; recorded-in = λ r u p e. rw (record-same r) (k .recorded-in r u p (sym (key-same r) ∙ e)) });
+      kept = λ b q o. let k = f .kept b q o in
+          rw here (record { bucket-in = k .bucket-in; recorded-in = λ r u p e. rw (record-same r) (k .recorded-in r u p (sym (key-same r) ∙ e)) });
       reads-in = λ q o. rw here (f .reads-in q o);
     }
 
@@ -143,17 +151,21 @@ module _ (s : Store) (i n : ℕ) (script : List Entry) (x : Local) (m : ℕ → 
 one-place : (s s′ : Store) (i n : ℕ) (script : List Entry) (x : Local) (j : ℕ) (y : Txn) → i ≢ j → s′ .sizes ≡ s .sizes → s′ .chains ≡ s .chains
     → s′ .txns ≡ update (s .txns) j y → (Live (s .txns j) → rank (s .txns j .phase) ≢ phaseInstalled) → rank (y .phase) ≢ phaseInstalled
     → Good s → Good s′ → Followed s i n script x → Followed s′ i n script x
-one-place s s′ i n script x j y d zs cs ts old new g g′ f = (f .0, follow-still s i n script x (f .0) (f .1) s′ zs cs (ap (λ t. t i) ts ∙ update-other (s .txns) j y i d) (live-set s s′ j y ts cs old new g g′))
+one-place s s′ i n script x j y d zs cs ts old new g g′ f =
+    (f .0, follow-still s i n script x (f .0) (f .1) s′ zs cs (ap (λ t. t i) ts ∙ update-other (s .txns) j y i d) (live-set s s′ j y ts cs old new g g′))
 
 -- whatever another does
-pub follow-others : (s s′ : Store) {b : ℕ} (i n : ℕ) (script : List Entry) (x : Local) → Good s → Good s′ → Move s b s′ → i ≢ b → Followed s i n script x → Followed s′ i n script x
+pub follow-others : (s s′ : Store) {b : ℕ} (i n : ℕ) (script : List Entry) (x : Local) → Good s → Good s′ → Move s b s′ → i ≢ b → Followed s i n script x
+    → Followed s′ i n script x
 follow-others s s′ i n script x g g′ (stay j) d f = f
 follow-others s s′ i n script x g g′ (did-begin j a b c e) d f = one-place s s′ i n script x j _ d refl refl refl (λ l o. omega arith) (λ o. omega arith) g g′ f
 follow-others s s′ i n script x g g′ (did-mark j a b) d f = one-place s s′ i n script x j _ d refl refl refl (λ l o. omega arith) (λ o. omega arith) g g′ f
-follow-others s s′ i n script x g g′ (did-capture j k a b c) d f = one-place s s′ i n script x j _ d refl refl refl (λ l o. omega arith) (λ o. omega arith) g g′ f
+follow-others s s′ i n script x g g′ (did-capture j k a b c) d f =
+    one-place s s′ i n script x j _ d refl refl refl (λ l o. omega arith) (λ o. omega arith) g g′ f
 follow-others s s′ i n script x g g′ (did-collect j a b) d f = one-place s s′ i n script x j _ d refl refl refl (λ l o. omega arith) (λ o. omega arith) g g′ f
 follow-others s s′ i n script x g g′ (did-rows j a b c) d f = one-place s s′ i n script x j _ d refl refl refl (λ l o. omega arith) (λ o. omega arith) g g′ f
-follow-others s s′ i n script x g g′ (did-write j w a b c e) d f = one-place s s′ i n script x j _ d refl refl refl (λ l o. omega arith) (λ o. omega arith) g g′ f
+follow-others s s′ i n script x g g′ (did-write j w a b c e) d f =
+    one-place s s′ i n script x j _ d refl refl refl (λ l o. omega arith) (λ o. omega arith) g g′ f
 follow-others s s′ i n script x g g′ (did-prepare j a b c) d f = one-place s s′ i n script x j _ d refl refl refl (λ l o. omega arith) (λ o. omega arith) g g′ f
 follow-others s s′ i n script x g g′ (did-install j a b) d f = (f .0, follow-install s i n script x (f .0) (f .1) j d g g′ a b)
 follow-others s s′ i n script x g g′ (did-end j a b) d f = go (ltb (rank (x .phase)) phasePrepared) refl

@@ -27,12 +27,14 @@ use Rattle.model_in_turn.specs.InTurn.{endOrder, inTurn, oneByOne, steps
 use Rattle.model_in_turn.proofs.Whole.{entries-append, one-entry}
 use Rattle.model_in_turn.proofs.Counting.{waiting, running, over, Counts, count-free}
 use Rattle.model_in_turn.proofs.Beside.{SideBySide}
-use Rattle.model_in_turn.proofs.StepsBeside.{beside-capture, beside-collect, beside-rows, beside-write, beside-validate, beside-prepare, beside-install, beside-publish, beside-abort, beside-begin}
+use Rattle.model_in_turn.proofs.StepsBeside.{beside-capture, beside-collect, beside-rows, beside-write, beside-validate, beside-prepare, beside-install}
+use Rattle.model_in_turn.proofs.StepsBeside.{beside-publish, beside-abort, beside-begin}
 use Rattle.model_in_turn.proofs.MarksBeside.{beside-stale}
 use Rattle.model_in_turn.proofs.EndsBeside.{beside-end}
 
 module _ (z : Sizes) (c₀ : ℕ) where
-  beside-accepted : (s : Store) (es : List Entry) → SideBySide z c₀ s es → (a : Step) → number s a ≡ 0 → SideBySide z c₀ (step s a .store) (es ++ (entryOf s a ∷ []))
+  beside-accepted : (s : Store) (es : List Entry) → SideBySide z c₀ s es → (a : Step) → number s a ≡ 0
+      → SideBySide z c₀ (step s a .store) (es ++ (entryOf s a ∷ []))
   beside-accepted s es h begin ok = beside-begin z c₀ s es h ok
   beside-accepted s es h (capture t k) ok = beside-capture z c₀ s es h t k ok
   beside-accepted s es h (collect t) ok = beside-collect z c₀ s es h t ok
@@ -59,19 +61,23 @@ module _ (z : Sizes) (c₀ : ℕ) where
   beside-step s es h a = go (ℕ-discrete (number s a) 0)
     where
       go : Dec (number s a ≡ 0) → SideBySide z c₀ (step s a .store) (es ++ entries s (a ∷ []))
-      go (yes ok) = beside-to (step s a .store) (step s a .store) (es ++ (entryOf s a ∷ [])) (es ++ entries s (a ∷ [])) refl (ap (λ l. es ++ l) (one-entry s a ok)) (beside-accepted s es h a ok)
+      go (yes ok) = beside-to (step s a .store) (step s a .store) (es ++ (entryOf s a ∷ [])) (es ++ entries s (a ∷ [])) refl
+          (ap (λ l. es ++ l) (one-entry s a ok)) (beside-accepted s es h a ok)
       go (no d) =
           let none-new : es ++ entries s (a ∷ []) ≡ es = ap (λ l. es ++ l) (no-entry s a d) ∙ append-nil es in
           ⊎-elim
           (λ e. beside-to s (step s a .store) es (es ++ entries s (a ∷ [])) e none-new h)
-          (λ e. beside-to (stale s (at s (actor a))) (step s a .store) es (es ++ entries s (a ∷ [])) e none-new (beside-stale z c₀ s (at s (actor a)) es h (good-to (stale s (at s (actor a))) (step s a .store) e (good-move s (step s a .store) (h .good) (step-move s a)))))
+          (λ e. beside-to (stale s (at s (actor a))) (step s a .store) es (es ++ entries s (a ∷ [])) e none-new
+          (beside-stale z c₀ s (at s (actor a)) es h
+          (good-to (stale s (at s (actor a))) (step s a .store) e (good-move s (step s a .store) (h .good) (step-move s a)))))
           (refused-store s a d)
 
   beside-run : (s : Store) (es : List Entry) → SideBySide z c₀ s es → (steps : List Step) → SideBySide z c₀ (run s steps) (es ++ entries s steps)
   unfolding run entries
   beside-run s es h [] = beside-to s s es (es ++ []) refl (append-nil es) h
   beside-run s es h (a ∷ more) =
-      beside-to (run (step s a .store) more) (run (step s a .store) more) ((es ++ entries s (a ∷ [])) ++ entries (step s a .store) more) (es ++ entries s (a ∷ more)) refl
+      beside-to (run (step s a .store) more) (run (step s a .store) more) ((es ++ entries s (a ∷ [])) ++ entries (step s a .store) more)
+      (es ++ entries s (a ∷ more)) refl
       (ap (λ l. es ++ l) (entries-append s (a ∷ []) more) ∙ sym (append-assoc es (entries s (a ∷ [])) (entries (step s a .store) more)))
       (beside-run (step s a .store) (es ++ entries s (a ∷ [])) (beside-step s es h a) more)
 
@@ -89,7 +95,11 @@ module _ (z : Sizes) (c₀ : ℕ) where
       clock-is = omega arith;
       rows-are = λ r u. refl;
       used-is = omega (arith, sum-zero (waiting z (fresh z c₀ .index .posted)) (fresh z c₀ .txns) mostLive (λ j. free j .waits));
-      numbers = omega (arith, sum-zero running (fresh z c₀ .txns) mostLive (λ j. free j .runs), sum-zero over (fresh z c₀ .txns) mostLive (λ j. free j .is-over));
+      numbers = omega (
+        arith,
+        sum-zero running (fresh z c₀ .txns) mostLive (λ j. free j .runs),
+        sum-zero over (fresh z c₀ .txns) mostLive (λ j. free j .is-over),
+      );
     };
   }
     where
@@ -118,7 +128,9 @@ module _ (z : Sizes) (c₀ : ℕ) where
   in-turn-at s steps h e = record {
     same-reads = h .beside .same;
     none-live = h .beside .quiet .idle;
-    same-rows = λ ns r u. h .beside .rows-are r (rw sizes u) ∙ (sym (rows-published s (h .good) ns r) ∙ ap (λ w. liveRow w r) (ap (λ w. run w (map publish ns)) e ∙ sym (run-append (fresh z c₀) steps (map publish ns))));
+    same-rows = λ ns r u. h .beside .rows-are r (rw sizes u)
+        ∙ (sym (rows-published s (h .good) ns r)
+        ∙ ap (λ w. liveRow w r) (ap (λ w. run w (map publish ns)) e ∙ sym (run-append (fresh z c₀) steps (map publish ns))));
   }
     where
       sizes : s .sizes ≡ z

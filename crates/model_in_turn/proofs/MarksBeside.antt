@@ -69,11 +69,28 @@ module _ (z : Sizes) (c₀ : ℕ) where
   unfolding waiting running over
   beside-stale s b es h g′ = record {
     good = g′;
-    follow = λ i l a. let w = h .follow i (rw (same-number s b (h .good) g′ i) at l) (rw (same-phase s b (h .good) g′ i) at a) in (w .0, (w .1 .0, rw (same-number s b (h .good) g′ i) (follow-stale s b (h .good) g′ i (s .txns i .number) (doneBy (s .txns i .number) es) (w .0) (w .1 .0) (w .1 .1))));
+    follow = λ i l a. let w = h .follow i (rw (same-number s b (h .good) g′ i) at l) (rw (same-phase s b (h .good) g′ i) at a) in (
+      w .0,
+      (
+        w .1 .0,
+        rw (same-number s b (h .good) g′ i)
+            (follow-stale s b (h .good) g′ i (s .txns i .number) (doneBy (s .txns i .number) es) (w .0) (w .1 .0) (w .1 .1)),
+      ),
+    );
     older = h .older;
-    gone = λ n o. (h .gone n o .0, λ i l p. ap rank (same-phase s b (h .good) g′ i) ∙ h .gone n o .1 i (rw (same-number s b (h .good) g′ i) at l) (sym (same-number s b (h .good) g′ i) ∙ p));
+    gone = λ n o. (
+      h .gone n o .0,
+      λ i l p. ap rank (same-phase s b (h .good) g′ i)
+          ∙ h .gone n o .1 i (rw (same-number s b (h .good) g′ i) at l) (sym (same-number s b (h .good) g′ i) ∙ p),
+    );
     beside = beside-still z c₀ s (stale s b) es es (h .beside) refl refl refl (stale-rows s b (h .good) g′) (record {
-      wait-is = ap (λ w. s .chains .used + w) (sum-same (waiting (s .sizes) (s .index .posted)) (waiting (s .sizes) (s .index .posted)) (s .txns) (stale s b .txns) mostLive (λ j u. update-field (waiting (s .sizes) (s .index .posted)) (s .txns) b (markedTxn (s .txns b)) j refl));
-      count-is = omega (arith, sum-same running running (s .txns) (stale s b .txns) mostLive (λ j u. update-field running (s .txns) b (markedTxn (s .txns b)) j refl), sum-same over over (s .txns) (stale s b .txns) mostLive (λ j u. update-field over (s .txns) b (markedTxn (s .txns b)) j refl));
+      wait-is = ap (λ w. s .chains .used + w)
+          (sum-same (waiting (s .sizes) (s .index .posted)) (waiting (s .sizes) (s .index .posted)) (s .txns) (stale s b .txns) mostLive
+          (λ j u. update-field (waiting (s .sizes) (s .index .posted)) (s .txns) b (markedTxn (s .txns b)) j refl));
+      count-is = omega (
+        arith,
+        sum-same running running (s .txns) (stale s b .txns) mostLive (λ j u. update-field running (s .txns) b (markedTxn (s .txns b)) j refl),
+        sum-same over over (s .txns) (stale s b .txns) mostLive (λ j u. update-field over (s .txns) b (markedTxn (s .txns b)) j refl),
+      );
     });
   }

@@ -11,9 +11,11 @@ use Rattle.base_limits.specs.Limits.{mostRows, mostIndexReads, mostRecords}
 use Rattle.base_lists.specs.Lists.{member, Among}
 use Rattle.base_lists.specs.Table.{update, update-same}
 use Rattle.base_lists.proofs.ListLaws.{among-left, among-last, which-pick}
-use Rattle.model.specs.Store.{Open, Holding, Collected, Prepared, Installed, Ended, IndexRead, Write, ReadRecord, Txn, Store, rank, phaseOpen, phaseHolding, phaseCollected, phasePrepared, phaseInstalled, bucketIn, keyIn, bucketOf}
+use Rattle.model.specs.Store.{Open, Holding, Collected, Prepared, Installed, Ended, IndexRead, Write, ReadRecord, Txn, Store, rank, phaseOpen, phaseHolding}
+use Rattle.model.specs.Store.{phaseCollected, phasePrepared, phaseInstalled, bucketIn, keyIn, bucketOf}
 use Rattle.model.specs.Seeing.{versionOf, keyAt, pending, matches, Live}
-use Rattle.model.specs.Steps.{withPhase, becomes, hasRead, captured, collected, foundRows, recordsAfter, readTxn, readDone, written, readBuckets, neededBuckets, prepared, installed}
+use Rattle.model.specs.Steps.{withPhase, becomes, hasRead, captured, collected, foundRows, recordsAfter, readTxn, readDone, written, readBuckets, neededBuckets}
+use Rattle.model.specs.Steps.{prepared, installed}
 use Rattle.model.specs.Contents.{Content, contentOf, shownTo, liveRow, pendingWrite}
 use Rattle.model.specs.Refusals.{Step, capture, collect, rows, write, prepare, install, end, validate, txnOf, byAnother}
 use Rattle.model.specs.Machine.{Stepped, at, accepted, step}
@@ -31,7 +33,8 @@ use Rattle.model.proofs.Refused.{capture-0, rows-0, write-0, prepare-0, validat
 use Rattle.model.proofs.Outcomes.{done-does}
 use Rattle.model.proofs.LiveRows.{live-set, live-install}
 use Rattle.model_in_turn.specs.Done.{returned, Entry, entryOf}
-use Rattle.model_in_turn.proofs.ByItself.{rowsIn, readIn, recordRows, addBucket, Local, phased, writing, Plays, plays-capture, plays-collect, plays-rows, plays-write, plays-validate, plays-prepare, plays-install, plays-end, Played, then, Agreeing, played-switch}
+use Rattle.model_in_turn.proofs.ByItself.{rowsIn, readIn, recordRows, addBucket, Local, phased, writing, Plays, plays-capture, plays-collect, plays-rows}
+use Rattle.model_in_turn.proofs.ByItself.{plays-write, plays-validate, plays-prepare, plays-install, plays-end, Played, then, Agreeing, played-switch}
 use Rattle.model_in_turn.proofs.Returned.{found-is, read-is, records-is}
 use Rattle.model_in_turn.proofs.ReadsHold.{agrees}
 use Rattle.model_in_turn.proofs.Acting.{bucketsOf, has-member, buckets-add}
@@ -58,7 +61,8 @@ module _ (s : Store) (g : Good s) (i n : ℕ) (script : List Entry) (x : Local) 
   -- its place goes on, before it prepares
   follow-set : (s′ : Store) (w : Txn) (y : Local) (script′ : List Entry) → s′ .sizes ≡ s .sizes → s′ .chains ≡ s .chains → s′ .txns ≡ update (s .txns) i w
       → rank (x .phase) < phasePrepared → rank (y .phase) < phasePrepared
-      → w .number ≡ s .txns i .number → w .snapshot ≡ s .txns i .snapshot → w .phase ≡ y .phase → bucketsOf (w .reads) ≡ y .buckets → w .writes ≡ y .writes → map (λ (r : ReadRecord). r .row) (w .records) ≡ y .records
+      → w .number ≡ s .txns i .number → w .snapshot ≡ s .txns i .snapshot → w .phase ≡ y .phase → bucketsOf (w .reads) ≡ y .buckets
+      → w .writes ≡ y .writes → map (λ (r : ReadRecord). r .row) (w .records) ≡ y .records
       → Played (s .sizes) m n script′ y → ((q : ℕ × List Write) → Among q (y .done) → Relied (s .sizes) (s .chains) w (q .0) (q .1)) → Follow s′ i n script′ y m
   follow-set s′ w y script′ zs cs ts b c nu sn ph bu wr re pl ke =
       let here : s′ .txns i ≡ w = ap (λ h. h i) ts ∙ update-same (s .txns) i w in
@@ -77,18 +81,26 @@ module _ (s : Store) (g : Good s) (i n : ℕ) (script : List Entry) (x : Local) 
       }
 
   -- what was kept stays kept
-  kept-on : (w : Txn) → w .snapshot ≡ s .txns i .snapshot → ((b : ℕ) → hasRead (s .txns i .reads) b ≡ true → hasRead (w .reads) b ≡ true) → ((q : ReadRecord) → Among q (s .txns i .records) → Among q (w .records))
+  kept-on : (w : Txn) → w .snapshot ≡ s .txns i .snapshot → ((b : ℕ) → hasRead (s .txns i .reads) b ≡ true → hasRead (w .reads) b ≡ true)
+      → ((q : ReadRecord) → Among q (s .txns i .records) → Among q (w .records))
       → (k : ℕ) (ws : List Write) → Relied (s .sizes) (s .chains) (s .txns i) k ws → Relied (s .sizes) (s .chains) w k ws
   kept-on w sn br rr k ws h = record { bucket-in = br _ (h .bucket-in); recorded-in = λ r u p e. rw sn (rr _ (h .recorded-in r u p (rw sn at e))) }
 
   pub own-capture : (k : ℕ) → number s (capture n k) ≡ 0 → (y : Local) × Followed (step s (capture n k) .store) i n (script ++ (entryOf s (capture n k) ∷ [])) y
   unfolding accepted
   own-capture k ok = (
-    record { phase = Holding (bucketOf (s .sizes) k) k; buckets = addBucket (x .buckets) (bucketOf (s .sizes) k); writes = x .writes; records = x .records; done = x .done },
+    record {
+      phase = Holding (bucketOf (s .sizes) k) k;
+      buckets = addBucket (x .buckets) (bucketOf (s .sizes) k);
+      writes = x .writes;
+      records = x .records;
+      done = x .done;
+    },
     (
       m,
       rw (store-is, entry-is) (follow-set (captured s i k) _ _ _ refl refl refl (omega (arith, first)) (omega arith) refl refl refl
-          (buckets-add (s .txns i .reads) (bucketOf (s .sizes) k) _ ∙ ap (λ bs. addBucket bs (bucketOf (s .sizes) k)) (f .buckets-are)) (f .writes-are) (f .records-are)
+          (buckets-add (s .txns i .reads) (bucketOf (s .sizes) k) _ ∙ ap (λ bs. addBucket bs (bucketOf (s .sizes) k)) (f .buckets-are)) (f .writes-are)
+          (f .records-are)
           (then (f .plays) (plays-capture k (open-is (x .phase) first) room))
           (λ q o. kept-on _ refl (λ b h. addRead-keeps (s .txns i .reads) _ _ b h) (λ q o. o) (q .0) (q .1) (f .kept (omega (arith, first)) q o))),
     ),
@@ -98,7 +110,12 @@ module _ (s : Store) (g : Good s) (i n : ℕ) (script : List Entry) (x : Local) 
       first = rank-of 1 (capture-0 s n k .0 ok .0 .2)
 
       room : (member (bucketOf (s .sizes) k) (x .buckets) ≡ true) ⊎ (length (x .buckets) < mostIndexReads)
-      room = rw (txn-of, has-member (s .txns i .reads) (bucketOf (s .sizes) k), sym (length-map (s .txns i .reads) (λ (r : IndexRead). r .bucket)), f .buckets-are) at (capture-0 s n k .0 ok .1 .1 .1 .1)
+      room = rw (
+        txn-of,
+        has-member (s .txns i .reads) (bucketOf (s .sizes) k),
+        sym (length-map (s .txns i .reads) (λ (r : IndexRead). r .bucket)),
+        f .buckets-are,
+      ) at (capture-0 s n k .0 ok .1 .1 .1 .1)
 
       does : step s (capture n k) ≡ accepted s (capture n k)
       does = done-does s (capture n k) ok
@@ -115,7 +132,8 @@ module _ (s : Store) (g : Good s) (i n : ℕ) (script : List Entry) (x : Local) 
     phased x (Collected (keyIn (x .phase))),
     (
       m,
-      rw (store-is, entry-is) (follow-set (collected s i) _ _ _ refl refl refl (omega (arith, second)) (omega arith) refl refl (ap (λ ph. Collected (keyIn ph)) (f .phase-is)) (f .buckets-are) (f .writes-are) (f .records-are)
+      rw (store-is, entry-is) (follow-set (collected s i) _ _ _ refl refl refl (omega (arith, second)) (omega arith) refl refl
+          (ap (λ ph. Collected (keyIn ph)) (f .phase-is)) (f .buckets-are) (f .writes-are) (f .records-are)
           (then (f .plays) (plays-collect (bucketIn (x .phase)) (keyIn (x .phase)) (holding-is (x .phase) second)))
           (λ q o. kept-on _ refl (λ b h. h) (λ q o. o) (q .0) (q .1) (f .kept (omega (arith, second)) q o))),
     ),
@@ -136,10 +154,17 @@ module _ (s : Store) (g : Good s) (i n : ℕ) (script : List Entry) (x : Local) 
   pub own-rows : (room : ℕ) → number s (rows n room) ≡ 0 → (y : Local) × Followed (step s (rows n room) .store) i n (script ++ (entryOf s (rows n room) ∷ [])) y
   unfolding accepted
   own-rows room ok = (
-    record { phase = Open; buckets = x .buckets; writes = x .writes; records = recordRows (x .writes) (x .records) (foundRows s (s .txns i)); done = x .done ++ ((keyIn (x .phase), x .writes) ∷ []) },
+    record {
+      phase = Open;
+      buckets = x .buckets;
+      writes = x .writes;
+      records = recordRows (x .writes) (x .records) (foundRows s (s .txns i));
+      done = x .done ++ ((keyIn (x .phase), x .writes) ∷ []);
+    },
     (
       m,
-      rw (store-is, entry-is) (follow-set (readDone s i) _ _ _ refl refl refl (omega (arith, third)) (omega arith) refl refl refl (f .buckets-are) (f .writes-are) recorded
+      rw (store-is, entry-is) (follow-set (readDone s i) _ _ _ refl refl refl (omega (arith, third)) (omega arith) refl refl refl (f .buckets-are)
+          (f .writes-are) recorded
           (then (f .plays) (plays-rows room (keyIn (x .phase)) (foundRows s (s .txns i)) read (collected-is (x .phase) third) found told few fit))
           kept-all),
     ),
@@ -164,9 +189,13 @@ module _ (s : Store) (g : Good s) (i n : ℕ) (script : List Entry) (x : Local) 
       told = read-is s g i live-it third′ m m-is ∙ (rw (f .phase-is, f .writes-are) refl)
 
       recorded : map (λ (r : ReadRecord). r .row) (recordsAfter s (s .txns i)) ≡ recordRows (x .writes) (x .records) (foundRows s (s .txns i))
-      recorded = records-is (s .chains) (g .chained) (s .txns i) (s .txns i .records) (foundRows s (s .txns i)) (g .reading i live-it .records-are (omega (arith, third′)))
-          (λ r o p. let w = found-which s (s .txns i) r o in keyAt-pos (s .chains) (versionOf (s .chains) (s .txns i .snapshot) r) (keyIn (s .txns i .phase)) (match-version (s .chains) (s .txns i) (keyIn (s .txns i .phase)) r p (w .1)))
-          ∙ ap (λ ws. recordRows ws (map (λ (r : ReadRecord). r .row) (s .txns i .records)) (foundRows s (s .txns i))) (f .writes-are) ∙ ap (λ rs. recordRows (x .writes) rs (foundRows s (s .txns i))) (f .records-are)
+      recorded = records-is (s .chains) (g .chained) (s .txns i) (s .txns i .records) (foundRows s (s .txns i))
+          (g .reading i live-it .records-are (omega (arith, third′)))
+          (λ r o p. let w = found-which s (s .txns i) r o in
+          keyAt-pos (s .chains) (versionOf (s .chains) (s .txns i .snapshot) r) (keyIn (s .txns i .phase))
+          (match-version (s .chains) (s .txns i) (keyIn (s .txns i .phase)) r p (w .1)))
+          ∙ ap (λ ws. recordRows ws (map (λ (r : ReadRecord). r .row) (s .txns i .records)) (foundRows s (s .txns i))) (f .writes-are)
+          ∙ ap (λ rs. recordRows (x .writes) rs (foundRows s (s .txns i))) (f .records-are)
 
       few : length (foundRows s (s .txns i)) ≤ min room mostRows
       few = rw txn-of at (rows-0 s n room .0 ok .1 .0)
@@ -184,19 +213,27 @@ module _ (s : Store) (g : Good s) (i n : ℕ) (script : List Entry) (x : Local) 
       good′ = rw store-is at (good-move s _ g (step-move s (rows n room)))
 
       entry-is : entryOf s (rows n room) ≡ record { who = n; what = rows n room; read = read }
-      entry-is = ap (λ (v : Stepped). record { who = n; what = rows n room; read = returned s n (v .answer) }) does ∙ ap (λ (w : Txn). record { who = n; what = rows n room; read = map (λ r. (r, shownTo (s .chains) w r)) (foundRows s w) }) txn-of
+      entry-is = ap (λ (v : Stepped). record { who = n; what = rows n room; read = returned s n (v .answer) }) does
+          ∙ ap (λ (w : Txn). record { who = n; what = rows n room; read = map (λ r. (r, shownTo (s .chains) w r)) (foundRows s w) }) txn-of
 
-      there : (r : ℕ) → r < s .sizes .rows → pending (s .txns i .writes) r ≡ false → keyAt (s .chains) (versionOf (s .chains) (s .txns i .snapshot) r) ≡ some (keyIn (s .txns i .phase)) → Among r (foundRows s (s .txns i))
-      there r u p e = rw (found-whole s g i live-it third′) (which-pick (matches (s .chains) (s .txns i) (keyIn (s .txns i .phase))) 0 (s .sizes .rows) r (omega arith) (omega arith) (version-match (s .chains) (s .txns i) (keyIn (s .txns i .phase)) r p ∙ key-same _ _ e))
+      there : (r : ℕ) → r < s .sizes .rows → pending (s .txns i .writes) r ≡ false
+          → keyAt (s .chains) (versionOf (s .chains) (s .txns i .snapshot) r) ≡ some (keyIn (s .txns i .phase)) → Among r (foundRows s (s .txns i))
+      there r u p e = rw (found-whole s g i live-it third′)
+          (which-pick (matches (s .chains) (s .txns i) (keyIn (s .txns i .phase))) 0 (s .sizes .rows) r (omega arith) (omega arith)
+          (version-match (s .chains) (s .txns i) (keyIn (s .txns i .phase)) r p ∙ key-same _ _ e))
 
       this : Relied (s .sizes) (s .chains) (readTxn s (s .txns i)) (keyIn (x .phase)) (x .writes)
       this = record {
         bucket-in = rw (f .phase-is) at (g .reading i live-it .collects (keyIn (s .txns i .phase)) (collected-is (s .txns i .phase) third′) .0);
-        recorded-in = λ r u p e. found-recorded s g i live-it third′ r (there r u (rw (sym (f .writes-are)) at p) (rw (sym (f .phase-is)) at e)) (rw (sym (f .writes-are)) at p) (rw update-same at (good′ .reading i (rw update-same live-it)));
+        recorded-in = λ r u p e. found-recorded s g i live-it third′ r (there r u (rw (sym (f .writes-are)) at p) (rw (sym (f .phase-is)) at e))
+            (rw (sym (f .writes-are)) at p) (rw update-same at (good′ .reading i (rw update-same live-it)));
       }
 
-      kept-all : (q : ℕ × List Write) → Among q (x .done ++ ((keyIn (x .phase), x .writes) ∷ [])) → Relied (s .sizes) (s .chains) (readTxn s (s .txns i)) (q .0) (q .1)
-      kept-all q o = ⊎-elim (λ d. kept-on (readTxn s (s .txns i)) refl (λ b h. h) (λ r c. recordAll-keeps (s .chains) (s .txns i) (s .txns i .records) (foundRows s (s .txns i)) r c) (q .0) (q .1) (f .kept (omega (arith, third)) q d)) (λ e. rw e this) (among-last q (keyIn (x .phase), x .writes) (x .done) o)
+      kept-all : (q : ℕ × List Write) → Among q (x .done ++ ((keyIn (x .phase), x .writes) ∷ []))
+          → Relied (s .sizes) (s .chains) (readTxn s (s .txns i)) (q .0) (q .1)
+      kept-all q o = ⊎-elim (λ d. kept-on (readTxn s (s .txns i)) refl (λ b h. h)
+          (λ r c. recordAll-keeps (s .chains) (s .txns i) (s .txns i .records) (foundRows s (s .txns i)) r c) (q .0) (q .1)
+          (f .kept (omega (arith, third)) q d)) (λ e. rw e this) (among-last q (keyIn (x .phase), x .writes) (x .done) o)
 
   appended : (a : Step) (w : Write) → step s a .store ≡ written s i w → entryOf s a ≡ record { who = n; what = a; read = [] } → rank (x .phase) ≡ phaseOpen
       → Plays (s .sizes) m n x a [] (writing x w) → (y : Local) × Followed (step s a .store) i n (script ++ (entryOf s a ∷ [])) y
@@ -204,7 +241,8 @@ module _ (s : Store) (g : Good s) (i n : ℕ) (script : List Entry) (x : Local) 
     writing x w,
     (
       m,
-      rw (store-is, entry-is) (follow-set (written s i w) _ _ _ refl refl refl (omega (arith, first)) (omega (arith, first)) refl refl (f .phase-is) (f .buckets-are) (ap (λ ws. ws ++ (w ∷ [])) (f .writes-are)) (f .records-are) (then (f .plays) d)
+      rw (store-is, entry-is) (follow-set (written s i w) _ _ _ refl refl refl (omega (arith, first)) (omega (arith, first)) refl refl (f .phase-is)
+          (f .buckets-are) (ap (λ ws. ws ++ (w ∷ [])) (f .writes-are)) (f .records-are) (then (f .plays) d)
           (λ q o. kept-on _ refl (λ b h. h) (λ q o. o) (q .0) (q .1) (f .kept (omega (arith, first)) q o))),
     ),
   )
@@ -227,7 +265,8 @@ module _ (s : Store) (g : Good s) (i n : ℕ) (script : List Entry) (x : Local) 
       let c = validate-0 s n .0 ok in
       let does = done-does s (validate n) ok in
       let first = rank-of 1 (c .0 .2) in
-      let entry-is : entryOf s (validate n) ≡ record { who = n; what = validate n; read = [] } = ap (λ (v : Stepped). record { who = n; what = validate n; read = returned s n (v .answer) }) does in (
+      let entry-is : entryOf s (validate n) ≡ record { who = n; what = validate n; read = [] } =
+      ap (λ (v : Stepped). record { who = n; what = validate n; read = returned s n (v .answer) }) does in (
         x,
         (
           m,
@@ -297,7 +336,8 @@ module _ (s : Store) (g : Good s) (i n : ℕ) (script : List Entry) (x : Local) 
       untaken b o = rw (f .number-is) (another (s .held .holder) n n b refl .if-no (prepare-0 s n .0 ok .1 .0 .0 b (rw txn-of (needed-read s (s .txns i) b o))))
 
       agree : Agreeing (s .sizes) m (liveRow s) x
-      agree q o r u p = rw (f .early (omega (arith, first)) r) (agrees s g i live-it (omega (arith, first′)) (q .0) (q .1) (f .kept (omega (arith, first)) q o) clear untaken r u p)
+      agree q o r u p = rw (f .early (omega (arith, first)) r)
+          (agrees s g i live-it (omega (arith, first′)) (q .0) (q .1) (f .kept (omega (arith, first)) q o) clear untaken r u p)
 
   pub own-install : number s (install n) ≡ 0 → (y : Local) × Followed (step s (install n) .store) i n (script ++ (entryOf s (install n) ∷ [])) y
   unfolding accepted
@@ -347,5 +387,15 @@ module _ (s : Store) (g : Good s) (i n : ℕ) (script : List Entry) (x : Local) 
   own-end ok =
       let fifth = rank-of 5 (end-0 s n .0 ok .2) in
       let does = done-does s (end n) ok in
-      let entry-is : entryOf s (end n) ≡ record { who = n; what = end n; read = [] } = ap (λ (v : Stepped). record { who = n; what = end n; read = returned s n (v .answer) }) does in
-      (phased x Ended, rw entry-is (then (played-switch (s .sizes) m (liveRow s) n script x (λ q o r u p. let e = f .late (omega (arith, fifth)) r in ((λ c. sym e), (λ c. sym e))) (f .plays)) (plays-end (installed-is (x .phase) fifth))), refl, sym (f .writes-are), ap (λ v. v .store) does ∙ ap (λ j. becomes s j Ended) placed, ap rank (f .phase-is) ∙ fifth)
+      let entry-is : entryOf s (end n) ≡ record { who = n; what = end n; read = [] } =
+      ap (λ (v : Stepped). record { who = n; what = end n; read = returned s n (v .answer) }) does in (
+        phased x Ended,
+        rw entry-is
+            (then (played-switch (s .sizes) m (liveRow s) n script x (λ q o r u p. let e = f .late (omega (arith, fifth)) r in
+            ((λ c. sym e), (λ c. sym e))) (f .plays)) (plays-end (installed-is (x .phase) fifth))),
+        refl,
+        sym (f .writes-are),
+        ap (λ v. v .store) does
+            ∙ ap (λ j. becomes s j Ended) placed,
+        ap rank (f .phase-is) ∙ fifth,
+      )

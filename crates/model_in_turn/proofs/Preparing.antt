@@ -45,14 +45,17 @@ module _ (s : Store) (q : Quiet s) (x : Local) (t : Store) (a : Alone s x t) whe
   clear : verdict (t .chains) (t .index) (t .txns 0) ≡ Clear
   clear = verdict-cause (t .chains) (t .index) (t .txns 0) Clear .1
       (by-none (a .unmarked)
-      (λ r m. let e : t .index .stamp (r .bucket) ≡ s .index .stamp (r .bucket) = ap (λ (i : Index). i .stamp (r .bucket)) (a .index-is) in (e ∙ sym (a .stamps-are r m), omega (arith, e, a .mine, q .good .below .stamp-below (r .bucket))))
+      (λ r m. let e : t .index .stamp (r .bucket) ≡ s .index .stamp (r .bucket) = ap (λ (i : Index). i .stamp (r .bucket)) (a .index-is) in
+      (e ∙ sym (a .stamps-are r m), omega (arith, e, a .mine, q .good .below .stamp-below (r .bucket))))
       (λ r m. (true-record r m, inr (omega (arith, a .good .below .xmax-below (r .ptr), a .clock-is, a .xmax-is), λ n. rw (a .active-is) at n))))
     where
       true-record : (r : ReadRecord) → Among r (t .txns 0 .records) → t .chains .xmin (r .ptr) ≡ r .xmin
-      true-record r m = let e = a .good .reading 0 (omega (arith, a .mine, q .good .numbers .clock-pos)) .records-are (omega (arith, ap rank (a .phase-is), a .early)) r m in
+      true-record r m = let e =
+          a .good .reading 0 (omega (arith, a .mine, q .good .numbers .clock-pos)) .records-are (omega (arith, ap rank (a .phase-is), a .early)) r m in
           ap (t .chains .xmin) (ap (λ (w : ReadRecord). w .ptr) e) ∙ sym (ap (λ (w : ReadRecord). w .xmin) e)
 
-  pub prepare-acts : x .phase ≡ Open → s .chains .used + length (versionRows (s .sizes) (s .chains) (x .writes)) ≤ s .sizes .versions → Acts s (phased x Prepared) t (prepare (s .clock)) []
+  pub prepare-acts : x .phase ≡ Open → s .chains .used + length (versionRows (s .sizes) (s .chains) (x .writes)) ≤ s .sizes .versions
+      → Acts s (phased x Prepared) t (prepare (s .clock)) []
   unfolding accepted
   prepare-acts p room = record { done = ok; reads-are = ap (λ v. returned t (s .clock) (v .answer)) does; next = rw store-is after }
     where
@@ -60,7 +63,13 @@ module _ (s : Store) (q : Quiet s) (x : Local) (t : Store) (a : Alone s x t) whe
       versions = rw (txn-is s q x t a, nothing-reserved (ap rank p), a .writes-are, a .sizes-are, a .chains-are) (omega (arith, room))
 
       ok : number t (prepare (s .clock)) ≡ 0
-      ok = prepare-0 t (s .clock) .1 ((right-shape t (a .good), lives s q x t a, phase-of s q x t a ∙ ap rank p), (((λ b m. unheld s q x t a b), (λ r m. unclaimed s q x t a r)), (ap (λ (w : Txn). verdictNumber (verdict (t .chains) (t .index) w)) (txn-is s q x t a) ∙ ap verdictNumber clear, versions)))
+      ok = prepare-0 t (s .clock) .1 (
+        (right-shape t (a .good), lives s q x t a, phase-of s q x t a ∙ ap rank p),
+        (
+          ((λ b m. unheld s q x t a b), (λ r m. unclaimed s q x t a r)),
+          (ap (λ (w : Txn). verdictNumber (verdict (t .chains) (t .index) w)) (txn-is s q x t a) ∙ ap verdictNumber clear, versions),
+        ),
+      )
 
       does : step t (prepare (s .clock)) ≡ accepted t (prepare (s .clock))
       does = done-does t (prepare (s .clock)) ok
@@ -69,7 +78,8 @@ module _ (s : Store) (q : Quiet s) (x : Local) (t : Store) (a : Alone s x t) whe
       store-is = ap (λ v. v .store) does ∙ ap (prepared t) (place s q x t a)
 
       after : Alone s (phased x Prepared) (prepared t 0)
-      after = alone-set s q x t a (prepared t 0) _ _ (rw store-is at (good-move t _ (a .good) (step-move t (prepare (s .clock))))) refl refl refl refl refl refl refl refl refl (omega arith) (a .buckets-are) (a .stamps-are) (a .writes-are) (a .records-are)
+      after = alone-set s q x t a (prepared t 0) _ _ (rw store-is at (good-move t _ (a .good) (step-move t (prepare (s .clock))))) refl refl refl refl
+          refl refl refl refl refl (omega arith) (a .buckets-are) (a .stamps-are) (a .writes-are) (a .records-are)
 
 -- begin in a quiet store
 module _ (s : Store) (q : Quiet s) (room : s .clock + 2 ≤ lastNumber) where

@@ -19,5 +19,6 @@ pub one-after-another : (z : Sizes) (clock : ℕ) (steps : List Step) → RunInT
 one-after-another = in-turn
 
 -- What a read is said to return is what was asked for: each row holds the key that the transaction captured, with some payload. Of any store.
-pub read-keys : (s : Store) (t room : ℕ) (rs : List ℕ) → step s (rows t room) .answer ≡ Rows rs → (q : ℕ × Content) → Among q (returned s t (Rows rs)) → (payload : ℕ) × (q .1 ≡ some (keyIn (txnOf s t .phase), payload))
+pub read-keys : (s : Store) (t room : ℕ) (rs : List ℕ) → step s (rows t room) .answer ≡ Rows rs → (q : ℕ × Content) → Among q (returned s t (Rows rs))
+    → (payload : ℕ) × (q .1 ≡ some (keyIn (txnOf s t .phase), payload))
 read-keys = returned-keys

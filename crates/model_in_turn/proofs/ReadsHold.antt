@@ -1,4 +1,5 @@
--- What a transaction has read holds: where its verdict is clear the rows show now what it read, and while it is prepared no end of another changes them. Assumes nothing.
+-- What a transaction has read holds: where its verdict is clear the rows show now what it read, and while it is prepared no end of another changes them.
+-- Assumes nothing.
 use mathlib.Core.Path.{_≡_, refl, sym, ap, _∙_}
 use mathlib.Core.Bool.{Bool, true, false, true≢false}
 use mathlib.Core.Logic.{_≢_, inr}
@@ -31,7 +32,8 @@ carries-key o payload k e = sym (key-content o payload) ∙ same-key _ _ e
 module _ (s : Store) (g : Good s) (i : ℕ) (l : Live (s .txns i)) (a : rank (s .txns i .phase) < phaseInstalled) (k : ℕ) (ws : List Write)
     (relied : Relied (s .sizes) (s .chains) (s .txns i) k ws) (clear : Cleared (s .chains) (s .index) (s .txns i))
     (untaken : (b : ℕ) → Among b (readBuckets (s .txns i)) → byAnother (s .held .holder) (s .txns i .number) b ≡ false) where
-  same-content : (r : ℕ) → r < s .sizes .rows → pending ws r ≡ false → keyAt (s .chains) (versionOf (s .chains) (s .txns i .snapshot) r) ≡ some k → liveRow s r ≡ contentOf (s .chains) (s .txns i .snapshot) r
+  same-content : (r : ℕ) → r < s .sizes .rows → pending ws r ≡ false → keyAt (s .chains) (versionOf (s .chains) (s .txns i .snapshot) r) ≡ some k
+      → liveRow s r ≡ contentOf (s .chains) (s .txns i .snapshot) r
   unfolding contentOf
   same-content r u b e = ap (λ p. content (keyAt (s .chains) p) (s .chains .payload p)) (read-now s g i l a k ws relied clear untaken r u b e)
 

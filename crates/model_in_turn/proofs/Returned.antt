@@ -39,7 +39,8 @@ module _ (c : Chains) (x : Txn) (m : ℕ → Content) (m-is : (r : ℕ) → m r 
   match-is k r = rw (m-is r) (go (pending (x .writes) r))
     where
       go : (b : Bool) → sameKey (cond b (writtenKey (lastWrite (x .writes) r)) (keyAt c (versionOf c (x .snapshot) r))) (some k)
-          ≡ carries (cond b (content (writtenKey (lastWrite (x .writes) r)) (writtenPayload (lastWrite (x .writes) r))) (content (keyAt c (versionOf c (x .snapshot) r)) (c .payload (versionOf c (x .snapshot) r)))) k
+          ≡ carries (cond b (content (writtenKey (lastWrite (x .writes) r)) (writtenPayload (lastWrite (x .writes) r)))
+          (content (keyAt c (versionOf c (x .snapshot) r)) (c .payload (versionOf c (x .snapshot) r)))) k
       go true = sym (carries-same _ _ k)
       go false = sym (carries-same _ _ k)
 
@@ -69,13 +70,16 @@ holds-key none k e = absurd (no-key (same-key none (some k) e))
 holds-key (some q) k e = let f : some (q .0) ≡ some k = same-key (some (q .0)) (some k) e in let j : q .0 ≡ k = cc in (q .1, ap (λ i. some (i, q .1)) j)
 
 -- each row that a read returns holds the key that was asked for
-pub returned-keys : (s : Store) (t room : ℕ) (rs : List ℕ) → step s (rows t room) .answer ≡ Rows rs → (q : ℕ × Content) → Among q (returned s t (Rows rs)) → (payload : ℕ) × (q .1 ≡ some (keyIn (txnOf s t .phase), payload))
+pub returned-keys : (s : Store) (t room : ℕ) (rs : List ℕ) → step s (rows t room) .answer ≡ Rows rs → (q : ℕ × Content) → Among q (returned s t (Rows rs))
+    → (payload : ℕ) × (q .1 ≡ some (keyIn (txnOf s t .phase), payload))
 returned-keys s t room rs e q o =
     let x = txnOf s t in
     let d = rows-done s t room rs e in
     let w = map-among (λ r. (r, shownTo (s .chains) x r)) rs q o in
     let f = found-which s x (w .0) (subst (Among (w .0)) (d .answer-is) (w .1)) in
-    let c : carries (shownTo (s .chains) x (w .0)) (keyIn (x .phase)) ≡ true = ap (λ m. carries m (keyIn (x .phase))) (shown-is (s .chains) x (contentOf (s .chains) (x .snapshot)) (λ r. refl) (w .0)) ∙ (sym (match-is (s .chains) x (contentOf (s .chains) (x .snapshot)) (λ r. refl) (keyIn (x .phase)) (w .0)) ∙ f .1) in
+    let c : carries (shownTo (s .chains) x (w .0)) (keyIn (x .phase)) ≡ true =
+    ap (λ m. carries m (keyIn (x .phase))) (shown-is (s .chains) x (contentOf (s .chains) (x .snapshot)) (λ r. refl) (w .0))
+    ∙ (sym (match-is (s .chains) x (contentOf (s .chains) (x .snapshot)) (λ r. refl) (keyIn (x .phase)) (w .0)) ∙ f .1) in
     let h = holds-key _ (keyIn (x .phase)) c in
     (h .0, ap (λ (p : ℕ × Content). p .1) (w .2) ∙ h .1)
 
@@ -92,11 +96,13 @@ module _ (c : Chains) (ch : Chained c) (x : Txn) where
   recorded-row rs h r z = same-test _ _
       (λ e.
       let w = some-which (λ (q : ReadRecord). eqb (q .ptr) (versionOf c (x .snapshot) r)) rs e in
-      let f : versionOf c (x .snapshot) (w .0 .row) ≡ versionOf c (x .snapshot) r = sym (ap (λ (q : ReadRecord). q .ptr) (h (w .0) (w .1))) ∙ eqb-true _ _ (w .2) in
+      let f : versionOf c (x .snapshot) (w .0 .row) ≡ versionOf c (x .snapshot) r = sym (ap (λ (q : ReadRecord). q .ptr) (h (w .0) (w .1)))
+      ∙ eqb-true _ _ (w .2) in
       among-member r (rowsOf rs) (rw (one-row c (x .snapshot) ch (w .0 .row) r f z) at (among-map (λ (q : ReadRecord). q .row) rs (w .0) (w .1))))
       (λ e.
       let w = map-among (λ (q : ReadRecord). q .row) rs r (member-among r (rowsOf rs) e) in
-      which-some (λ (q : ReadRecord). eqb (q .ptr) (versionOf c (x .snapshot) r)) rs (w .0) (w .1) (eq-eqb _ _ (ap (λ (q : ReadRecord). q .ptr) (h (w .0) (w .1)) ∙ ap (versionOf c (x .snapshot)) (sym (w .2)))))
+      which-some (λ (q : ReadRecord). eqb (q .ptr) (versionOf c (x .snapshot) r)) rs (w .0) (w .1)
+      (eq-eqb _ _ (ap (λ (q : ReadRecord). q .ptr) (h (w .0) (w .1)) ∙ ap (versionOf c (x .snapshot)) (sym (w .2)))))
 
   -- one row
   abbrev noted : List ReadRecord → ℕ → List ReadRecord
@@ -104,7 +110,8 @@ module _ (c : Chains) (ch : Chained c) (x : Txn) where
 
   still : (rs : List ReadRecord) (r : ℕ) → True rs → True (noted rs r)
   still rs r h = cond-elim True (pending (x .writes) r) rs (recording rs (recordOf c (x .snapshot) r)) (λ e. h)
-      (λ e q n. ⊎-elim (λ o. h q o) (λ f. f ∙ ap (λ (w : ReadRecord). recordOf c (x .snapshot) (w .row)) (sym f)) (recording-cases rs (recordOf c (x .snapshot) r) q n))
+      (λ e q n. ⊎-elim (λ o. h q o) (λ f. f ∙ ap (λ (w : ReadRecord). recordOf c (x .snapshot) (w .row)) (sym f))
+      (recording-cases rs (recordOf c (x .snapshot) r) q n))
 
   noted-rows : (rs : List ReadRecord) (r : ℕ) → True rs → (pending (x .writes) r ≡ false → versionOf c (x .snapshot) r ≢ 0)
       → rowsOf (noted rs r) ≡ cond (pending (x .writes) r || member r (rowsOf rs)) (rowsOf rs) (rowsOf rs ++ (r ∷ []))
@@ -115,12 +122,15 @@ module _ (c : Chains) (ch : Chained c) (x : Txn) where
       one true e = refl
       one false e = map-append (λ (q : ReadRecord). q .row) rs (recordOf c (x .snapshot) r ∷ [])
 
-      go : (b : Bool) → pending (x .writes) r ≡ b → rowsOf (cond b rs (recording rs (recordOf c (x .snapshot) r))) ≡ cond (b || member r (rowsOf rs)) (rowsOf rs) (rowsOf rs ++ (r ∷ []))
+      go : (b : Bool) → pending (x .writes) r ≡ b
+          → rowsOf (cond b rs (recording rs (recordOf c (x .snapshot) r))) ≡ cond (b || member r (rowsOf rs)) (rowsOf rs) (rowsOf rs ++ (r ∷ []))
       go true p = refl
       go false p = rw (recorded-row rs h r (z p)) (one (member r (rowsOf rs)) refl)
 
-  pub records-is : (rs : List ReadRecord) (found : List ℕ) → True rs → ((r : ℕ) → Among r found → pending (x .writes) r ≡ false → versionOf c (x .snapshot) r ≢ 0)
+  pub records-is : (rs : List ReadRecord) (found : List ℕ) → True rs
+      → ((r : ℕ) → Among r found → pending (x .writes) r ≡ false → versionOf c (x .snapshot) r ≢ 0)
       → rowsOf (recordAll c x rs found) ≡ recordRows (x .writes) (rowsOf rs) found
   unfolding recordAll recordRows
   records-is rs [] h z = refl
-  records-is rs (r ∷ more) h z = records-is (noted rs r) more (still rs r h) (λ q n. z q (inr n)) ∙ ap (λ l. recordRows (x .writes) l more) (noted-rows rs r h (z r (inl refl)))
+  records-is rs (r ∷ more) h z = records-is (noted rs r) more (still rs r h) (λ q n. z q (inr n))
+      ∙ ap (λ l. recordRows (x .writes) l more) (noted-rows rs r h (z r (inl refl)))

@@ -1,4 +1,5 @@
--- A run to see the definitions at work: two transactions that end in another order than they began, a read of an own pending write, and one that is Installed when the run stops. Assumes nothing.
+-- A run to see the definitions at work: two transactions that end in another order than they began, a read of an own pending write, and one that is Installed
+-- when the run stops. Assumes nothing.
 use mathlib.Core.Path.{_≡_, refl}
 use mathlib.Core.Option.{none, some}
 use mathlib.Core.List.{List, [], _∷_}
@@ -55,11 +56,13 @@ unfolding computes entries
 again = refl
 
 -- row 0 is as the last to end left it, and row 2, whose head is there, is not live
-pub live : (liveRow (run (fresh sizes 1) steps) 0 ≡ some (5, 1)) × (liveRow (run (fresh sizes 1) steps) 1 ≡ some (6, 3)) × (liveRow (run (fresh sizes 1) steps) 2 ≡ none) × (run (fresh sizes 1) steps .chains .head 2 ≡ 4)
+pub live : (liveRow (run (fresh sizes 1) steps) 0 ≡ some (5, 1)) × (liveRow (run (fresh sizes 1) steps) 1 ≡ some (6, 3))
+    × (liveRow (run (fresh sizes 1) steps) 2 ≡ none) × (run (fresh sizes 1) steps .chains .head 2 ≡ 4)
 unfolding computes
 live = (refl, refl, refl, refl)
 
-pub live-again : (liveRow (run (fresh sizes 1) (stepsIn turn)) 0 ≡ some (5, 1)) × (liveRow (run (fresh sizes 1) (stepsIn turn)) 1 ≡ some (6, 3)) × (liveRow (run (fresh sizes 1) (stepsIn turn)) 2 ≡ none)
+pub live-again : (liveRow (run (fresh sizes 1) (stepsIn turn)) 0 ≡ some (5, 1)) × (liveRow (run (fresh sizes 1) (stepsIn turn)) 1 ≡ some (6, 3))
+    × (liveRow (run (fresh sizes 1) (stepsIn turn)) 2 ≡ none)
 unfolding computes
 live-again = (refl, refl, refl)
 

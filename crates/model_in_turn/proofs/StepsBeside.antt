@@ -33,14 +33,17 @@ module _ (z : Sizes) (c₀ : ℕ) where
   -- a step that names a transaction, takes it on, and neither ends nor publishes it
   beside-named : (s : Store) (es : List Entry) → SideBySide z c₀ s es → (a : Step) (t : ℕ) → Move s (at s t) (step s a .store) → entryOf s a .who ≡ t
       → endIn (entryOf s a .what) ≡ [] → isPublish (entryOf s a .what) ≡ false → Lives s t → rank (txnOf s t .phase) < phaseInstalled
-      → ((x : Local) (m : ℕ → Content) → Follow s (at s t) t (doneBy t es) x m → (y : Local) × Followed (step s a .store) (at s t) t (doneBy t es ++ (entryOf s a ∷ [])) y) → SideBySide z c₀ (step s a .store) (es ++ (entryOf s a ∷ []))
+      → ((x : Local) (m : ℕ → Content) → Follow s (at s t) t (doneBy t es) x m
+      → (y : Local) × Followed (step s a .store) (at s t) t (doneBy t es ++ (entryOf s a ∷ [])) y)
+      → SideBySide z c₀ (step s a .store) (es ++ (entryOf s a ∷ []))
   beside-named s es h a t m who-is end-none no-publish lives few own =
       beside-move z c₀ s (step s a .store) es (entryOf s a) m h end-none
       (λ i d l c. d (h .good .numbers .distinct i (at s t) l (sym c ∙ (who-is ∙ sym number-b))))
       (omega (arith, who-is, number-b, h .good .numbers .below (at s t), clock-move s _ m))
       (λ n o. rw (who-is, ne-eqb t n (λ e. omega (arith, h .gone n o .1 (at s t) live-b (number-b ∙ e)))) refl)
       (λ l e. omega arith)
-      (λ l c. let w = renamed s (at s t) es (s .txns (at s t) .number) t number-b (h .follow (at s t) live-b (omega arith)) in let v = own (w .0) (w .1 .0) (w .1 .1) in
+      (λ l c. let w = renamed s (at s t) es (s .txns (at s t) .number) t number-b (h .follow (at s t) live-b (omega arith)) in
+      let v = own (w .0) (w .1 .0) (w .1 .1) in
       (v .0, rw (v .1 .1 .number-is, mine-more t es (entryOf s a) who-is no-publish) (v .1)))
     where
       number-b : s .txns (at s t) .number ≡ t
@@ -49,14 +52,23 @@ module _ (z : Sizes) (c₀ : ℕ) where
       live-b : Live (s .txns (at s t))
       live-b = omega (arith, number-b, lives .3)
 
-  pub beside-capture : (s : Store) (es : List Entry) → SideBySide z c₀ s es → (t k : ℕ) → number s (capture t k) ≡ 0 → SideBySide z c₀ (step s (capture t k) .store) (es ++ (entryOf s (capture t k) ∷ []))
-  beside-capture s es h t k ok = let c = capture-0 s t k .0 ok .0 in beside-named s es h (capture t k) t (step-move s (capture t k)) refl refl refl (c .1) (omega (arith, c .2)) (λ x m f. own-capture s (h .good) (at s t) t (doneBy t es) x m f k ok)
+  pub beside-capture : (s : Store) (es : List Entry) → SideBySide z c₀ s es → (t k : ℕ) → number s (capture t k) ≡ 0
+      → SideBySide z c₀ (step s (capture t k) .store) (es ++ (entryOf s (capture t k) ∷ []))
+  beside-capture s es h t k ok = let c = capture-0 s t k .0 ok .0 in
+      beside-named s es h (capture t k) t (step-move s (capture t k)) refl refl refl (c .1) (omega (arith, c .2))
+      (λ x m f. own-capture s (h .good) (at s t) t (doneBy t es) x m f k ok)
 
-  pub beside-collect : (s : Store) (es : List Entry) → SideBySide z c₀ s es → (t : ℕ) → number s (collect t) ≡ 0 → SideBySide z c₀ (step s (collect t) .store) (es ++ (entryOf s (collect t) ∷ []))
-  beside-collect s es h t ok = let c = collect-0 s t .0 ok in beside-named s es h (collect t) t (step-move s (collect t)) refl refl refl (c .1) (omega (arith, c .2)) (λ x m f. own-collect s (h .good) (at s t) t (doneBy t es) x m f ok)
+  pub beside-collect : (s : Store) (es : List Entry) → SideBySide z c₀ s es → (t : ℕ) → number s (collect t) ≡ 0
+      → SideBySide z c₀ (step s (collect t) .store) (es ++ (entryOf s (collect t) ∷ []))
+  beside-collect s es h t ok = let c = collect-0 s t .0 ok in
+      beside-named s es h (collect t) t (step-move s (collect t)) refl refl refl (c .1) (omega (arith, c .2))
+      (λ x m f. own-collect s (h .good) (at s t) t (doneBy t es) x m f ok)
 
-  pub beside-rows : (s : Store) (es : List Entry) → SideBySide z c₀ s es → (t room : ℕ) → number s (rows t room) ≡ 0 → SideBySide z c₀ (step s (rows t room) .store) (es ++ (entryOf s (rows t room) ∷ []))
-  beside-rows s es h t room ok = let c = rows-0 s t room .0 ok .0 in beside-named s es h (rows t room) t (step-move s (rows t room)) refl refl refl (c .1) (omega (arith, c .2)) (λ x m f. own-rows s (h .good) (at s t) t (doneBy t es) x m f room ok)
+  pub beside-rows : (s : Store) (es : List Entry) → SideBySide z c₀ s es → (t room : ℕ) → number s (rows t room) ≡ 0
+      → SideBySide z c₀ (step s (rows t room) .store) (es ++ (entryOf s (rows t room) ∷ []))
+  beside-rows s es h t room ok = let c = rows-0 s t room .0 ok .0 in
+      beside-named s es h (rows t room) t (step-move s (rows t room)) refl refl refl (c .1) (omega (arith, c .2))
+      (λ x m f. own-rows s (h .good) (at s t) t (doneBy t es) x m f room ok)
 
   pub beside-write : (s : Store) (es : List Entry) → SideBySide z c₀ s es → (t r : ℕ) (c : Content) → number s (write t r c) ≡ 0
       → SideBySide z c₀ (step s (write t r c) .store) (es ++ (entryOf s (write t r c) ∷ []))
@@ -65,17 +77,27 @@ module _ (z : Sizes) (c₀ : ℕ) where
       beside-named s es h (write t r c) t (step-move s (write t r c)) refl refl refl (d .1) (omega (arith, d .2))
       (λ x m f. own-write s (h .good) (at s t) t (doneBy t es) x m f r c ok)
 
-  pub beside-validate : (s : Store) (es : List Entry) → SideBySide z c₀ s es → (t : ℕ) → number s (validate t) ≡ 0 → SideBySide z c₀ (step s (validate t) .store) (es ++ (entryOf s (validate t) ∷ []))
-  beside-validate s es h t ok = let c = validate-0 s t .0 ok .0 in beside-named s es h (validate t) t (step-move s (validate t)) refl refl refl (c .1) (omega (arith, c .2)) (λ x m f. own-validate s (h .good) (at s t) t (doneBy t es) x m f ok)
+  pub beside-validate : (s : Store) (es : List Entry) → SideBySide z c₀ s es → (t : ℕ) → number s (validate t) ≡ 0
+      → SideBySide z c₀ (step s (validate t) .store) (es ++ (entryOf s (validate t) ∷ []))
+  beside-validate s es h t ok = let c = validate-0 s t .0 ok .0 in
+      beside-named s es h (validate t) t (step-move s (validate t)) refl refl refl (c .1) (omega (arith, c .2))
+      (λ x m f. own-validate s (h .good) (at s t) t (doneBy t es) x m f ok)
 
-  pub beside-prepare : (s : Store) (es : List Entry) → SideBySide z c₀ s es → (t : ℕ) → number s (prepare t) ≡ 0 → SideBySide z c₀ (step s (prepare t) .store) (es ++ (entryOf s (prepare t) ∷ []))
-  beside-prepare s es h t ok = let c = prepare-0 s t .0 ok .0 in beside-named s es h (prepare t) t (step-move s (prepare t)) refl refl refl (c .1) (omega (arith, c .2)) (λ x m f. own-prepare s (h .good) (at s t) t (doneBy t es) x m f ok)
+  pub beside-prepare : (s : Store) (es : List Entry) → SideBySide z c₀ s es → (t : ℕ) → number s (prepare t) ≡ 0
+      → SideBySide z c₀ (step s (prepare t) .store) (es ++ (entryOf s (prepare t) ∷ []))
+  beside-prepare s es h t ok = let c = prepare-0 s t .0 ok .0 in
+      beside-named s es h (prepare t) t (step-move s (prepare t)) refl refl refl (c .1) (omega (arith, c .2))
+      (λ x m f. own-prepare s (h .good) (at s t) t (doneBy t es) x m f ok)
 
-  pub beside-install : (s : Store) (es : List Entry) → SideBySide z c₀ s es → (t : ℕ) → number s (install t) ≡ 0 → SideBySide z c₀ (step s (install t) .store) (es ++ (entryOf s (install t) ∷ []))
-  beside-install s es h t ok = let c = install-0 s t .0 ok in beside-named s es h (install t) t (step-move s (install t)) refl refl refl (c .1) (omega (arith, c .2)) (λ x m f. own-install s (h .good) (at s t) t (doneBy t es) x m f ok)
+  pub beside-install : (s : Store) (es : List Entry) → SideBySide z c₀ s es → (t : ℕ) → number s (install t) ≡ 0
+      → SideBySide z c₀ (step s (install t) .store) (es ++ (entryOf s (install t) ∷ []))
+  beside-install s es h t ok = let c = install-0 s t .0 ok in
+      beside-named s es h (install t) t (step-move s (install t)) refl refl refl (c .1) (omega (arith, c .2))
+      (λ x m f. own-install s (h .good) (at s t) t (doneBy t es) x m f ok)
 
   -- a step that frees the place
-  pub beside-publish : (s : Store) (es : List Entry) → SideBySide z c₀ s es → (t : ℕ) → number s (publish t) ≡ 0 → SideBySide z c₀ (step s (publish t) .store) (es ++ (entryOf s (publish t) ∷ []))
+  pub beside-publish : (s : Store) (es : List Entry) → SideBySide z c₀ s es → (t : ℕ) → number s (publish t) ≡ 0
+      → SideBySide z c₀ (step s (publish t) .store) (es ++ (entryOf s (publish t) ∷ []))
   unfolding accepted
   beside-publish s es h t ok =
       beside-move z c₀ s (step s (publish t) .store) es (entryOf s (publish t)) (step-move s (publish t)) h refl
@@ -91,7 +113,8 @@ module _ (z : Sizes) (c₀ : ℕ) where
       freed-b : step s (publish t) .store .txns (at s t) ≡ noTxn
       freed-b = ap (λ w. w .store .txns (at s t)) (done-does s (publish t) ok) ∙ update-same (s .txns) (at s t) noTxn
 
-  pub beside-abort : (s : Store) (es : List Entry) → SideBySide z c₀ s es → (t : ℕ) → number s (abort t) ≡ 0 → SideBySide z c₀ (step s (abort t) .store) (es ++ (entryOf s (abort t) ∷ []))
+  pub beside-abort : (s : Store) (es : List Entry) → SideBySide z c₀ s es → (t : ℕ) → number s (abort t) ≡ 0
+      → SideBySide z c₀ (step s (abort t) .store) (es ++ (entryOf s (abort t) ∷ []))
   unfolding accepted
   beside-abort s es h t ok =
       beside-move z c₀ s (step s (abort t) .store) es (entryOf s (abort t)) (step-move s (abort t)) h refl
@@ -111,7 +134,8 @@ module _ (z : Sizes) (c₀ : ℕ) where
       freed-b = ap (λ w. w .store .txns (at s t)) (done-does s (abort t) ok) ∙ update-same (s .txns) (at s t) noTxn
 
   -- begin: a new one is followed from its first step on
-  pub beside-begin : (s : Store) (es : List Entry) → SideBySide z c₀ s es → number s begin ≡ 0 → SideBySide z c₀ (step s begin .store) (es ++ (entryOf s begin ∷ []))
+  pub beside-begin : (s : Store) (es : List Entry) → SideBySide z c₀ s es → number s begin ≡ 0
+      → SideBySide z c₀ (step s begin .store) (es ++ (entryOf s begin ∷ []))
   unfolding accepted liveCount placeOf
   beside-begin s es h ok =
       beside-move z c₀ s (step s begin .store) es (entryOf s begin) (step-move s begin) h refl
@@ -146,9 +170,11 @@ module _ (z : Sizes) (c₀ : ℕ) where
       entry-is = ap (λ (v : Stepped). record { who = s .clock; what = begin; read = returned s 0 (v .answer) }) does
 
       script-is : doneBy (s .clock) (es ++ (entryOf s begin ∷ [])) ≡ record { who = s .clock; what = begin; read = [] } ∷ []
-      script-is = mine-more (s .clock) es (entryOf s begin) refl refl ∙ (ap (λ l. l ++ (entryOf s begin ∷ [])) (none-yet (s .clock) es (h .older)) ∙ ap (λ e. e ∷ []) entry-is)
+      script-is = mine-more (s .clock) es (entryOf s begin) refl refl
+          ∙ (ap (λ l. l ++ (entryOf s begin ∷ [])) (none-yet (s .clock) es (h .older)) ∙ ap (λ e. e ∷ []) entry-is)
 
-      new : Follow (begun s (at s 0)) (at s 0) (s .clock) (record { who = s .clock; what = begin; read = [] } ∷ []) started (contentOf (s .chains) (newTxn s .snapshot))
+      new : Follow (begun s (at s 0)) (at s 0) (s .clock) (record { who = s .clock; what = begin; read = [] } ∷ []) started
+          (contentOf (s .chains) (newTxn s .snapshot))
       new = record {
         number-is = number-now;
         alive = h .good .numbers .clock-pos;

@@ -17,7 +17,8 @@ use Rattle.model.proofs.Move.{run-append}
 use Rattle.model.proofs.Outcomes.{done-does}
 use Rattle.model_in_turn.specs.Done.{returned, Entry, entryOf, entries}
 use Rattle.model_in_turn.specs.InTurn.{stepsIn}
-use Rattle.model_in_turn.proofs.ByItself.{Local, phased, Plays, plays-capture, plays-collect, plays-rows, plays-write, plays-validate, plays-prepare, plays-install, plays-end, Played, begins, then}
+use Rattle.model_in_turn.proofs.ByItself.{Local, phased, Plays, plays-capture, plays-collect, plays-rows, plays-write, plays-validate, plays-prepare}
+use Rattle.model_in_turn.proofs.ByItself.{plays-install, plays-end, Played, begins, then}
 use Rattle.model_in_turn.proofs.Alone.{Quiet, Alone}
 use Rattle.model_in_turn.proofs.Acting.{capture-acts, collect-acts, rows-acts, write-acts, validate-acts}
 use Rattle.model_in_turn.proofs.Preparing.{prepare-acts, begin-done, begin-alone}
@@ -30,7 +31,8 @@ entries-append s [] ys = refl
 entries-append s (a ∷ xs) ys = go (eqb (number s a) 0) (entries-append (step s a .store) xs ys)
   where
     go : (b : Bool) → entries (step s a .store) (xs ++ ys) ≡ entries (step s a .store) xs ++ entries (run (step s a .store) xs) ys
-        → cond b (entryOf s a ∷ entries (step s a .store) (xs ++ ys)) (entries (step s a .store) (xs ++ ys)) ≡ cond b (entryOf s a ∷ entries (step s a .store) xs) (entries (step s a .store) xs) ++ entries (run (step s a .store) xs) ys
+        → cond b (entryOf s a ∷ entries (step s a .store) (xs ++ ys)) (entries (step s a .store) (xs ++ ys))
+        ≡ cond b (entryOf s a ∷ entries (step s a .store) xs) (entries (step s a .store) xs) ++ entries (run (step s a .store) xs) ys
     go true h = ap (λ l. entryOf s a ∷ l) h
     go false h = h
 
@@ -54,7 +56,8 @@ VersionsFit s ws = s .chains .used + length (versionRows (s .sizes) (s .chains) 
 pub data Stage (s : Store) : Local → Store → Type 0 where
   early-on : {x : Local} {t : Store} → Alone s x t → Stage s x t
   has-installed : {x : Local} {t : Store} (a : Alone s x t) (p : x .phase ≡ Prepared) {t′ : Store} → t′ ≡ installed t 0 → Stage s (phased x Installed) t′
-  has-ended : {x : Local} {t : Store} (a : Alone s x t) (p : x .phase ≡ Prepared) {t′ : Store} → t′ ≡ becomes (installed t 0) 0 Ended → Stage s (phased x Ended) t′
+  has-ended : {x : Local} {t : Store} (a : Alone s x t) (p : x .phase ≡ Prepared) {t′ : Store} → t′ ≡ becomes (installed t 0) 0 Ended
+      → Stage s (phased x Ended) t′
 
 -- a step at a stage: accepted, with this read, and on to the next stage
 pub record Goes (s : Store) (y : Local) (t : Store) (n : ℕ) (a : Step) (read : List (ℕ × Content)) : Type 0 where
@@ -70,14 +73,19 @@ module _ (s : Store) (q : Quiet s) where
   from-early : (x y : Local) (t : Store) (a : Step) (read : List (ℕ × Content)) → Alone s x t → Plays (s .sizes) (liveRow s) n x a read y
       → (phasePrepared ≤ rank (y .phase) → VersionsFit s (y .writes)) → Goes s y t n a read
   unfolding accepted
-  from-early x y t a read l (plays-capture k p o) h = let w = capture-acts s q x t l k p o in record { done = w .done; entry-is = ap (λ r. record { who = n; what = capture n k; read = r }) (w .reads-are); stage = early-on (w .next) }
-  from-early x y t a read l (plays-collect b k p) h = let w = collect-acts s q x t l b k p in record { done = w .done; entry-is = ap (λ r. record { who = n; what = collect n; read = r }) (w .reads-are); stage = early-on (w .next) }
-  from-early x y t a read l (plays-rows room k rs rd p e f u v) h = let w = rows-acts s q x t l room k rs rd p e f u v in record { done = w .done; entry-is = ap (λ r. record { who = n; what = rows n room; read = r }) (w .reads-are); stage = early-on (w .next) }
+  from-early x y t a read l (plays-capture k p o) h = let w = capture-acts s q x t l k p o in
+      record { done = w .done; entry-is = ap (λ r. record { who = n; what = capture n k; read = r }) (w .reads-are); stage = early-on (w .next) }
+  from-early x y t a read l (plays-collect b k p) h = let w = collect-acts s q x t l b k p in
+      record { done = w .done; entry-is = ap (λ r. record { who = n; what = collect n; read = r }) (w .reads-are); stage = early-on (w .next) }
+  from-early x y t a read l (plays-rows room k rs rd p e f u v) h = let w = rows-acts s q x t l room k rs rd p e f u v in
+      record { done = w .done; entry-is = ap (λ r. record { who = n; what = rows n room; read = r }) (w .reads-are); stage = early-on (w .next) }
   from-early x y t a read l (plays-write r c p u v) h = let w =
       write-acts s q x t l r c p u v in
       record { done = w .done; entry-is = ap (λ o. record { who = n; what = write n r c; read = o }) (w .reads-are); stage = early-on (w .next) }
-  from-early x y t a read l (plays-validate p) h = let w = validate-acts s q x t l p in record { done = w .done; entry-is = ap (λ r. record { who = n; what = validate n; read = r }) (w .reads-are); stage = early-on (w .next) }
-  from-early x y t a read l (plays-prepare p) h = let w = prepare-acts s q x t l p (h (omega arith)) in record { done = w .done; entry-is = ap (λ r. record { who = n; what = prepare n; read = r }) (w .reads-are); stage = early-on (w .next) }
+  from-early x y t a read l (plays-validate p) h = let w = validate-acts s q x t l p in
+      record { done = w .done; entry-is = ap (λ r. record { who = n; what = validate n; read = r }) (w .reads-are); stage = early-on (w .next) }
+  from-early x y t a read l (plays-prepare p) h = let w = prepare-acts s q x t l p (h (omega arith)) in
+      record { done = w .done; entry-is = ap (λ r. record { who = n; what = prepare n; read = r }) (w .reads-are); stage = early-on (w .next) }
   from-early x y t a read l (plays-install p) h = record {
     done = install-done s q x t l p;
     entry-is = ap (λ (v : Stepped). record { who = n; what = install n; read = returned t n (v .answer) }) (done-does t (install n) (install-done s q x t l p));
@@ -86,7 +94,8 @@ module _ (s : Store) (q : Quiet s) where
   from-early x y t a read l (plays-end p) h = absurd (omega (arith, l .early, ap rank p))
 
   -- from Installed: only end comes
-  from-installed : (x y : Local) (t t′ : Store) (a : Step) (read : List (ℕ × Content)) (l : Alone s x t) (p : x .phase ≡ Prepared) → t′ ≡ installed t 0 → Plays (s .sizes) (liveRow s) n (phased x Installed) a read y → Goes s y t′ n a read
+  from-installed : (x y : Local) (t t′ : Store) (a : Step) (read : List (ℕ × Content)) (l : Alone s x t) (p : x .phase ≡ Prepared) → t′ ≡ installed t 0
+      → Plays (s .sizes) (liveRow s) n (phased x Installed) a read y → Goes s y t′ n a read
   unfolding accepted
   from-installed x y t t′ a read l p e (plays-capture k d o) = absurd (omega (arith, ap rank d))
   from-installed x y t t′ a read l p e (plays-collect b k d) = absurd (omega (arith, ap rank d))
@@ -97,7 +106,9 @@ module _ (s : Store) (q : Quiet s) where
   from-installed x y t t′ a read l p e (plays-install d) = absurd (omega (arith, ap rank d))
   from-installed x y t t′ a read l p e (plays-end d) = record {
     done = ap (λ w. number w (end n)) e ∙ end-done s q x t l p;
-    entry-is = ap (λ w. entryOf w (end n)) e ∙ ap (λ (v : Stepped). record { who = n; what = end n; read = returned (installed t 0) n (v .answer) }) (done-does (installed t 0) (end n) (end-done s q x t l p));
+    entry-is = ap (λ w. entryOf w (end n)) e
+        ∙ ap (λ (v : Stepped). record { who = n; what = end n; read = returned (installed t 0) n (v .answer) })
+        (done-does (installed t 0) (end n) (end-done s q x t l p));
     stage = has-ended l p (ap (λ w. step w (end n) .store) e ∙ end-is s q x t l p);
   }
 
@@ -138,7 +149,8 @@ pub record Ran (s : Store) (es : List Entry) (x : Local) : Type 0 where
 module _ (s : Store) (q : Quiet s) (numbers : s .clock + 2 ≤ lastNumber) where
   first-entry : entries s (begin ∷ []) ≡ record { who = s .clock; what = begin; read = [] } ∷ []
   unfolding accepted
-  first-entry = one-entry s begin (begin-done s q numbers) ∙ ap (λ (v : Stepped). record { who = s .clock; what = begin; read = returned s 0 (v .answer) } ∷ []) (done-does s begin (begin-done s q numbers))
+  first-entry = one-entry s begin (begin-done s q numbers)
+      ∙ ap (λ (v : Stepped). record { who = s .clock; what = begin; read = returned s 0 (v .answer) } ∷ []) (done-does s begin (begin-done s q numbers))
 
   pub ran : (es : List Entry) (x : Local) → Played (s .sizes) (liveRow s) (s .clock) es x → (phasePrepared ≤ rank (x .phase) → VersionsFit s (x .writes))
       → Ran s es x
@@ -147,13 +159,18 @@ module _ (s : Store) (q : Quiet s) (numbers : s .clock + 2 ≤ lastNumber) where
       let w = ran ds x d (λ l. let k = writes-stay (s .sizes) (liveRow s) (s .clock) x y a read p l in rw (k .1) at (h (k .0))) in
       let g = goes s q x y (run s (stepsIn ds)) a read (w .stage) p h in
       record {
-        same = ap (entries s) (steps-more ds _) ∙ (entries-append s (stepsIn ds) (a ∷ []) ∙ (ap (λ l. l ++ entries (run s (stepsIn ds)) (a ∷ [])) (w .same) ∙ ap (λ l. ds ++ l) (one-entry (run s (stepsIn ds)) a (g .done) ∙ ap (λ e. e ∷ []) (g .entry-is))));
-        stage = rw (steps-more ds (record { who = s .clock; what = a; read = read }), run-append s (stepsIn ds) (a ∷ []), one-run (run s (stepsIn ds)) a) (g .stage);
+        same = ap (entries s) (steps-more ds _)
+            ∙ (entries-append s (stepsIn ds) (a ∷ [])
+            ∙ (ap (λ l. l ++ entries (run s (stepsIn ds)) (a ∷ [])) (w .same)
+            ∙ ap (λ l. ds ++ l) (one-entry (run s (stepsIn ds)) a (g .done) ∙ ap (λ e. e ∷ []) (g .entry-is))));
+        stage = rw (steps-more ds (record { who = s .clock; what = a; read = read }), run-append s (stepsIn ds) (a ∷ []), one-run (run s (stepsIn ds)) a)
+            (g .stage);
       }
 
   -- the whole transaction, publish included
   pub record Turned (es : List Entry) (x : Local) : Type 0 where
-    pub same : entries s (stepsIn (es ++ (record { who = s .clock; what = publish (s .clock); read = [] } ∷ []))) ≡ es ++ (record { who = s .clock; what = publish (s .clock); read = [] } ∷ [])
+    pub same : entries s (stepsIn (es ++ (record { who = s .clock; what = publish (s .clock); read = [] } ∷ []))) ≡ es
+        ++ (record { who = s .clock; what = publish (s .clock); read = [] } ∷ [])
     pub after : Finished s (x .writes) (run s (stepsIn (es ++ (record { who = s .clock; what = publish (s .clock); read = [] } ∷ []))))
 
   publishes : (es : List Entry) (x : Local) (t : Store) → run s (stepsIn es) ≡ t → entries s (stepsIn es) ≡ es → x .phase ≡ Ended → Stage s x t → Turned es x
@@ -164,9 +181,19 @@ module _ (s : Store) (q : Quiet s) (numbers : s .clock + 2 ≤ lastNumber) where
       let at : run s (stepsIn es) ≡ becomes (installed v 0) 0 Ended = e ∙ f in
       let done : number (run s (stepsIn es)) (publish (s .clock)) ≡ 0 = ap (λ u. number u (publish (s .clock))) at ∙ publish-done s q w v l p in
       record {
-        same = ap (entries s) (steps-more es _) ∙ (entries-append s (stepsIn es) _ ∙ (ap (λ k. k ++ entries (run s (stepsIn es)) (publish (s .clock) ∷ [])) same ∙ ap (λ k. es ++ k) (one-entry (run s (stepsIn es)) (publish (s .clock)) done
-            ∙ ap (λ (u : Stepped). record { who = s .clock; what = publish (s .clock); read = returned (run s (stepsIn es)) (s .clock) (u .answer) } ∷ []) (done-does (run s (stepsIn es)) (publish (s .clock)) done))));
-        after = rw (steps-more es (record { who = s .clock; what = publish (s .clock); read = [] }), run-append s (stepsIn es) (publish (s .clock) ∷ []), one-run (run s (stepsIn es)) (publish (s .clock)), at, publish-is s q w v l p) (finished s q w v l p);
+        same = ap (entries s) (steps-more es _)
+            ∙ (entries-append s (stepsIn es) _
+            ∙ (ap (λ k. k ++ entries (run s (stepsIn es)) (publish (s .clock) ∷ [])) same
+            ∙ ap (λ k. es ++ k) (one-entry (run s (stepsIn es)) (publish (s .clock)) done
+            ∙ ap (λ (u : Stepped). record { who = s .clock; what = publish (s .clock); read = returned (run s (stepsIn es)) (s .clock) (u .answer) } ∷ [])
+            (done-does (run s (stepsIn es)) (publish (s .clock)) done))));
+        after = rw (
+          steps-more es (record { who = s .clock; what = publish (s .clock); read = [] }),
+          run-append s (stepsIn es) (publish (s .clock) ∷ []),
+          one-run (run s (stepsIn es)) (publish (s .clock)),
+          at,
+          publish-is s q w v l p,
+        ) (finished s q w v l p);
       }
 
   pub turned : (es : List Entry) (x : Local) → Played (s .sizes) (liveRow s) (s .clock) es x → x .phase ≡ Ended → VersionsFit s (x .writes) → Turned es x

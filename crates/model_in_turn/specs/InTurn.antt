@@ -87,9 +87,12 @@ stepsIn es = map (λ (e : Entry). e .what) es
 abbrev pub turnOf : Store → List Step → List Step
 turnOf s steps = stepsIn (oneByOne (s .clock) (entries s steps))
 
--- Were the payments as if made in turn? From a fresh store with the same sizes and clock every step of the turn is accepted and every read returns the same rows with the same keys and payloads;
--- then none is live, and the live rows are those of the run, once any of its transactions that reached end have published. Numbers, stamps and pointers may differ, and so may what begin, capture, collect, validate and publish answer.
+-- Were the payments as if made in turn? From a fresh store with the same sizes and clock every step of the turn is accepted and every read returns the same
+-- rows with the same keys and payloads;
+-- then none is live, and the live rows are those of the run, once any of its transactions that reached end have published. Numbers, stamps and pointers may
+-- differ, and so may what begin, capture, collect, validate and publish answer.
 pub record RunInTurn (z : Sizes) (clock : ℕ) (steps : List Step) : Type 0 where
   pub same-reads : entries (fresh z clock) (turnOf (fresh z clock) steps) ≡ oneByOne clock (entries (fresh z clock) steps)
   pub none-live : (i : ℕ) → run (fresh z clock) (turnOf (fresh z clock) steps) .txns i .number ≡ 0
-  pub same-rows : (published : List ℕ) (r : ℕ) → r < z .rows → liveRow (run (fresh z clock) (turnOf (fresh z clock) steps)) r ≡ liveRow (run (fresh z clock) (steps ++ map publish published)) r
+  pub same-rows : (published : List ℕ) (r : ℕ) → r < z .rows
+      → liveRow (run (fresh z clock) (turnOf (fresh z clock) steps)) r ≡ liveRow (run (fresh z clock) (steps ++ map publish published)) r

@@ -18,7 +18,8 @@ use Rattle.model.specs.Seeing.{Live}
 use Rattle.model.specs.Given.{_and_, number, Ready, Free, bucketFor, stampFor}
 use Rattle.model.specs.Demands.{Distinct}
 use Rattle.model.proofs.Distinct.{distinct-opened}
-use Rattle.model.proofs.Move.{Move, stay, did-begin, did-mark, did-capture, did-collect, did-rows, did-write, did-prepare, did-install, did-end, did-publish, did-abort, run-inv}
+use Rattle.model.proofs.Move.{Move, stay, did-begin, did-mark, did-capture, did-collect, did-rows, did-write, did-prepare, did-install, did-end, did-publish}
+use Rattle.model.proofs.Move.{did-abort, run-inv}
 use Rattle.model.proofs.Numbers.{Numbers, numbers-move, numbers-fresh}
 use Rattle.model.proofs.SeeingLaws.{read-bucket, bucket-read}
 use Rattle.model.proofs.Conditions.{lives-number}
@@ -42,7 +43,8 @@ module _ (rs : List IndexRead) (b stamp : ℕ) where
   -- `extends`: what was captured stays, in its place
   pub extends : (more : List IndexRead) × (addRead rs b stamp ≡ rs ++ more)
   unfolding addRead
-  extends = cond-elim (λ qs. (more : List IndexRead) × (qs ≡ rs ++ more)) (hasRead rs b) rs (rs ++ (taken ∷ [])) (λ e. ([], sym (append-nil rs))) (λ e. (taken ∷ [], refl))
+  extends = cond-elim (λ qs. (more : List IndexRead) × (qs ≡ rs ++ more)) (hasRead rs b) rs (rs ++ (taken ∷ [])) (λ e. ([], sym (append-nil rs)))
+      (λ e. (taken ∷ [], refl))
 
   -- `permitted_additions`: what comes is the bucket with its present stamp
   pub permitted : (r : IndexRead) → Among r (addRead rs b stamp) → Among r rs ⊎ (r ≡ taken)
@@ -52,7 +54,8 @@ module _ (rs : List IndexRead) (b stamp : ℕ) where
   -- no more than one comes
   pub at-most-one : length (addRead rs b stamp) ≤ length rs + 1
   unfolding addRead
-  at-most-one = cond-elim (λ qs. length qs ≤ length rs + 1) (hasRead rs b) rs (rs ++ (taken ∷ [])) (λ e. omega arith) (λ e. omega (arith, length-append rs (taken ∷ [])))
+  at-most-one = cond-elim (λ qs. length qs ≤ length rs + 1) (hasRead rs b) rs (rs ++ (taken ∷ [])) (λ e. omega arith)
+      (λ e. omega (arith, length-append rs (taken ∷ [])))
 
 -- `unique`: in every reached store, before and after a capture, no two index reads of a transaction are of one bucket
 unique-of : (rs : List IndexRead) → Distinct rs → UniqueReads rs
@@ -80,27 +83,35 @@ module _ (s : Store) (t k : ℕ) (e : number s (capture t k) ≡ 0) where
 pub failure-marks : (s : Store) (t k : ℕ) → number s (capture t k) ≡ 8 → step s (capture t k) .store .txns (at s t) .marked ≡ true
 failure-marks s t k e = go (capture-8 s t k .0 e)
   where
-    go : Ready s (capture t k) and ((txnOf s t .marked ≡ true) ⊎ ((txnOf s t .marked ≡ false) and Free (s .held .holder) t (bucketFor s k) and (t ≤ stampFor s k))) → step s (capture t k) .store .txns (at s t) .marked ≡ true
+    go : Ready s (capture t k)
+        and ((txnOf s t .marked ≡ true) ⊎ ((txnOf s t .marked ≡ false) and Free (s .held .holder) t (bucketFor s k) and (t ≤ stampFor s k)))
+        → step s (capture t k) .store .txns (at s t) .marked ≡ true
     go (r, inl m) = ap (λ w. w .txns (at s t) .marked) (unchanged s (capture t k) Marked (capture-marked s t k .1 (r, m)) marked-not-stale) ∙ m
       where
         marked-not-stale : Marked ≢ Stale
         marked-not-stale f = true≢false (sym (ap isStale f))
-    go (r, inr p) = ap (λ w. w .txns (at s t) .marked) (stale-marks s (capture t k) (capture-stale s t k .1 (r, p))) ∙ ap (λ x. x .marked) (update-same (s .txns) (at s t) (markedTxn (txnOf s t)))
+    go (r, inr p) = ap (λ w. w .txns (at s t) .marked) (stale-marks s (capture t k) (capture-stale s t k .1 (r, p)))
+        ∙ ap (λ x. x .marked) (update-same (s .txns) (at s t) (markedTxn (txnOf s t)))
 
 -- In every reached store a captured stamp is the bucket's present one, or the present one is not below the number.
 abbrev StampsStand : Store → Type 0
-StampsStand s = (j : ℕ) → Live (s .txns j) → (r : IndexRead) → Among r (s .txns j .reads) → (s .index .stamp (r .bucket) ≡ r .stamp) ⊎ (s .txns j .number ≤ s .index .stamp (r .bucket))
+StampsStand s = (j : ℕ) → Live (s .txns j) → (r : IndexRead) → Among r (s .txns j .reads)
+    → (s .index .stamp (r .bucket) ≡ r .stamp) ⊎ (s .txns j .number ≤ s .index .stamp (r .bucket))
 
 module _ (s : Store) (n : Numbers (s .clock) (s .txns)) (g : StampsStand s) where
-  stamps-set : (i : ℕ) (x : Txn) → (Live x → (r : IndexRead) → Among r (x .reads) → (s .index .stamp (r .bucket) ≡ r .stamp) ⊎ (x .number ≤ s .index .stamp (r .bucket)))
-      → (j : ℕ) → Live (update (s .txns) i x j) → (r : IndexRead) → Among r (update (s .txns) i x j .reads) → (s .index .stamp (r .bucket) ≡ r .stamp) ⊎ (update (s .txns) i x j .number ≤ s .index .stamp (r .bucket))
-  stamps-set i x h j = update-elim (λ y. Live y → (r : IndexRead) → Among r (y .reads) → (s .index .stamp (r .bucket) ≡ r .stamp) ⊎ (y .number ≤ s .index .stamp (r .bucket))) (s .txns) i x j (λ e. h) (λ d. g j)
+  stamps-set : (i : ℕ) (x : Txn)
+      → (Live x → (r : IndexRead) → Among r (x .reads) → (s .index .stamp (r .bucket) ≡ r .stamp) ⊎ (x .number ≤ s .index .stamp (r .bucket)))
+      → (j : ℕ) → Live (update (s .txns) i x j) → (r : IndexRead) → Among r (update (s .txns) i x j .reads)
+      → (s .index .stamp (r .bucket) ≡ r .stamp) ⊎ (update (s .txns) i x j .number ≤ s .index .stamp (r .bucket))
+  stamps-set i x h j = update-elim (λ y. Live y → (r : IndexRead) → Among r (y .reads)
+      → (s .index .stamp (r .bucket) ≡ r .stamp) ⊎ (y .number ≤ s .index .stamp (r .bucket))) (s .txns) i x j (λ e. h) (λ d. g j)
 
   stamps-move : (s′ : Store) {i : ℕ} → Move s i s′ → StampsStand s′
   stamps-move s′ (stay i) = g
   stamps-move s′ (did-begin i p q u v) = stamps-set i _ (λ l r m. absurd m)
   stamps-move s′ (did-mark i p q) = stamps-set i _ (λ l. g i p)
-  stamps-move s′ (did-capture i k p q c) = stamps-set i _ (λ l r m. ⊎-elim (g i p r) (λ e. rw e (inl refl)) (permitted (s .txns i .reads) (bucketFor s k) (stampFor s k) r m))
+  stamps-move s′ (did-capture i k p q c) =
+      stamps-set i _ (λ l r m. ⊎-elim (g i p r) (λ e. rw e (inl refl)) (permitted (s .txns i .reads) (bucketFor s k) (stampFor s k) r m))
   stamps-move s′ (did-collect i p q) = stamps-set i _ (λ l. g i p)
   stamps-move s′ (did-rows i p q u) = stamps-set i _ (λ l. g i p)
   stamps-move s′ (did-write i w p q u v) = stamps-set i _ (λ l. g i p)
@@ -108,28 +119,43 @@ module _ (s : Store) (n : Numbers (s .clock) (s .txns)) (g : StampsStand s) wher
   stamps-move s′ (did-install i p q) = stamps-set i _ (λ l. g i p)
   stamps-move s′ (did-end i p q) = stamps-set i _ (λ l. g i p)
   stamps-move s′ (did-publish i p q) =
-      λ j. update-elim (λ y. Live y → (r : IndexRead) → Among r (y .reads) → (s′ .index .stamp (r .bucket) ≡ r .stamp) ⊎ (y .number ≤ s′ .index .stamp (r .bucket))) (s .txns) i noTxn j
+      λ j. update-elim (λ y. Live y → (r : IndexRead) → Among r (y .reads)
+      → (s′ .index .stamp (r .bucket) ≡ r .stamp) ⊎ (y .number ≤ s′ .index .stamp (r .bucket))) (s .txns) i noTxn j
       (λ e l. absurd (omega arith))
-      (λ d l r m. updateAll-elim (λ v. (v ≡ r .stamp) ⊎ (s .txns j .number ≤ v)) (s .index .stamp) (changedBuckets s (s .txns i)) (s .clock) (r .bucket) (λ e. inr (omega (arith, n .below j))) (λ e. g j l r m))
+      (λ d l r m. updateAll-elim (λ v. (v ≡ r .stamp) ⊎ (s .txns j .number ≤ v)) (s .index .stamp) (changedBuckets s (s .txns i)) (s .clock) (r .bucket)
+      (λ e. inr (omega (arith, n .below j))) (λ e. g j l r m))
   stamps-move s′ (did-abort i p q) = stamps-set i noTxn (λ l. absurd (omega arith))
 
 -- both invariants together, through any sequence of steps
 stamps-run : (s : Store) → Numbers (s .clock) (s .txns) → StampsStand s → (more : List Step) → StampsStand (run s more)
-stamps-run s n g more = run-inv (λ v. Numbers (v .clock) (v .txns) × StampsStand v) (λ v v′ i h m. (numbers-move v v′ (h .0) m, stamps-move v (h .0) (h .1) v′ m)) s more (n, g) .1
+stamps-run s n g more = run-inv (λ v. Numbers (v .clock) (v .txns) × StampsStand v)
+    (λ v v′ i h m. (numbers-move v v′ (h .0) m, stamps-move v (h .0) (h .1) v′ m)) s more (n, g) .1
 
 -- a stamp that differs from the captured one fails: such a capture is refused with 8
 pub changed-stamp : (z : Sizes) (clock : ℕ) (before : List Step) (t k : ℕ) → 1 ≤ clock → let s = run (fresh z clock) before in
-    Ready s (capture t k) → txnOf s t .marked ≡ false → Free (s .held .holder) t (bucketFor s k) → (r : IndexRead) → Among r (txnOf s t .reads) → r .bucket ≡ bucketFor s k → r .stamp ≢ stampFor s k → number s (capture t k) ≡ 8
+    Ready s (capture t k) → txnOf s t .marked ≡ false → Free (s .held .holder) t (bucketFor s k) → (r : IndexRead) → Among r (txnOf s t .reads)
+    → r .bucket ≡ bucketFor s k → r .stamp ≢ stampFor s k → number s (capture t k) ≡ 8
 changed-stamp z clock before t k c w u f r m b d =
     let s = run (fresh z clock) before in
     let n = lives-number s t (w .1) in
     let g = stamps-run (fresh z clock) (numbers-fresh z clock c) (λ j l q o. absurd o) before in
-    capture-8 s t k .1 (w, inr (u, (f, ⊎-elim (λ e. absurd (d (sym e ∙ ap (s .index .stamp) b))) (λ e. let q = ap (s .index .stamp) b in omega (arith, e, n, q)) (g (at s t) (omega (arith, n, w .1 .3)) r m))))
+    capture-8 s t k .1 (
+      w,
+      inr (
+        u,
+        (
+          f,
+          ⊎-elim (λ e. absurd (d (sym e ∙ ap (s .index .stamp) b))) (λ e. let q = ap (s .index .stamp) b in
+              omega (arith, e, n, q)) (g (at s t) (omega (arith, n, w .1 .3)) r m),
+        ),
+      ),
+    )
 
 same-read : (r : IndexRead) (b st : ℕ) → r .bucket ≡ b → r .stamp ≡ st → _≡_ {A = IndexRead} r (record { bucket = b; stamp = st })
 same-read r b st e f = rw (← e, ← f)
 
-read-among : (s : Store) → StampsStand s → (t k : ℕ) → number s (capture t k) ≡ 0 → (b : Bool) → hasRead (txnOf s t .reads) (bucketFor s k) ≡ b → Among (readNow s k) (addRead (txnOf s t .reads) (bucketFor s k) (stampFor s k))
+read-among : (s : Store) → StampsStand s → (t k : ℕ) → number s (capture t k) ≡ 0 → (b : Bool) → hasRead (txnOf s t .reads) (bucketFor s k) ≡ b
+    → Among (readNow s k) (addRead (txnOf s t .reads) (bucketFor s k) (stampFor s k))
 unfolding addRead
 read-among s g t k e true h =
     let w = read-bucket (txnOf s t .reads) (bucketFor s k) h in
@@ -142,7 +168,8 @@ read-among s g t k e true h =
 read-among s g t k e false h = rw h (among-right (readNow s k) (txnOf s t .reads) (readNow s k ∷ []) (inl refl))
 
 -- `captured`: after an accepted capture the bucket is there with its present stamp, also where it was captured before
-pub captured-now : (z : Sizes) (clock : ℕ) (before : List Step) (t k : ℕ) → 1 ≤ clock → let s = run (fresh z clock) before in number s (capture t k) ≡ 0 → Among (readNow s k) (step s (capture t k) .store .txns (at s t) .reads)
+pub captured-now : (z : Sizes) (clock : ℕ) (before : List Step) (t k : ℕ) → 1 ≤ clock → let s = run (fresh z clock) before in
+    number s (capture t k) ≡ 0 → Among (readNow s k) (step s (capture t k) .store .txns (at s t) .reads)
 captured-now z clock before t k c e =
     let s = run (fresh z clock) before in
     let g = stamps-run (fresh z clock) (numbers-fresh z clock c) (λ j l r m. absurd m) before in

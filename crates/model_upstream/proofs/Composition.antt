@@ -31,19 +31,23 @@ module _ (z : Sizes) (clock : ℕ) (before : List Step) (t room : ℕ) (rs : Lis
     abbrev key : ℕ
     key = finished-read z clock before t room rs e .key
 
-    same : (r : ℕ) → matchesRow (readAt .sizes .rows) (readAt .chains) (txnOf readAt t) key r ≡ (ltb r (readAt .sizes .rows) && matches (readAt .chains) (txnOf readAt t) key r)
+    same : (r : ℕ) → matchesRow (readAt .sizes .rows) (readAt .chains) (txnOf readAt t) key r
+        ≡ (ltb r (readAt .sizes .rows) && matches (readAt .chains) (txnOf readAt t) key r)
     same r = matches-same readAt (reached z clock before (rows t room) (ap refuses e)) (at readAt t) (rows-done readAt t room rs e .alive) key r
 
-    forth : (r : ℕ) → Among r (pick (matches (readAt .chains) (txnOf readAt t) key) 0 (readAt .sizes .rows)) → matchesRow (readAt .sizes .rows) (readAt .chains) (txnOf readAt t) key r ≡ true
+    forth : (r : ℕ) → Among r (pick (matches (readAt .chains) (txnOf readAt t) key) 0 (readAt .sizes .rows))
+        → matchesRow (readAt .sizes .rows) (readAt .chains) (txnOf readAt t) key r ≡ true
     forth r m =
         let w = pick-which (matches (readAt .chains) (txnOf readAt t) key) 0 (readAt .sizes .rows) r m in
         same r ∙ and-both (ltb r (readAt .sizes .rows)) _ (lt-ltb r (readAt .sizes .rows) (omega (arith, w .1))) (w .2)
 
-    back : (r : ℕ) → matchesRow (readAt .sizes .rows) (readAt .chains) (txnOf readAt t) key r ≡ true → Among r (pick (matches (readAt .chains) (txnOf readAt t) key) 0 (readAt .sizes .rows))
+    back : (r : ℕ) → matchesRow (readAt .sizes .rows) (readAt .chains) (txnOf readAt t) key r ≡ true
+        → Among r (pick (matches (readAt .chains) (txnOf readAt t) key) 0 (readAt .sizes .rows))
     back r h =
         let b = sym (same r) ∙ h in
         let l = ltb-true r (readAt .sizes .rows) (and-l (ltb r (readAt .sizes .rows)) _ b) in
-        which-pick (matches (readAt .chains) (txnOf readAt t) key) 0 (readAt .sizes .rows) r (omega arith) (omega arith) (and-r (ltb r (readAt .sizes .rows)) _ b)
+        which-pick (matches (readAt .chains) (txnOf readAt t) key) 0 (readAt .sizes .rows) r (omega arith) (omega arith)
+        (and-r (ltb r (readAt .sizes .rows)) _ b)
 
     pub rows-match : (r : ℕ) → Among r rs ↔ matchesRow (readAt .sizes .rows) (readAt .chains) (txnOf readAt t) key r ≡ true
     rows-match r = let w = finished-read z clock before t room rs e .whole in (λ m. forth r (rw w at m), λ h. rw w (back r h))

@@ -1,4 +1,5 @@
--- The protocol and the events of a run stand beside its store: each action was allowed, and who is active, ended, published and observed is what the store says.
+-- The protocol and the events of a run stand beside its store: each action was allowed, and who is active, ended, published and observed is what the store
+-- says.
 -- Assumes nothing.
 use Prim.Native.Nat.{ℕ, suc, _≤_, _<_}
 use mathlib.Core.Path.{_≡_, refl, sym, ap, fun-ext, _∙_}
@@ -30,7 +31,8 @@ use Rattle.model.proofs.Good.{Good, good-run, opened-good}
 use Rattle.model.proofs.Conditions.{lives-number}
 use Rattle.model.proofs.Refused.{begin-0, capture-0, collect-0, rows-0, prepare-0, install-0, end-0, publish-0, abort-0}
 use Rattle.model.proofs.Outcomes.{refused-store, done-does}
-use Rattle.model_upstream.specs.Protocol.{Protocol, Action, Start, End, Snapshot, Publish, afterAction, protocolAfter, ProtocolHistory, ProtocolValid, actionsOf, stepActions, actionsOver, actions}
+use Rattle.model_upstream.specs.Protocol.{Protocol, Action, Start, End, Snapshot, Publish, afterAction, protocolAfter, ProtocolHistory, ProtocolValid}
+use Rattle.model_upstream.specs.Protocol.{actionsOf, stepActions, actionsOver, actions}
 use Rattle.model_upstream.proofs.Protocols.{none-some, protocol-valid}
 
 -- what the protocol says of a clock, the transactions and the events so far
@@ -82,10 +84,12 @@ follows-calm clock t t′ es p c f = record {
     after j r = elim (decLt (rank (t j .phase)) phaseEnded) [ yes l ↦ absurd (omega (arith, c .early j l)) | no n ↦ omega (arith, n) ]
 
 -- the events that a publish adds carry the number and the clock
-added-which : (s : Store) (x : Txn) (rs : List ℕ) (older : List Event) (e : Event) → Among e (addEvents s x rs older) → Among e older ⊎ ((e .creator ≡ x .number) × (e .stamp ≡ s .clock))
+added-which : (s : Store) (x : Txn) (rs : List ℕ) (older : List Event) (e : Event) → Among e (addEvents s x rs older)
+    → Among e older ⊎ ((e .creator ≡ x .number) × (e .stamp ≡ s .clock))
 unfolding addEvents
 added-which s x [] older e m = inl m
-added-which s x (r ∷ rs) older e m = ⊎-elim (⊎-elim (λ f. inr (ap (λ w. w .creator) f, ap (λ w. w .stamp) f)) inl) inr (added-which s x rs (eventOf s x r ∷ older) e m)
+added-which s x (r ∷ rs) older e m =
+    ⊎-elim (⊎-elim (λ f. inr (ap (λ w. w .creator) f, ap (λ w. w .stamp) f)) inl) inr (added-which s x rs (eventOf s x r ∷ older) e m)
 
 module _ (s : Store) (es : List Event) (p : Protocol) (g : Good s) (f : Follows (s .clock) (s .txns) es p) (v : ProtocolValid p) where
   -- a number from the clock on is new
@@ -99,13 +103,16 @@ module _ (s : Store) (es : List Event) (p : Protocol) (g : Good s) (f : Follows 
   -- the protocol's active ones are those that begin finds
   active-same : (n : ℕ) → update (update (p .active) (s .clock) true) (s .clock) false n ≡ member n (activeNumbers (s .txns))
   active-same n = elim (ℕ-discrete n (s .clock)) [
-    | yes e ↦ rw (e, update-same (update (p .active) (s .clock) true) (s .clock) false) (sym (is-false _ (λ t. let w = active-which (s .txns) (s .clock) (member-among _ _ t) in omega (arith, g .numbers .below (w .0), w .4))))
+    | yes e ↦ rw (e, update-same (update (p .active) (s .clock) true) (s .clock) false)
+        (sym (is-false _ (λ t. let w = active-which (s .txns) (s .clock) (member-among _ _ t) in omega (arith, g .numbers .below (w .0), w .4))))
     | no d ↦ rw (update-other (update (p .active) (s .clock) true) (s .clock) false n d, update-other (p .active) (s .clock) true n d) (same-test _ _
-        (λ t. let w = f .who-runs n t in among-member n _ (rw (w .3) (which-active (s .txns) (w .0) (in-place (s .clock) (s .txns) (g .numbers) (w .0) (w .1)) (w .1) (w .2))))
+        (λ t. let w = f .who-runs n t in
+        among-member n _ (rw (w .3) (which-active (s .txns) (w .0) (in-place (s .clock) (s .txns) (g .numbers) (w .0) (w .1)) (w .1) (w .2))))
         (λ t. let w = active-which (s .txns) n (member-among n _ t) in rw (w .4) (f .runs (w .0) (w .2) (w .3))))
   ]
 
-  follows-begun : (i : ℕ) → s .txns i .number ≡ 0 → Follows (suc (s .clock)) (update (s .txns) i (newTxn s)) es (afterAction (afterAction p (Start (s .clock))) (Snapshot (s .clock)))
+  follows-begun : (i : ℕ) → s .txns i .number ≡ 0
+      → Follows (suc (s .clock)) (update (s .txns) i (newTxn s)) es (afterAction (afterAction p (Start (s .clock))) (Snapshot (s .clock)))
   follows-begun i z = record {
     clock-is = refl;
     runs = λ j. update-elim (λ y. Live y → rank (y .phase) < phaseEnded → update (p .active) (s .clock) true (y .number) ≡ true) (s .txns) i (newTxn s) j
@@ -114,14 +121,18 @@ module _ (s : Store) (es : List Event) (p : Protocol) (g : Good s) (f : Follows 
     who-runs = λ n. update-elim (λ b. b ≡ true → (j : ℕ) × Live (update (s .txns) i (newTxn s) j) × (rank (update (s .txns) i (newTxn s) j .phase) < phaseEnded)
         × (n ≡ update (s .txns) i (newTxn s) j .number)) (p .active) (s .clock) true n
         (λ e t. let o = update-same (s .txns) i (newTxn s) in (i, rw o (g .numbers .clock-pos), rw o (omega arith), rw o e))
-        (λ d t. let w = f .who-runs n t in let o = update-other (s .txns) i (newTxn s) (w .0) (λ e. omega (arith, rw e at (w .1))) in (w .0, rw o (w .1), rw o (w .2), rw o (w .3)));
+        (λ d t. let w = f .who-runs n t in let o = update-other (s .txns) i (newTxn s) (w .0) (λ e. omega (arith, rw e at (w .1))) in
+        (w .0, rw o (w .1), rw o (w .2), rw o (w .3)));
     has-ended = λ j. update-elim (λ y. Live y → phaseEnded ≤ rank (y .phase) → p .ended (y .number) ≡ true) (s .txns) i (newTxn s) j
         (λ e l r. absurd (omega arith)) (λ d. f .has-ended j);
     unpublished = λ j. update-elim (λ y. Live y → p .published (y .number) ≡ none) (s .txns) i (newTxn s) j (λ e l. new-unpublished) (λ d. f .unpublished j);
-    observes = λ j. update-elim (λ y. Live y → update (p .observed) (s .clock) (some (update (update (p .active) (s .clock) true) (s .clock) false)) (y .number) ≡ some (λ n. member n (y .snapshot .active))) (s .txns) i (newTxn s) j
+    observes = λ j. update-elim
+        (λ y. Live y → update (p .observed) (s .clock) (some (update (update (p .active) (s .clock) true) (s .clock) false)) (y .number)
+        ≡ some (λ n. member n (y .snapshot .active))) (s .txns) i (newTxn s) j
         (λ e l. update-same (p .observed) (s .clock) _ ∙ ap some (fun-ext active-same))
         (λ d l. update-other (p .observed) (s .clock) _ (s .txns j .number) (λ e. omega (arith, g .numbers .below j)) ∙ f .observes j l);
-    active-pos = λ j. update-elim (λ y. Live y → (n : ℕ) → Among n (y .snapshot .active) → 1 ≤ n) (s .txns) i (newTxn s) j (λ e l n m. let w = active-which (s .txns) n m in omega (arith, w .2, w .4)) (λ d. f .active-pos j);
+    active-pos = λ j. update-elim (λ y. Live y → (n : ℕ) → Among n (y .snapshot .active) → 1 ≤ n) (s .txns) i (newTxn s) j (λ e l n m. let w =
+        active-which (s .txns) n m in omega (arith, w .2, w .4)) (λ d. f .active-pos j);
     stamped = f .stamped;
   }
 
@@ -153,9 +164,12 @@ module _ (s : Store) (es : List Event) (p : Protocol) (g : Good s) (f : Follows 
       has-ended = λ j. update-elim (λ y. Live y → phaseEnded ≤ rank (y .phase) → update (p .ended) (s .txns i .number) true (y .number) ≡ true) (s .txns) i x j
           (λ e a r. rw (h a .0) (update-same (p .ended) _ true))
           (λ d a r. update-elim (λ b. b ≡ true) (p .ended) (s .txns i .number) true (s .txns j .number) (λ e. refl) (λ e. f .has-ended j a r));
-      unpublished = λ j. update-elim (λ y. Live y → p .published (y .number) ≡ none) (s .txns) i x j (λ e a. rw (h a .0) (f .unpublished i l)) (λ d. f .unpublished j);
-      observes = λ j. update-elim (λ y. Live y → p .observed (y .number) ≡ some (λ n. member n (y .snapshot .active))) (s .txns) i x j (λ e a. rw (h a .0, h a .1) (f .observes i l)) (λ d. f .observes j);
-      active-pos = λ j. update-elim (λ y. Live y → (n : ℕ) → Among n (y .snapshot .active) → 1 ≤ n) (s .txns) i x j (λ e a. rw (h a .1) (f .active-pos i l)) (λ d. f .active-pos j);
+      unpublished = λ j. update-elim (λ y. Live y → p .published (y .number) ≡ none) (s .txns) i x j (λ e a. rw (h a .0) (f .unpublished i l))
+          (λ d. f .unpublished j);
+      observes = λ j. update-elim (λ y. Live y → p .observed (y .number) ≡ some (λ n. member n (y .snapshot .active))) (s .txns) i x j
+          (λ e a. rw (h a .0, h a .1) (f .observes i l)) (λ d. f .observes j);
+      active-pos = λ j. update-elim (λ y. Live y → (n : ℕ) → Among n (y .snapshot .active) → 1 ≤ n) (s .txns) i x j
+          (λ e a. rw (h a .1) (f .active-pos i l)) (λ d. f .active-pos j);
       stamped = f .stamped;
     }
 
@@ -173,10 +187,13 @@ module _ (s : Store) (es : List Event) (p : Protocol) (g : Good s) (f : Follows 
       unpublished = λ j. update-elim (λ y. Live y → update (p .published) (s .txns i .number) (some (s .clock)) (y .number) ≡ none) (s .txns) i noTxn j
           (λ e a. absurd (omega arith))
           (λ d a. update-other (p .published) _ (some (s .clock)) (s .txns j .number) (others j d) ∙ f .unpublished j a);
-      observes = λ j. update-elim (λ y. Live y → p .observed (y .number) ≡ some (λ n. member n (y .snapshot .active))) (s .txns) i noTxn j (λ e a. absurd (omega arith)) (λ d. f .observes j);
-      active-pos = λ j. update-elim (λ y. Live y → (n : ℕ) → Among n (y .snapshot .active) → 1 ≤ n) (s .txns) i noTxn j (λ e a. absurd (omega arith)) (λ d. f .active-pos j);
+      observes = λ j. update-elim (λ y. Live y → p .observed (y .number) ≡ some (λ n. member n (y .snapshot .active))) (s .txns) i noTxn j
+          (λ e a. absurd (omega arith)) (λ d. f .observes j);
+      active-pos = λ j. update-elim (λ y. Live y → (n : ℕ) → Among n (y .snapshot .active) → 1 ≤ n) (s .txns) i noTxn j (λ e a. absurd (omega arith))
+          (λ d. f .active-pos j);
       stamped = λ e m. ⊎-elim
-          (λ o. update-other (p .published) _ (some (s .clock)) (e .creator) (λ q. none-some (p .published (e .creator)) (rw q (f .unpublished i l)) (f .stamped e o)) ∙ f .stamped e o)
+          (λ o. update-other (p .published) _ (some (s .clock)) (e .creator)
+          (λ q. none-some (p .published (e .creator)) (rw q (f .unpublished i l)) (f .stamped e o)) ∙ f .stamped e o)
           (λ w. rw (w .0, w .1) (update-same (p .published) _ (some (s .clock))))
           (added-which s (s .txns i) (madeRows (s .sizes) (s .chains) (s .txns i .number) (s .txns i .writes)) es e m);
     }
@@ -203,10 +220,15 @@ module _ (clock : ℕ) (s : Store) (es : List Event) (acts : List Action) (g : G
   ends i t e l r x w = rw (← e) ((h .1 .runs i l r, h .0), follows-ended s es here g (h .1) (protocol-valid clock acts (h .0)) i l x w)
 
   publishes : (i t : ℕ) → s .txns i .number ≡ t → Live (s .txns i) → rank (s .txns i .phase) ≡ phaseEnded
-      → ProtocolHistory clock (Publish t (s .clock) ∷ acts) × Follows (suc (s .clock)) (update (s .txns) i noTxn) (addEvents s (s .txns i) (madeRows (s .sizes) (s .chains) (s .txns i .number) (s .txns i .writes)) es) (protocolAfter clock (Publish t (s .clock) ∷ acts))
+      → ProtocolHistory clock (Publish t (s .clock) ∷ acts) × Follows (suc (s .clock)) (update (s .txns) i noTxn)
+      (addEvents s (s .txns i) (madeRows (s .sizes) (s .chains) (s .txns i .number) (s .txns i .writes)) es)
+      (protocolAfter clock (Publish t (s .clock) ∷ acts))
   publishes i t e l r =
       let few = some-live (s .txns) i (in-place (s .clock) (s .txns) (g .numbers) i l) l in
-      rw (← e) (((h .1 .has-ended i l (omega arith), h .1 .unpublished i l, omega (arith, h .1 .clock-is), omega (arith, g .room .numbers-left)), h .0), follows-published s es here g (h .1) (protocol-valid clock acts (h .0)) i l r)
+      rw (← e) (
+        ((h .1 .has-ended i l (omega arith), h .1 .unpublished i l, omega (arith, h .1 .clock-is), omega (arith, g .room .numbers-left)), h .0),
+        follows-published s es here g (h .1) (protocol-valid clock acts (h .0)) i l r,
+      )
 
   calm : (t : ℕ → Txn) → Calm (s .txns) t → ProtocolHistory clock acts × Follows (s .clock) t es here
   calm t c = (h .0, follows-calm (s .clock) (s .txns) t es here c (h .1))
@@ -222,18 +244,22 @@ module _ (clock : ℕ) (s : Store) (es : List Event) (acts : List Action) (g : G
   unfolding stepEvents accepted liveCount placeOf
   done-beside begin z =
       let w = begin-0 s .0 z in
-      let free = place-number s 0 (first-free (λ i. eqb (s .txns i .number) 0) 0 mostLive (w .1 .0)) in
-      ((update-same (here .active) (s .clock) true, ((omega (arith, h .1 .clock-is), omega (arith, w .1 .1)), h .0)), follows-begun s es here g (h .1) (protocol-valid clock acts (h .0)) (at s 0) free)
+      let free = place-number s 0 (first-free (λ i. eqb (s .txns i .number) 0) 0 mostLive (w .1 .0)) in (
+        (update-same (here .active) (s .clock) true, ((omega (arith, h .1 .clock-is), omega (arith, w .1 .1)), h .0)),
+        follows-begun s es here g (h .1) (protocol-valid clock acts (h .0)) (at s 0) free,
+      )
   done-beside (capture t k) z = calm _ (calm-set (s .txns) (at s t) _ refl refl (λ q. absurd (omega (arith, capture-0 s t k .0 z .0 .2))) (λ q. omega arith))
   done-beside (collect t) z = calm _ (calm-set (s .txns) (at s t) _ refl refl (λ q. absurd (omega (arith, collect-0 s t .0 z .2))) (λ q. omega arith))
   done-beside (rows t room) z = calm _ (calm-set (s .txns) (at s t) _ refl refl (λ q. absurd (omega (arith, rows-0 s t room .0 z .0 .2))) (λ q. omega arith))
   done-beside (write t r c) z = calm _ (calm-set (s .txns) (at s t) _ refl refl (λ q. q) (λ q. q))
   done-beside (prepare t) z = calm _ (calm-set (s .txns) (at s t) _ refl refl (λ q. absurd (omega (arith, prepare-0 s t .0 z .0 .2))) (λ q. omega arith))
   done-beside (install t) z = calm _ (calm-set (s .txns) (at s t) _ refl refl (λ q. absurd (omega (arith, install-0 s t .0 z .2))) (λ q. omega arith))
-  done-beside (end t) z = let w = end-0 s t .0 z in ends (at s t) t (lives-number s t (w .1)) (alive (end t) w) (omega (arith, w .2)) _ (λ l. (refl, refl, omega arith))
+  done-beside (end t) z = let w = end-0 s t .0 z in
+      ends (at s t) t (lives-number s t (w .1)) (alive (end t) w) (omega (arith, w .2)) _ (λ l. (refl, refl, omega arith))
   done-beside (publish t) z = let w = publish-0 s t .0 z in rw z (publishes (at s t) t (lives-number s t (w .1)) (alive (publish t) w) (w .2))
   done-beside (validate t) z = h
-  done-beside (abort t) z = let w = abort-0 s t .0 z in ends (at s t) t (lives-number s t (w .1)) (alive (abort t) w) (omega (arith, w .2)) noTxn (λ l. absurd (omega arith))
+  done-beside (abort t) z = let w = abort-0 s t .0 z in
+      ends (at s t) t (lives-number s t (w .1)) (alive (abort t) w) (omega (arith, w .2)) noTxn (λ l. absurd (omega arith))
 
   -- a refused step adds no event
   no-event : (a : Step) → eqb (number s a) 0 ≡ false → stepEvents s a es ≡ es
@@ -252,13 +278,16 @@ module _ (clock : ℕ) (s : Store) (es : List Event) (acts : List Action) (g : G
       go true e = let z = eqb-true _ _ e in rw (done-does s a z) (done-beside a z)
       go false e = rw (no-event a e) (refused-beside a (eqb-false _ _ e))
 
-run-beside : (clock : ℕ) (s : Store) (es : List Event) (acts : List Action) (more : List Step) → Good s → Beside clock s es acts → Beside clock (run s more) (historyOver es s more) (actionsOver acts s more)
+run-beside : (clock : ℕ) (s : Store) (es : List Event) (acts : List Action) (more : List Step) → Good s → Beside clock s es acts
+    → Beside clock (run s more) (historyOver es s more) (actionsOver acts s more)
 unfolding run historyOver actionsOver
 run-beside clock s es acts [] g h = h
-run-beside clock s es acts (a ∷ more) g h = run-beside clock (step s a .store) (stepEvents s a es) (stepActions s a acts) more (good-run s g (a ∷ [])) (step-beside clock s es acts g h a)
+run-beside clock s es acts (a ∷ more) g h =
+    run-beside clock (step s a .store) (stepEvents s a es) (stepActions s a acts) more (good-run s g (a ∷ [])) (step-beside clock s es acts g h a)
 
 -- `protocol_history`: of every run, and its last state follows the store that the run leaves
-pub protocol-follows : (z : Sizes) (clock : ℕ) (before : List Step) → canOpen z clock ≡ true → clock ≤ lastNumber → Beside clock (run (fresh z clock) before) (history (fresh z clock) before) (actions (fresh z clock) before)
+pub protocol-follows : (z : Sizes) (clock : ℕ) (before : List Step) → canOpen z clock ≡ true → clock ≤ lastNumber
+    → Beside clock (run (fresh z clock) before) (history (fresh z clock) before) (actions (fresh z clock) before)
 unfolding run
 protocol-follows z clock before e l =
     let g = opened-good z clock [] e l in

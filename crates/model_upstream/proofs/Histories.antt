@@ -46,12 +46,15 @@ module _ (z : Sizes) where
   at-most : (es : List Event) (m : ℕ) → ((e : Event) → Among e es → e .stamp ≤ m) → (b : ℕ) → stampOf es b ≤ m
   unfolding stampAt
   at-most [] m h b = omega arith
-  at-most (e ∷ older) m h b = cond-elim (_≤ m) (member b (eventBuckets z e)) (e .stamp) (stampOf older b) (λ t. h e (inl refl)) (λ t. at-most older m (λ f q. h f (inr q)) b)
+  at-most (e ∷ older) m h b =
+      cond-elim (_≤ m) (member b (eventBuckets z e)) (e .stamp) (stampOf older b) (λ t. h e (inl refl)) (λ t. at-most older m (λ f q. h f (inr q)) b)
 
-  guarded-added : (s : Store) (x : Txn) (rs : List ℕ) (older : List Event) → ((e : Event) → Among e older → e .stamp ≤ s .clock) → Guarded older → Guarded (addEvents s x rs older)
+  guarded-added : (s : Store) (x : Txn) (rs : List ℕ) (older : List Event) → ((e : Event) → Among e older → e .stamp ≤ s .clock) → Guarded older
+      → Guarded (addEvents s x rs older)
   unfolding addEvents
   guarded-added s x [] older h g = g
-  guarded-added s x (r ∷ rs) older h g = guarded-added s x rs (eventOf s x r ∷ older) (λ e m. ⊎-elim (λ f. rw f (omega arith)) (h e) m) ((λ b m. at-most older (s .clock) h b), g)
+  guarded-added s x (r ∷ rs) older h g =
+      guarded-added s x rs (eventOf s x r ∷ older) (λ e m. ⊎-elim (λ f. rw f (omega arith)) (h e) m) ((λ b m. at-most older (s .clock) h b), g)
 
   -- a bucket's stamp is the highest of its events
   highest : (es : List Event) → Guarded es → (f : Event) → Among f es → (b : ℕ) → Among b (eventBuckets z f) → f .stamp ≤ stampOf es b
@@ -59,7 +62,8 @@ module _ (z : Sizes) where
   highest (e ∷ older) g f (inl q) b m = rw (← q, among-member b (eventBuckets z f) m) (omega arith)
   highest (e ∷ older) g f (inr n) b m =
       let ih = highest older (g .1) f n b m in
-      cond-elim (λ v. f .stamp ≤ v) (member b (eventBuckets z e)) (e .stamp) (stampOf older b) (λ t. omega (arith, g .0 b (member-among b (eventBuckets z e) t))) (λ t. ih)
+      cond-elim (λ v. f .stamp ≤ v) (member b (eventBuckets z e)) (e .stamp) (stampOf older b)
+      (λ t. omega (arith, g .0 b (member-among b (eventBuckets z e) t))) (λ t. ih)
 
   -- events whose key changes give a bucket no higher stamp than all events, and are guarded too
   lower : (es : List Event) → Guarded es → (b : ℕ) → stampOf (changing es) b ≤ stampOf es b
@@ -67,8 +71,10 @@ module _ (z : Sizes) where
   lower [] g b = omega arith
   lower (e ∷ older) g b =
       let ih = lower older (g .1) b in
-      cond-elim (λ es. stampOf es b ≤ cond (member b (eventBuckets z e)) (e .stamp) (stampOf older b)) (sameKey (e .before) (e .after)) (changing older) (e ∷ changing older)
-      (λ t. cond-elim (λ v. stampOf (changing older) b ≤ v) (member b (eventBuckets z e)) (e .stamp) (stampOf older b) (λ m. omega (arith, g .0 b (member-among b (eventBuckets z e) m))) (λ m. ih))
+      cond-elim (λ es. stampOf es b ≤ cond (member b (eventBuckets z e)) (e .stamp) (stampOf older b)) (sameKey (e .before) (e .after)) (changing older)
+      (e ∷ changing older)
+      (λ t. cond-elim (λ v. stampOf (changing older) b ≤ v) (member b (eventBuckets z e)) (e .stamp) (stampOf older b)
+      (λ m. omega (arith, g .0 b (member-among b (eventBuckets z e) m))) (λ m. ih))
       (λ t. both (member b (eventBuckets z e)) ih)
     where
       both : (m : Bool) → stampOf (changing older) b ≤ stampOf older b → cond m (e .stamp) (stampOf (changing older) b) ≤ cond m (e .stamp) (stampOf older b)
@@ -78,7 +84,9 @@ module _ (z : Sizes) where
   guarded-changing : (es : List Event) → Guarded es → Guarded (changing es)
   unfolding changing
   guarded-changing [] g = tt
-  guarded-changing (e ∷ older) g = cond-elim Guarded (sameKey (e .before) (e .after)) (changing older) (e ∷ changing older) (λ t. guarded-changing older (g .1)) (λ t. ((λ b m. omega (arith, lower older (g .1) b, g .0 b m)), guarded-changing older (g .1)))
+  guarded-changing (e ∷ older) g =
+      cond-elim Guarded (sameKey (e .before) (e .after)) (changing older) (e ∷ changing older) (λ t. guarded-changing older (g .1))
+      (λ t. ((λ b m. omega (arith, lower older (g .1) b, g .0 b m)), guarded-changing older (g .1)))
 
 -- `affects`: an event that affects a key has the key's bucket among its own
 pub affects-bucket : (z : Sizes) (k : ℕ) (e : Event) → affects k e ≡ true → Among (bucketOf z k) (eventBuckets z e)
@@ -105,10 +113,13 @@ module _ (clock : ℕ) (s : Store) (es : List Event) (acts : List Action) (h : B
           (λ q m. omega (arith, stamp-below q m .1)) g) (λ e. g)
       by b (quiet i q) = rw (q es) g
 
-guarded-run : (z : Sizes) (clock : ℕ) (s : Store) (es : List Event) (acts : List Action) (more : List Step) → Good s → Beside clock s es acts → GuardedStampHistory z (λ b. 0) es → GuardedStampHistory z (λ b. 0) (historyOver es s more)
+guarded-run : (z : Sizes) (clock : ℕ) (s : Store) (es : List Event) (acts : List Action) (more : List Step) → Good s → Beside clock s es acts
+    → GuardedStampHistory z (λ b. 0) es → GuardedStampHistory z (λ b. 0) (historyOver es s more)
 unfolding historyOver run
 guarded-run z clock s es acts [] g h d = d
-guarded-run z clock s es acts (a ∷ more) g h d = guarded-run z clock (step s a .store) (stepEvents s a es) (stepActions s a acts) more (good-run s g (a ∷ [])) (step-beside clock s es acts g h a) (guarded-step clock s es acts h z d a)
+guarded-run z clock s es acts (a ∷ more) g h d =
+    guarded-run z clock (step s a .store) (stepEvents s a es) (stepActions s a acts) more (good-run s g (a ∷ [])) (step-beside clock s es acts g h a)
+    (guarded-step clock s es acts h z d a)
 
 -- the least of numbers from 1 on is from 1 on, and at most the first
 least-in : (n : ℕ) (xs : List ℕ) → 1 ≤ n → ((m : ℕ) → Among m xs → 1 ≤ m) → (1 ≤ least n xs) × (least n xs ≤ n)
@@ -130,7 +141,8 @@ image-valid s g = record {
     at-all (suc p) l = inr (omega arith, l)
 
 -- `stored_snapshot_key`: what a live transaction sees of a row
-pub stored-key : (s : Store) → Good s → (j : ℕ) → Live (s .txns j) → (r : ℕ) → storedSnapshotKey (s .chains) (s .txns j) r ≡ keyAt (s .chains) (versionOf (s .chains) (s .txns j .snapshot) r)
+pub stored-key : (s : Store) → Good s → (j : ℕ) → Live (s .txns j) → (r : ℕ)
+    → storedSnapshotKey (s .chains) (s .txns j) r ≡ keyAt (s .chains) (versionOf (s .chains) (s .txns j .snapshot) r)
 unfolding pointer
 stored-key s g j l r = ap (keyThere (s .chains)) (first-same s g j l (s .chains .head r)) ∙ there (versionOf (s .chains) (s .txns j .snapshot) r)
   where
@@ -162,24 +174,31 @@ module _ (z : Sizes) (clock : ℕ) (before : List Step) (o : canOpen z clock ≡
 
   -- an event that affects a key, and changes it, has left its stamp or a later one at the key's bucket
   pub affects-stamp : (k : ℕ) (e : Event) → Among e (changing events) → affects k e ≡ true → e .stamp ≤ now .index .stamp (bucketOf (now .sizes) k)
-  affects-stamp k e m a = rw (kept-history z clock before o l .stamps-are (bucketOf (now .sizes) k)) (highest (now .sizes) (changing events) guarded-changing-history e m (bucketOf (now .sizes) k) (affects-bucket (now .sizes) k e a))
+  affects-stamp k e m a = rw (kept-history z clock before o l .stamps-are (bucketOf (now .sizes) k))
+      (highest (now .sizes) (changing events) guarded-changing-history e m (bucketOf (now .sizes) k) (affects-bucket (now .sizes) k e a))
 
   -- `protocol_valid`
   pub protocol-is-valid : ProtocolValid (protocolAfter clock done)
   protocol-is-valid = protocol-valid clock done (beside .0)
 
   -- who has made a version of a row and not published it holds the buckets of both its keys, so that nobody captures them meanwhile
-  pub waiting-held : (w r k : ℕ) → Unpublished (now .sizes) (now .chains) (now .txns w) r → (now .index .posted r ≡ some k) ⊎ (newKey (now .txns w) r ≡ some k) → now .held .holder (bucketOf (now .sizes) k) ≡ now .txns w .number
+  pub waiting-held : (w r k : ℕ) → Unpublished (now .sizes) (now .chains) (now .txns w) r
+      → (now .index .posted r ≡ some k) ⊎ (newKey (now .txns w) r ≡ some k) → now .held .holder (bucketOf (now .sizes) k) ≡ now .txns w .number
   waiting-held w r k u e =
       let m = made-writes (now .sizes) (now .chains) (now .txns w) r (u .2) in
-      kept-held z clock before o l .holds w _ (inr (omega (arith, u .1), ⊎-elim (needs-old (now .sizes) (now .index .posted) (now .txns w) r k m) (needs-new (now .sizes) (now .index .posted) (now .txns w) r k m) e))
+      kept-held z clock before o l .holds w _
+      (inr (
+        omega (arith, u .1),
+        ⊎-elim (needs-old (now .sizes) (now .index .posted) (now .txns w) r k m) (needs-new (now .sizes) (now .index .posted) (now .txns w) r k m) e,
+      ))
 
   module _ (j : ℕ) (a : Live (now .txns j)) where
     -- `event_chronology`: of every event and every live transaction
     pub event-chronology : (e : Event) → Among e events → EventChronology (now .txns j) e
     event-chronology e m = (
       stamp-below clock now events done beside e m .0,
-      λ q. protocol-is-valid .observed-later (now .txns j .number) (e .creator) (e .stamp) _ (beside .1 .observes j a) (among-member (e .creator) _ q) (beside .1 .stamped e m),
+      λ q. protocol-is-valid .observed-later (now .txns j .number) (e .creator) (e .stamp) _ (beside .1 .observes j a) (among-member (e .creator) _ q)
+          (beside .1 .stamped e m),
     )
 
     -- `transaction_valid`

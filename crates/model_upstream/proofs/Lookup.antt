@@ -22,17 +22,20 @@ module _ (rs : List ReadRecord) (q : ReadRecord) where
   -- `records_extend`: earlier records stay, in their places
   pub records-extend : (more : List ReadRecord) × (recording rs q ≡ rs ++ more)
   unfolding recording
-  records-extend = cond-elim (λ l. (more : List ReadRecord) × (l ≡ rs ++ more)) (recorded rs (q .ptr)) rs (rs ++ (q ∷ [])) (λ e. ([], sym (append-nil rs))) (λ e. (q ∷ [], refl))
+  records-extend = cond-elim (λ l. (more : List ReadRecord) × (l ≡ rs ++ more)) (recorded rs (q .ptr)) rs (rs ++ (q ∷ []))
+      (λ e. ([], sym (append-nil rs))) (λ e. (q ∷ [], refl))
 
   -- no more than one comes
   pub at-most-one : length (recording rs q) ≤ length rs + 1
   unfolding recording
-  at-most-one = cond-elim (λ l. length l ≤ length rs + 1) (recorded rs (q .ptr)) rs (rs ++ (q ∷ [])) (λ e. omega arith) (λ e. omega (arith, length-append rs (q ∷ [])))
+  at-most-one = cond-elim (λ l. length l ≤ length rs + 1) (recorded rs (q .ptr)) rs (rs ++ (q ∷ [])) (λ e. omega arith)
+      (λ e. omega (arith, length-append rs (q ∷ [])))
 
   -- then the pointer is recorded
   pub pointer-recorded : recorded (recording rs q) (q .ptr) ≡ true
   unfolding recording recorded
-  pointer-recorded = cond-elim (λ l. recorded l (q .ptr) ≡ true) (recorded rs (q .ptr)) rs (rs ++ (q ∷ [])) (λ e. e) (λ e. which-some (λ (r : ReadRecord). eqb (r .ptr) (q .ptr)) (rs ++ (q ∷ [])) q (among-right q rs (q ∷ []) (inl refl)) (eq-eqb (q .ptr) (q .ptr) refl))
+  pointer-recorded = cond-elim (λ l. recorded l (q .ptr) ≡ true) (recorded rs (q .ptr)) rs (rs ++ (q ∷ [])) (λ e. e)
+      (λ e. which-some (λ (r : ReadRecord). eqb (r .ptr) (q .ptr)) (rs ++ (q ∷ [])) q (among-right q rs (q ∷ []) (inl refl)) (eq-eqb (q .ptr) (q .ptr) refl))
 
 -- the same of a whole read
 module _ (c : Chains) (x : Txn) where
@@ -42,7 +45,8 @@ module _ (c : Chains) (x : Txn) where
   read-extends rs (r ∷ found) =
       cond-elim (λ l. (more : List ReadRecord) × (recordAll c x l found ≡ rs ++ more)) (pending (x .writes) r) rs (recording rs (recordOf c (x .snapshot) r))
       (λ e. read-extends rs found)
-      (λ e. let a = records-extend rs (recordOf c (x .snapshot) r) in let b = read-extends (recording rs (recordOf c (x .snapshot) r)) found in (a .0 ++ b .0, b .1 ∙ (ap (_++ b .0) (a .1) ∙ append-assoc rs (a .0) (b .0))))
+      (λ e. let a = records-extend rs (recordOf c (x .snapshot) r) in let b = read-extends (recording rs (recordOf c (x .snapshot) r)) found in
+      (a .0 ++ b .0, b .1 ∙ (ap (_++ b .0) (a .1) ∙ append-assoc rs (a .0) (b .0))))
 
   -- rows with a pending write record nothing
   pub nothing-recorded : (rs : List ReadRecord) (found : List ℕ) → ((r : ℕ) → Among r found → pending (x .writes) r ≡ true) → recordAll c x rs found ≡ rs
@@ -60,7 +64,14 @@ pub record Observed (s : Store) (x : Txn) (q : ReadRecord) : Type 0 where
 observed-of : (s : Store) (x : Txn) (r : ℕ) → Among r (foundRows s x) → pending (x .writes) r ≡ false → Observed s x (recordOf (s .chains) (x .snapshot) r)
 observed-of s x r m p =
     let w = found-which s x r m in
-    record { row-in = w .0; pointer-in = version-in (s .chains) (x .snapshot) r (keyAt-pos (s .chains) (versionOf (s .chains) (x .snapshot) r) (keyIn (x .phase)) (match-version (s .chains) x (keyIn (x .phase)) r p (w .1))); first-visible = refl; xmin-is = refl }
+    record {
+      row-in = w .0;
+      pointer-in =
+          version-in (s .chains) (x .snapshot) r
+          (keyAt-pos (s .chains) (versionOf (s .chains) (x .snapshot) r) (keyIn (x .phase)) (match-version (s .chains) x (keyIn (x .phase)) r p (w .1)));
+      first-visible = refl;
+      xmin-is = refl;
+    }
 
 -- `records_have_provenance`: a record after a read was there before, or was observed by it
 pub provenance : (s : Store) (x : Txn) (q : ReadRecord) → Among q (recordsAfter s x) → Among q (x .records) ⊎ Observed s x q

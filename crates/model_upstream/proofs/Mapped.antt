@@ -33,7 +33,9 @@ use Rattle.model_upstream.proofs.Histories.{affects-stamp, event-chrono
 changing-has : (es : List Event) (e : Event) → Among e es → sameKey (e .before) (e .after) ≡ false → Among e (changing es)
 unfolding changing
 changing-has (q ∷ older) e (inl f) d = rw (← f, d) (inl refl)
-changing-has (q ∷ older) e (inr m) d = cond-elim (Among e) (sameKey (q .before) (q .after)) (changing older) (q ∷ changing older) (λ t. changing-has older e m d) (λ t. inr (changing-has older e m d))
+changing-has (q ∷ older) e (inr m) d =
+    cond-elim (Among e) (sameKey (q .before) (q .after)) (changing older) (q ∷ changing older) (λ t. changing-has older e m d)
+    (λ t. inr (changing-has older e m d))
 
 -- where every event that changes a row from or to the key is seen, the snapshot has the key just where the live row has it
 module _ (x : Txn) (k : ℕ) where
@@ -50,7 +52,8 @@ module _ (x : Txn) (k : ℕ) where
   seen-live : (es : List Event) → Coherent (λ q. none) es → AllSeen es → (r : ℕ) → snap es r ≡ some k ↔ live es r ≡ some k
   unfolding snapshotRows liveRows affects
   seen-live [] g h r = ((λ z. z), (λ z. z))
-  seen-live (e ∷ older) g h r = go (creatorVisible x (e .creator)) refl (ℕ-discrete r (e .row)) (sameKey (e .before) (e .after)) refl (seen-live older (g .1) (λ q m. h q (inr m)) r)
+  seen-live (e ∷ older) g h r =
+      go (creatorVisible x (e .creator)) refl (ℕ-discrete r (e .row)) (sameKey (e .before) (e .after)) refl (seen-live older (g .1) (λ q m. h q (inr m)) r)
     where
       -- the row's key before
       was : r ≡ e .row → e .before ≡ live older r
@@ -59,7 +62,8 @@ module _ (x : Txn) (k : ℕ) where
       becomes : r ≡ e .row → update (live older) (e .row) (e .after) r ≡ e .after
       becomes d = rw (d, update-same (live older) (e .row) (e .after))
 
-      go : (v : Bool) → creatorVisible x (e .creator) ≡ v → Dec (r ≡ e .row) → (same : Bool) → sameKey (e .before) (e .after) ≡ same → (snap older r ≡ some k ↔ live older r ≡ some k)
+      go : (v : Bool) → creatorVisible x (e .creator) ≡ v → Dec (r ≡ e .row) → (same : Bool) → sameKey (e .before) (e .after) ≡ same
+          → (snap older r ≡ some k ↔ live older r ≡ some k)
           → cond v (update (snap older) (e .row) (e .after)) (snap older) r ≡ some k ↔ update (live older) (e .row) (e .after) r ≡ some k
       go true c (yes d) same t ih = rw (d, update-same (snap older) (e .row) (e .after), update-same (live older) (e .row) (e .after)) ((λ z. z), (λ z. z))
       go true c (no d) same t ih = rw (update-other (snap older) (e .row) (e .after) r d, update-other (live older) (e .row) (e .after) r d) ih
@@ -67,7 +71,8 @@ module _ (x : Txn) (k : ℕ) where
       go false c (yes d) true t ih = let q = becomes d ∙ (sym (same-key _ _ t) ∙ was d) in ((λ z. q ∙ ih .0 z), (λ z. ih .1 (sym q ∙ z)))
       go false c (yes d) false t ih = (
         (λ z. absurd (true≢false (sym (h e (inl refl) (or-left _ _ (key-same (e .before) (some k) (was d ∙ ih .0 z))) t) ∙ c))),
-        (λ z. absurd (true≢false (sym (h e (inl refl) (or-right (sameKey (e .before) (some k)) _ (key-same (e .after) (some k) (sym (becomes d) ∙ z))) t) ∙ c))),
+        (λ z. absurd (true≢false (sym (h e (inl refl) (or-right (sameKey (e .before) (some k)) _ (key-same (e .after) (some k) (sym (becomes d) ∙ z))) t)
+            ∙ c))),
       )
 
 module _ (z : Sizes) (clock : ℕ) (before : List Step) (o : canOpen z clock ≡ true) (l : clock ≤ lastNumber) where
@@ -97,7 +102,10 @@ module _ (z : Sizes) (clock : ℕ) (before : List Step) (o : canOpen z clock ≡
     head-posted : (r : ℕ) → keyAt (now .chains) (now .chains .head r) ≡ some k ↔ now .index .posted r ≡ some k
     head-posted r = ⊎-elim
         (λ e. ((λ q. e ∙ q), (λ q. sym e ∙ q)))
-        (λ w. ((λ q. absurd (none-waits (w .0) r (w .1, w .2, w .3) (inr (sym (g .written .mine (w .0) r (w .1) (w .2) (w .3) .key-is) ∙ q)))), (λ q. absurd (none-waits (w .0) r (w .1, w .2, w .3) (inl q)))))
+        (λ w. (
+          (λ q. absurd (none-waits (w .0) r (w .1, w .2, w .3) (inr (sym (g .written .mine (w .0) r (w .1) (w .2) (w .3) .key-is) ∙ q)))),
+          (λ q. absurd (none-waits (w .0) r (w .1, w .2, w .3) (inl q))),
+        ))
         (g .written .posts r)
 
     all-seen : AllSeen (now .txns j) k events
@@ -105,7 +113,8 @@ module _ (z : Sizes) (clock : ℕ) (before : List Step) (o : canOpen z clock ≡
         let c = event-chronology z clock before o l j a e m in
         let st = affects-stamp z clock before o l k e (changing-has events e m d) t in
         let v = g .numbers .snapped j a in
-        creator-seen (now .txns j) v (e .creator) ∙ which-seen (now .txns j .snapshot) (e .creator) (omega (arith, c .0, below, v .xmax-is)) (λ q. omega (arith, c .1 q, below))
+        creator-seen (now .txns j) v (e .creator)
+        ∙ which-seen (now .txns j .snapshot) (e .creator) (omega (arith, c .0, below, v .xmax-is)) (λ q. omega (arith, c .1 q, below))
 
     -- `history_maps_snapshot` at the key whose bucket is held: what is seen of a row has the key just where what the seen events leave has it
     pub maps-key : (r : ℕ) → storedSnapshotKey (now .chains) (now .txns j) r ≡ some k ↔ snapshotRows (λ q. none) events (now .txns j) r ≡ some k

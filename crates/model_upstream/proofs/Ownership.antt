@@ -18,7 +18,8 @@ use Rattle.model.specs.Machine.{at, actor, accepted, step, run}
 use Rattle.model.specs.Seeing.{Live}
 use Rattle.model.specs.Holding.{Wants}
 use Rattle.model.specs.Given.{number, Lives, Free, ByAnother, bucketFor}
-use Rattle.model.proofs.Move.{Move, stay, did-begin, did-mark, did-capture, did-collect, did-rows, did-write, did-prepare, did-install, did-end, did-publish, did-abort, place-number, step-move, run-inv}
+use Rattle.model.proofs.Move.{Move, stay, did-begin, did-mark, did-capture, did-collect, did-rows, did-write, did-prepare, did-install, did-end, did-publish}
+use Rattle.model.proofs.Move.{did-abort, place-number, step-move, run-inv}
 use Rattle.model.proofs.Numbers.{Numbering, began, kept, numbering, in-place}
 use Rattle.model.proofs.Phases.{holding-is}
 use Rattle.model.proofs.Holders.{wants-busy}
@@ -41,7 +42,8 @@ valid s g b h =
 module _ (s : Store) (t k : ℕ) (e : number s (capture t k) ≡ 0) where
   after-capture : step s (capture t k) .store .held .holder ≡ update (s .held .holder) (bucketFor s k) t
   unfolding accepted
-  after-capture = ap (λ w. w .store .held .holder) (done-does s (capture t k) e) ∙ ap (update (s .held .holder) (bucketFor s k)) (lives-number s t (capture-0 s t k .0 e .0 .1))
+  after-capture = ap (λ w. w .store .held .holder) (done-does s (capture t k) e)
+      ∙ ap (update (s .held .holder) (bucketFor s k)) (lives-number s t (capture-0 s t k .0 e .0 .1))
 
   pub acquired : step s (capture t k) .store .held .holder (bucketFor s k) ≡ t
   acquired = rw after-capture (update-same (s .held .holder) (bucketFor s k) t)
@@ -55,7 +57,8 @@ was-free s g t k e =
     let w = capture-0 s t k .0 e in
     let n = lives-number s t (w .0 .1) in
     let busy = wants-busy (s .sizes) (s .index .posted) in
-    let none = has-none (Wants (s .sizes) (s .index .posted)) busy (s .held .holder) (s .clock) (s .txns) (g .numbers) (g .holders .buckets) (at s t) (bucketFor s k) (omega (arith, n, w .0 .1 .3)) (λ v. omega (arith, busy (txnOf s t) (bucketFor s k) v, w .0 .2)) in
+    let none = has-none (Wants (s .sizes) (s .index .posted)) busy (s .held .holder) (s .clock) (s .txns) (g .numbers) (g .holders .buckets) (at s t)
+    (bucketFor s k) (omega (arith, n, w .0 .1 .3)) (λ v. omega (arith, busy (txnOf s t) (bucketFor s k) v, w .0 .2)) in
     ⊎-elim (λ z. z) (λ f. absurd (none (f ∙ sym n))) (w .1 .1 .0)
 
 -- a refused step takes and frees nothing
@@ -100,15 +103,19 @@ module _ (s : Store) (g : Good s) (b : ℕ) (y : s .held .holder b ≢ 0) where
   held-through s′ (stay i) d = refl
   held-through s′ (did-begin i p q u v) d = refl
   held-through s′ (did-mark i p q) d = refl
-  held-through s′ (did-capture i k p q c) d = update-elim (_≡ s .held .holder b) (s .held .holder) _ _ b (λ e. absurd (true≢false (sym (another-true (s .held .holder) _ b y d) ∙ (rw (← e) at (c .free))))) (λ f. refl)
+  held-through s′ (did-capture i k p q c) d =
+      update-elim (_≡ s .held .holder b) (s .held .holder) _ _ b
+      (λ e. absurd (true≢false (sym (another-true (s .held .holder) _ b y d) ∙ (rw (← e) at (c .free))))) (λ f. refl)
   held-through s′ (did-collect i p q) d =
       let ph = s .txns i .phase in
-      update-elim (_≡ s .held .holder b) (s .held .holder) _ _ b (λ e. absurd (d (ap (s .held .holder) e ∙ g .holders .buckets .owns i (bucketIn ph) (inl (keyIn ph, holding-is ph q))))) (λ f. refl)
+      update-elim (_≡ s .held .holder b) (s .held .holder) _ _ b
+      (λ e. absurd (d (ap (s .held .holder) e ∙ g .holders .buckets .owns i (bucketIn ph) (inl (keyIn ph, holding-is ph q))))) (λ f. refl)
   held-through s′ (did-rows i p q u) d = refl
   held-through s′ (did-write i w p q u v) d = refl
   held-through s′ (did-prepare i p q c) d =
       updateAll-elim (_≡ s .held .holder b) (s .held .holder) (neededBuckets s (s .txns i)) _ b
-      (λ e. absurd (true≢false (sym (another-true (s .held .holder) _ b y d) ∙ none-each _ (neededBuckets s (s .txns i)) (c .buckets-free) b (member-among b _ e))))
+      (λ e. absurd (true≢false (sym (another-true (s .held .holder) _ b y d)
+      ∙ none-each _ (neededBuckets s (s .txns i)) (c .buckets-free) b (member-among b _ e))))
       (λ f. refl)
   held-through s′ (did-install i p q) d = refl
   held-through s′ (did-end i p q) d = refl
@@ -117,12 +124,14 @@ module _ (s : Store) (g : Good s) (b : ℕ) (y : s .held .holder b ≢ 0) where
 
   -- who acts stands at its place, or nobody does
   actor-number : (a : Step) → (s .txns (at s (actor a)) .number ≡ actor a) ⊎ (s .txns (at s (actor a)) .number ≡ 0)
-  actor-number a = elim (decLt (at s (actor a)) mostLive) [ yes l ↦ inl (place-number s (actor a) l) | no l ↦ inr (g .numbers .beyond (at s (actor a)) (omega (arith, l))) ]
+  actor-number a = elim (decLt (at s (actor a)) mostLive)
+      [ yes l ↦ inl (place-number s (actor a) l) | no l ↦ inr (g .numbers .beyond (at s (actor a)) (omega (arith, l))) ]
 
   step-of-another : (a : Step) → s .held .holder b ≢ actor a → step s a .store .held .holder b ≡ s .held .holder b
   step-of-another a d = held-through _ (step-move s a) (λ e. ⊎-elim (λ f. d (e ∙ f)) (λ f. y (e ∙ f)) (actor-number a))
 
-pub environment : (s : Store) → Good s → (b : ℕ) → s .held .holder b ≢ 0 → (more : List Step) → Others (s .held .holder b) more → run s more .held .holder b ≡ s .held .holder b
+pub environment : (s : Store) → Good s → (b : ℕ) → s .held .holder b ≢ 0 → (more : List Step) → Others (s .held .holder b) more
+    → run s more .held .holder b ≡ s .held .holder b
 unfolding run
 environment s g b y [] o = refl
 environment s g b y (a ∷ more) o =
@@ -159,4 +168,7 @@ dead-gone n y s d = record {
 }
 
 pub no-resurrection : (s : Store) → Good s → (n : ℕ) → n ≢ 0 → n < s .clock → ((j : ℕ) → s .txns j .number ≢ n) → (more : List Step) → Gone (run s more) n
-no-resurrection s g n y l h more = dead-gone n y (run s more) (run-inv (Dead n) (λ v v′ i d m. (good-move v v′ (d .0) m, omega (arith, clock-grows v v′ m, d .1), dead-through v v′ m n y (d .1) (d .2))) s more (g, l, h))
+no-resurrection s g n y l h more =
+    dead-gone n y (run s more)
+    (run-inv (Dead n) (λ v v′ i d m. (good-move v v′ (d .0) m, omega (arith, clock-grows v v′ m, d .1), dead-through v v′ m n y (d .1) (d .2))) s more
+    (g, l, h))

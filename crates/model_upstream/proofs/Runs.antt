@@ -40,12 +40,14 @@ waiting = begin ∷ put 1 2 6 10 ∷ prepare 1 ∷ install 1 ∷ end 1 ∷ begin
 abbrev pub waits : Store
 waits = run (fresh sizes 1) waiting
 
-waiting-keys : (storedSnapshotKey (waits .chains) (txnOf waits 2) 2 ≡ some 6) × (snapshotRows (λ r. none) (history (fresh sizes 1) waiting) (txnOf waits 2) 2 ≡ none)
+waiting-keys : (storedSnapshotKey (waits .chains) (txnOf waits 2) 2 ≡ some 6)
+    × (snapshotRows (λ r. none) (history (fresh sizes 1) waiting) (txnOf waits 2) 2 ≡ none)
 unfolding computes creatorVisible rowVisible firstRow snapshotRows addEvents stepEvents historyOver
 waiting-keys = (refl, refl)
 
 -- `history_maps_snapshot` is false there: the store could be opened, transaction 2 is live, and 1, which has Ended, still holds the bucket of key 6
-pub unmapped : (canOpen sizes 1 ≡ true) × (txnOf waits 2 .number ≡ 2) × (txnOf waits 1 .phase ≡ Ended) × (waits .held .holder 2 ≡ 1) × (HistoryMapsSnapshot waits (txnOf waits 2) (history (fresh sizes 1) waiting) → ⊥)
+pub unmapped : (canOpen sizes 1 ≡ true) × (txnOf waits 2 .number ≡ 2) × (txnOf waits 1 .phase ≡ Ended) × (waits .held .holder 2 ≡ 1)
+    × (HistoryMapsSnapshot waits (txnOf waits 2) (history (fresh sizes 1) waiting) → ⊥)
 unfolding computes
 unmapped = (refl, refl, refl, refl, λ h. let e = h 2 (omega arith) in let z : _≡_ {A = ℕ} 0 1 = cc (waiting-keys .0, waiting-keys .1) in omega arith)
 
@@ -74,7 +76,8 @@ s₅ = run s₄ (prepare 4 ∷ install 4 ∷ end 4 ∷ [])
 
 -- all of these steps
 abbrev pub told : List Step
-told = begin ∷ put 1 2 6 10 ∷ prepare 1 ∷ install 1 ∷ end 1 ∷ publish 1 ∷ begin ∷ capture 3 6 ∷ begin ∷ put 4 0 2 7 ∷ capture 4 6 ∷ collect 3 ∷ rows 3 4 ∷ prepare 4 ∷ install 4 ∷ end 4 ∷ publish 4 ∷ []
+told = begin ∷ put 1 2 6 10 ∷ prepare 1 ∷ install 1 ∷ end 1 ∷ publish 1 ∷ begin ∷ capture 3 6 ∷ begin ∷ put 4 0 2 7 ∷ capture 4 6 ∷ collect 3 ∷ rows 3 4
+    ∷ prepare 4 ∷ install 4 ∷ end 4 ∷ publish 4 ∷ []
 
 abbrev pub s₆ : Store
 s₆ = run (fresh sizes 1) told
@@ -99,23 +102,27 @@ unfolding computes
 capture-met = refl
 
 -- three captures, of two buckets: two index reads, of distinct buckets
-pub two-reads : run (fresh sizes 1) (begin ∷ capture 1 6 ∷ collect 1 ∷ rows 1 4 ∷ capture 1 3 ∷ collect 1 ∷ rows 1 4 ∷ capture 1 6 ∷ []) .txns 0 .reads ≡ record { bucket = 2; stamp = 0 } ∷ record { bucket = 3; stamp = 0 } ∷ []
+pub two-reads : run (fresh sizes 1) (begin ∷ capture 1 6 ∷ collect 1 ∷ rows 1 4 ∷ capture 1 3 ∷ collect 1 ∷ rows 1 4 ∷ capture 1 6 ∷ []) .txns 0 .reads
+    ≡ record { bucket = 2; stamp = 0 } ∷ record { bucket = 3; stamp = 0 } ∷ []
 unfolding computes
 two-reads = refl
 
 -- Lookup: a read that records a version, and one whose only row has a pending write
 pub lookup-met : let own = run (fresh sizes 1) (begin ∷ put 1 2 6 10 ∷ capture 1 6 ∷ collect 1 ∷ []) in
-    (recordsAfter s₃ (txnOf s₃ 3) ≡ record { row = 2; ptr = 1; xmin = 1 } ∷ []) × (foundRows own (txnOf own 1) ≡ 2 ∷ []) × (pending (txnOf own 1 .writes) 2 ≡ true)
+    (recordsAfter s₃ (txnOf s₃ 3) ≡ record { row = 2; ptr = 1; xmin = 1 } ∷ []) × (foundRows own (txnOf own 1) ≡ 2 ∷ [])
+    × (pending (txnOf own 1 .writes) 2 ≡ true)
 unfolding computes
 lookup-met = (refl, refl, refl)
 
 -- Predicate: a publish that is done, changes one bucket, which a live transaction has read, and leaves another
-pub publish-met : (number s₅ (publish 4) ≡ 0) × (changedBuckets s₅ (txnOf s₅ 4) ≡ 2 ∷ []) × (s₅ .index .stamp 2 ≡ 2) × (s₆ .index .stamp 2 ≡ 5) × (txnOf s₆ 3 .reads ≡ record { bucket = 2; stamp = 2 } ∷ []) × (txnOf s₆ 3 .number ≡ 3)
+pub publish-met : (number s₅ (publish 4) ≡ 0) × (changedBuckets s₅ (txnOf s₅ 4) ≡ 2 ∷ []) × (s₅ .index .stamp 2 ≡ 2) × (s₆ .index .stamp 2 ≡ 5)
+    × (txnOf s₆ 3 .reads ≡ record { bucket = 2; stamp = 2 } ∷ []) × (txnOf s₆ 3 .number ≡ 3)
 unfolding computes
 publish-met = (refl, refl, refl, refl, refl, refl)
 
 -- Composition: rows that are answered, and an unmarked transaction whose one index read is bad
-pub composition-met : (step s₃ (rows 3 4) .answer ≡ Rows (2 ∷ [])) × (txnOf s₆ 3 .marked ≡ false) × (badRead (s₆ .index) 3 (record { bucket = 2; stamp = 2 }) ≡ true)
+pub composition-met : (step s₃ (rows 3 4) .answer ≡ Rows (2 ∷ [])) × (txnOf s₆ 3 .marked ≡ false)
+    × (badRead (s₆ .index) 3 (record { bucket = 2; stamp = 2 }) ≡ true)
 unfolding computes
 composition-met = (refl, refl, refl)
 
@@ -132,7 +139,10 @@ none-left = (refl, refl, refl, refl)
 
 -- no resurrection: 4 has gone, and stays so
 pub gone-met : (more : List Step) → Gone (run s₆ more) 4
-gone-met more = no-resurrection s₆ good 4 (λ e. omega (arith, e)) (omega (arith, none-left .2)) (λ j e. rw (none-left .0) at (which-pick (λ w. eqb (s₆ .txns w .number) 4) 0 mostLive j (omega arith) (omega (arith, in-place (s₆ .clock) (s₆ .txns) (good .numbers) j (omega (arith, e)))) (eq-eqb _ 4 e))) more
+gone-met more = no-resurrection s₆ good 4 (λ e. omega (arith, e)) (omega (arith, none-left .2))
+    (λ j e. rw (none-left .0) at
+    (which-pick (λ w. eqb (s₆ .txns w .number) 4) 0 mostLive j (omega arith)
+    (omega (arith, in-place (s₆ .clock) (s₆ .txns) (good .numbers) j (omega (arith, e)))) (eq-eqb _ 4 e))) more
 
 not-installed : (w : ℕ) → Live (s₆ .txns w) → phaseInstalled ≤ rank (s₆ .txns w .phase) → ⊥
 not-installed w l h = rw (none-left .1) at
@@ -145,13 +155,15 @@ unfolding canOpen goodSizes
 valid-met = history-valid sizes 1 told refl (omega arith) 0 (omega (arith, none-left .3)) (λ r b w u. absurd (not-installed w (u .0) (u .1)))
 
 -- it has two events that change the key of a bucket, and each affects its key
-pub events-met : (changing (history (fresh sizes 1) told) ≡ record { row = 0; before = none; after = some 2; creator = 4; stamp = 5 } ∷ record { row = 2; before = none; after = some 6; creator = 1; stamp = 2 } ∷ [])
+pub events-met : (changing (history (fresh sizes 1) told) ≡ record { row = 0; before = none; after = some 2; creator = 4; stamp = 5 }
+    ∷ record { row = 2; before = none; after = some 6; creator = 1; stamp = 2 } ∷ [])
     × (affects 2 (record { row = 0; before = none; after = some 2; creator = 4; stamp = 5 }) ≡ true)
 unfolding computes addEvents stepEvents historyOver changing affects
 events-met = (refl, refl)
 
 -- chronology: transaction 1 was active when 2 began, and publishes
 pub chronology-met : let s = begin ∷ begin ∷ put 1 2 6 10 ∷ prepare 1 ∷ install 1 ∷ end 1 ∷ publish 1 ∷ [] in
-    (run (fresh sizes 1) s .txns 1 .snapshot .active ≡ 1 ∷ []) × (run (fresh sizes 1) s .txns 1 .number ≡ 2) × (history (fresh sizes 1) s ≡ record { row = 2; before = none; after = some 6; creator = 1; stamp = 3 } ∷ [])
+    (run (fresh sizes 1) s .txns 1 .snapshot .active ≡ 1 ∷ []) × (run (fresh sizes 1) s .txns 1 .number ≡ 2)
+    × (history (fresh sizes 1) s ≡ record { row = 2; before = none; after = some 6; creator = 1; stamp = 3 } ∷ [])
 unfolding computes addEvents stepEvents historyOver
 chronology-met = (refl, refl, refl)

@@ -40,9 +40,23 @@ Allowed p (Publish n stamp) = (p .ended n ≡ true) × (p .published n ≡ none)
 -- protocol_step: what it leaves
 abbrev pub afterAction : Protocol → Action → Protocol
 afterAction p (Start n) = record { clock = suc n; active = update (p .active) n true; ended = p .ended; published = p .published; observed = p .observed }
-afterAction p (End n) = record { clock = p .clock; active = update (p .active) n false; ended = update (p .ended) n true; published = p .published; observed = p .observed }
-afterAction p (Snapshot n) = record { clock = p .clock; active = p .active; ended = p .ended; published = p .published; observed = update (p .observed) n (some (update (p .active) n false)) }
-afterAction p (Publish n stamp) = record { clock = suc stamp; active = p .active; ended = p .ended; published = update (p .published) n (some stamp); observed = p .observed }
+afterAction p (End n) = record {
+  clock = p .clock;
+  active = update (p .active) n false;
+  ended = update (p .ended) n true;
+  published = p .published;
+  observed = p .observed;
+}
+afterAction p (Snapshot n) =
+    record {
+      clock = p .clock;
+      active = p .active;
+      ended = p .ended;
+      published = p .published;
+      observed = update (p .observed) n (some (update (p .active) n false));
+    }
+afterAction p (Publish n stamp) =
+    record { clock = suc stamp; active = p .active; ended = p .ended; published = update (p .published) n (some stamp); observed = p .observed }
 
 -- the state after actions from an initial clock
 abbrev pub protocolAfter : ℕ → List Action → Protocol

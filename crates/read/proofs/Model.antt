@@ -60,22 +60,27 @@ unfolding recorded some-of
 recorded-last [] q p = or-false (eqb (q .ptr) p)
 recorded-last (r ∷ rs) q p = rw (recorded-last rs q p) (sym (or-assoc (eqb (r .ptr) p) (recorded rs p) (eqb (q .ptr) p)))
 
-recorded-more : (rs : List model.ReadRecord) (q : model.ReadRecord) (known : List ℕ) (p : ℕ) → recorded rs p ≡ member p known → recorded (rs ++ (q ∷ [])) p ≡ member p (q .ptr ∷ known)
+recorded-more : (rs : List model.ReadRecord) (q : model.ReadRecord) (known : List ℕ) (p : ℕ) → recorded rs p ≡ member p known
+    → recorded (rs ++ (q ∷ [])) p ≡ member p (q .ptr ∷ known)
 unfolding member
 recorded-more rs q known p e = rw (recorded-last rs q p, e, eqb-sym (q .ptr) p) (or-comm (member p known) (eqb p (q .ptr)))
 
 -- one row of a read, where th is the pointer that it is matched through and q the record that the model would add
-one-record : (versions : List ℕ) (all : List model.ReadRecord → List model.ReadRecord) (new : List ℕ → List ReadRecord) (done : List model.ReadRecord) (known : List ℕ) (r th : ℕ) (q : model.ReadRecord)
-    → recorded done (q .ptr) ≡ member (q .ptr) known → (b : Bool) → (b ≡ true → th ≡ 0) → (b ≡ false → (th ≡ q .ptr) × (q .ptr ≢ 0) × (recordView (recordFor versions r (q .ptr)) ≡ q))
+one-record : (versions : List ℕ) (all : List model.ReadRecord → List model.ReadRecord) (new : List ℕ → List ReadRecord) (done : List model.ReadRecord)
+    (known : List ℕ) (r th : ℕ) (q : model.ReadRecord)
+    → recorded done (q .ptr) ≡ member (q .ptr) known → (b : Bool) → (b ≡ true → th ≡ 0)
+    → (b ≡ false → (th ≡ q .ptr) × (q .ptr ≢ 0) × (recordView (recordFor versions r (q .ptr)) ≡ q))
     → all done ≡ done ++ map recordView (new known) → all (done ++ (q ∷ [])) ≡ (done ++ (q ∷ [])) ++ map recordView (new (q .ptr ∷ known))
-    → all (cond b done (recording done q)) ≡ done ++ map recordView (cond (eqb th 0 || member th known) (new known) (recordFor versions r th ∷ new (th ∷ known)))
+    → all (cond b done (recording done q)) ≡ done
+    ++ map recordView (cond (eqb th 0 || member th known) (new known) (recordFor versions r th ∷ new (th ∷ known)))
 unfolding recording
 one-record versions all new done known r th q same true pend seen skip add = rw (pend refl) skip
 one-record versions all new done known r th q same false pend seen skip add =
     let e = seen refl in
     rw (e .0, ne-eqb (q .ptr) 0 (e .1), same) (by (member (q .ptr) known) (e .2))
   where
-    by : (m : Bool) → recordView (recordFor versions r (q .ptr)) ≡ q → all (cond m done (done ++ (q ∷ []))) ≡ done ++ map recordView (cond m (new known) (recordFor versions r (q .ptr) ∷ new (q .ptr ∷ known)))
+    by : (m : Bool) → recordView (recordFor versions r (q .ptr)) ≡ q
+        → all (cond m done (done ++ (q ∷ []))) ≡ done ++ map recordView (cond m (new known) (recordFor versions r (q .ptr) ∷ new (q .ptr ∷ known)))
     by true e = skip
     by false e = add ∙ (append-assoc done (q ∷ []) (map recordView (new (q .ptr ∷ known))) ∙ rw e)
 
@@ -99,7 +104,8 @@ RowsAs s lists found t none w = ReadAs s lists found t w
 abbrev pub looks : List ℕ → List ℕ → List ℕ → ℕ → Transaction → Look
 looks rows versions lists used t = look rows versions lists used t (keyIn (phaseView (t .phase)))
 
-module _ (s : Store) (rows versions lists : List ℕ) (used : ℕ) (t : Transaction) (g : Shows (s .chains) (s .sizes .rows) rows versions used) (few : s .sizes .rows ≤ mostRows) (st : Stands lists t) where
+module _ (s : Store) (rows versions lists : List ℕ) (used : ℕ) (t : Transaction) (g : Shows (s .chains) (s .sizes .rows) rows versions used)
+    (few : s .sizes .rows ≤ mostRows) (st : Stands lists t) where
   abbrev seen : Look
   seen = looks rows versions lists used t
 
@@ -117,16 +123,19 @@ module _ (s : Store) (rows versions lists : List ℕ) (used : ℕ) (t : Transact
   unfolding matchedRows foundRows
   matched-model =
       let n : min (s .sizes .rows) mostRows ≡ s .sizes .rows = omega arith in
-      rw n (pick-same (λ r. member r (wantedRows lists t) && isMatch (matchOf seen r)) (λ r. (member r (candidatesIn lists t) || pending (writesIn lists t) r) && matches (s .chains) txn (keyIn (txn .phase)) r) 0 (s .sizes .rows)
+      rw n (pick-same (λ r. member r (wantedRows lists t) && isMatch (matchOf seen r))
+      (λ r. (member r (candidatesIn lists t) || pending (writesIn lists t) r) && matches (s .chains) txn (keyIn (txn .phase)) r) 0 (s .sizes .rows)
       (λ r a b. rw (wanted-same r, matches-same (s .chains) (s .sizes .rows) seen g (st .writes-few) r (omega arith))))
 
   -- ---- the read records
   -- a row that matches through a version: its pointer is not 0, and its record is the model's
   record-same : (r : ℕ) → r < s .sizes .rows → pending (writesIn lists t) r ≡ false → isMatch (matchOf seen r) ≡ true
-      → (versionOf (s .chains) (txn .snapshot) r ≢ 0) × (recordView (recordFor versions r (versionOf (s .chains) (txn .snapshot) r)) ≡ seeing.recordOf (s .chains) (txn .snapshot) r)
+      → (versionOf (s .chains) (txn .snapshot) r ≢ 0)
+      × (recordView (recordFor versions r (versionOf (s .chains) (txn .snapshot) r)) ≡ seeing.recordOf (s .chains) (txn .snapshot) r)
   record-same r h p m =
       let v = versionOf (s .chains) (txn .snapshot) r in
-      let d : v ≢ 0 = keyAt-pos (s .chains) v (keyIn (txn .phase)) (match-version (s .chains) txn (keyIn (txn .phase)) r p (matches-same (s .chains) (s .sizes .rows) seen g (st .writes-few) r h ∙ m)) in
+      let d : v ≢ 0 = keyAt-pos (s .chains) v (keyIn (txn .phase))
+      (match-version (s .chains) txn (keyIn (txn .phase)) r p (matches-same (s .chains) (s .sizes .rows) seen g (st .writes-few) r h ∙ m)) in
       let i = version-in (s .chains) (txn .snapshot) r d in
       (d, rw (g .xmin-same v (i .0) (i .1)))
 
@@ -142,9 +151,11 @@ module _ (s : Store) (rows versions lists : List ℕ) (used : ℕ) (t : Transact
       let q = seeing.recordOf (s .chains) (txn .snapshot) r in
       let here = all r (inl refl) in
       let rest : Matching rs = λ q m. all q (inr m) in
-      one-record versions (λ d. recordAll (s .chains) txn d rs) (λ k. newRecords seen k rs) done known r (through seen r) q (same (q .ptr)) (pending (writesIn lists t) r)
+      one-record versions (λ d. recordAll (s .chains) txn d rs) (λ k. newRecords seen k rs) done known r (through seen r) q (same (q .ptr))
+      (pending (writesIn lists t) r)
       (λ e. through-same (s .chains) (s .sizes .rows) seen g (st .writes-few) r (here .0) (here .1) ∙ rw e)
-      (λ e. let k = record-same r (here .0) e (here .1) in (through-same (s .chains) (s .sizes .rows) seen g (st .writes-few) r (here .0) (here .1) ∙ rw e, k .0, k .1))
+      (λ e. let k = record-same r (here .0) e (here .1) in
+      (through-same (s .chains) (s .sizes .rows) seen g (st .writes-few) r (here .0) (here .1) ∙ rw e, k .0, k .1))
       (record-all done known rs same rest)
       (record-all (done ++ (q ∷ [])) (q .ptr ∷ known) rs (λ p. recorded-more done q known p (same p)) rest)
 
@@ -158,14 +169,22 @@ module _ (s : Store) (rows versions lists : List ℕ) (used : ℕ) (t : Transact
   pub records-model : recordsAfter s txn ≡ txn .records ++ map recordView new
   records-model =
       let n : min (t .«records_n») mostRecords ≡ t .«records_n» = omega (arith, st .records-few) in
-      rw (matched-model, n) (record-all (txn .records) (pointers (recordsOf lists (t .slot) (t .«records_n»))) (foundRows s txn) (recorded-member (recordsOf lists (t .slot) (t .«records_n»))) matched-all)
+      rw (matched-model, n) (record-all (txn .records) (pointers (recordsOf lists (t .slot) (t .«records_n»))) (foundRows s txn)
+      (recorded-member (recordsOf lists (t .slot) (t .«records_n»))) matched-all)
 
   -- ---- the tests
-  pub room-same : (room len : ℕ) → min room mostRows ≤ len → ltb (roomFor room len) (length (matchedRows seen (s .sizes .rows))) ≡ ltb (min room mostRows) (length (foundRows s txn))
+  pub room-same : (room len : ℕ) → min room mostRows ≤ len
+      → ltb (roomFor room len) (length (matchedRows seen (s .sizes .rows))) ≡ ltb (min room mostRows) (length (foundRows s txn))
   room-same room len h = let m : roomFor room len ≡ min room mostRows = omega arith in rw (m, matched-model)
 
   pub count-same : length (recordsAfter s txn) ≡ t .«records_n» + length new
-  count-same = rw (records-model, length-append, length-map (recordsOf lists (t .slot) (t .«records_n»)) recordView, length-map new recordView, list-length recordOf (records .w) (startOf records (t .slot)) lists (t .«records_n»))
+  count-same = rw (
+    records-model,
+    length-append,
+    length-map (recordsOf lists (t .slot) (t .«records_n»)) recordView,
+    length-map new recordView,
+    list-length recordOf (records .w) (startOf records (t .slot)) lists (t .«records_n»),
+  )
 
   -- ---- what the step leaves
   module _ (h : t .«records_n» + length new ≤ mostRecords) where

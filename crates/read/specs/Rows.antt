@@ -41,7 +41,17 @@ roomFor room len = min (min room mostRows) len
 
 -- the transaction once its read is done: Open, without candidates
 abbrev pub doneTxn : Transaction → ℕ → Transaction
-doneTxn t n = record { number = t .number; snapshot = t .snapshot; marked = t .marked; phase = phase.Open; slot = t .slot; «reads_n» = t .«reads_n»; «writes_n» = t .«writes_n»; «records_n» = n; «candidates_n» = 0 }
+doneTxn t n = record {
+  number = t .number;
+  snapshot = t .snapshot;
+  marked = t .marked;
+  phase = phase.Open;
+  slot = t .slot;
+  «reads_n» = t .«reads_n»;
+  «writes_n» = t .«writes_n»;
+  «records_n» = n;
+  «candidates_n» = 0;
+}
 
 -- an answer, the lists and the lent list
 pub record LeftRows : Type 0 where
@@ -70,7 +80,8 @@ answerOf lists found t room rs new =
 -- a read of what is looked at
 unfoldable pub readingOf : Look → ℕ → ℕ → List ℕ → LeftRows
 readingOf l rowCount room found =
-    answerOf (l .lists) found (l .txn) room (matchedRows l rowCount) (newRecords l (knownPointers (l .lists) (l .txn .slot) (l .txn .«records_n»)) (matchedRows l rowCount))
+    answerOf (l .lists) found (l .txn) room (matchedRows l rowCount)
+    (newRecords l (knownPointers (l .lists) (l .txn .slot) (l .txn .«records_n»)) (matchedRows l rowCount))
 
 -- rows: wrong phase first
 unfoldable pub rowsOf : List ℕ → List ℕ → List ℕ → List ℕ → ℕ → ℕ → ℕ → Transaction → LeftRows

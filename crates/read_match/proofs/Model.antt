@@ -59,7 +59,8 @@ pub shows-parts : (z : model.Sizes) (rows versions : List ℕ) (used : ℕ) → 
     → ((r : ℕ) → r < z .rows → headOf rows r ≤ used) → ((p : ℕ) → 1 ≤ p → p ≤ used → nextOf versions p < p)
     → Shows (chainsView (rowsPart z rows) (versionsPart z versions) used) (z .rows) rows versions used
 shows-parts z rows versions used few whole heads down =
-    let part : (k : ℕ) → k < versionWords → (p : ℕ) → p ≤ used → field versionWords k (versionsPart z versions) p ≡ field versionWords k versions p = λ k h p u. part-field versionWords k (suc (z .versions)) versions p h (omega arith) in
+    let part : (k : ℕ) → k < versionWords → (p : ℕ) → p ≤ used → field versionWords k (versionsPart z versions) p ≡ field versionWords k versions p =
+    λ k h p u. part-field versionWords k (suc (z .versions)) versions p h (omega arith) in
     let head : (r : ℕ) → r < z .rows → headOf (rowsPart z rows) r ≡ headOf rows r = λ r h. part-field rowWords 0 (z .rows) rows r (omega arith) h in
     record {
       used-same = refl;
@@ -127,7 +128,8 @@ abbrev writtenBy : List ℕ → ℕ → Found → Option model.Write
 writtenBy lists slot (place.At i) = some (writeView (writeAt lists slot i))
 writtenBy lists slot place.Nothing = none
 
-last-snoc : (so : Option model.Write) (ws : List model.Write) (w : model.Write) (r : ℕ) → lastWriteFrom so (ws ++ (w ∷ [])) r ≡ cond (eqb (w .row) r) (some w) (lastWriteFrom so ws r)
+last-snoc : (so : Option model.Write) (ws : List model.Write) (w : model.Write) (r : ℕ)
+    → lastWriteFrom so (ws ++ (w ∷ [])) r ≡ cond (eqb (w .row) r) (some w) (lastWriteFrom so ws r)
 unfolding lastWriteFrom
 last-snoc so [] w r = refl
 last-snoc so (v ∷ ws) w r = last-snoc (cond (eqb (v .row) r) (some v) so) ws w r
@@ -147,7 +149,9 @@ module _ (lists : List ℕ) (slot n r : ℕ) where
   write-next : (i : ℕ) → map writeView (writesOf lists slot (i + 1)) ≡ map writeView (writesOf lists slot i) ++ (writeView (writeAt lists slot i) ∷ [])
   write-next i = rw (list-next writeOf (writes .w) (startOf writes slot) lists i, map-append)
 
-  place-next : (i : ℕ) → i < n → lastBelow (rowsWritten (writesOf lists slot n)) r (i + 1) ≡ cond (eqb (writeAt lists slot i .row) r) (place.At i) (lastBelow (rowsWritten (writesOf lists slot n)) r i)
+  place-next : (i : ℕ) → i < n
+      → lastBelow (rowsWritten (writesOf lists slot n)) r (i + 1) ≡ cond (eqb (writeAt lists slot i .row) r) (place.At i)
+      (lastBelow (rowsWritten (writesOf lists slot n)) r i)
   place-next i h = fields-last (λ w. w .row) writeOf writes lists slot n i (writeAt lists slot i .row) r refl h
 
   none-written : _≡_ {A = List model.Write} (map writeView (writesOf lists slot 0)) []
@@ -166,7 +170,13 @@ module _ (lists : List ℕ) (slot n r : ℕ) where
   last-upto : (i : ℕ) → i ≤ n → lastWrite (map writeView (writesOf lists slot i)) r ≡ writtenBy lists slot (lastBelow (rowsWritten (writesOf lists slot n)) r i)
   last-upto zero h = rw (none-written, last-end (rowsWritten (writesOf lists slot n)) r) last-of-none
   last-upto (suc i) h =
-      rw (← add-one i, write-next i, last-snoc none (map writeView (writesOf lists slot i)) (writeView (writeAt lists slot i)) r, place-next i h, last-upto i (omega arith))
+      rw (
+        ← add-one i,
+        write-next i,
+        last-snoc none (map writeView (writesOf lists slot i)) (writeView (writeAt lists slot i)) r,
+        place-next i h,
+        last-upto i (omega arith),
+      )
       (by (eqb (writeAt lists slot i .row) r) (lastBelow (rowsWritten (writesOf lists slot n)) r i))
     where
       by : (b : Bool) (f : Found) → cond b (some (writeView (writeAt lists slot i))) (writtenBy lists slot f) ≡ writtenBy lists slot (cond b (place.At i) f)
@@ -176,7 +186,13 @@ module _ (lists : List ℕ) (slot n r : ℕ) where
   pending-upto : (i : ℕ) → i ≤ n → pending (map writeView (writesOf lists slot i)) r ≡ isPlace (lastBelow (rowsWritten (writesOf lists slot n)) r i)
   pending-upto zero h = rw (none-written, last-end (rowsWritten (writesOf lists slot n)) r) pending-of-none
   pending-upto (suc i) h =
-      rw (← add-one i, write-next i, pending-snoc (map writeView (writesOf lists slot i)) (writeView (writeAt lists slot i)) r, place-next i h, pending-upto i (omega arith))
+      rw (
+        ← add-one i,
+        write-next i,
+        pending-snoc (map writeView (writesOf lists slot i)) (writeView (writeAt lists slot i)) r,
+        place-next i h,
+        pending-upto i (omega arith),
+      )
       (by (eqb (writeAt lists slot i .row) r) (lastBelow (rowsWritten (writesOf lists slot n)) r i))
     where
       by : (b : Bool) (f : Found) → (b || isPlace f) ≡ isPlace (cond b (place.At i) f)
@@ -185,7 +201,8 @@ module _ (lists : List ℕ) (slot n r : ℕ) where
 
 module _ (lists : List ℕ) (t : Transaction) (few : t .«writes_n» ≤ mostWrites) (r : ℕ) where
   latest-is : latestPending lists (t .slot) (t .«writes_n») r ≡ lastBelow (rowsWritten (writesOf lists (t .slot) (t .«writes_n»))) r (t .«writes_n»)
-  latest-is = let m : min (t .«writes_n») mostWrites ≡ t .«writes_n» = omega arith in rw (m, fields-length (λ w. w .row) writeOf writes lists (t .slot) (t .«writes_n»))
+  latest-is = let m : min (t .«writes_n») mostWrites ≡ t .«writes_n» = omega arith in
+      rw (m, fields-length (λ w. w .row) writeOf writes lists (t .slot) (t .«writes_n»))
 
   pub pending-same : pending (writesIn lists t) r ≡ isPlace (latestPending lists (t .slot) (t .«writes_n») r)
   pending-same = rw latest-is (pending-upto lists (t .slot) (t .«writes_n») r (t .«writes_n») (omega arith))
@@ -231,14 +248,22 @@ module _ (c : Chains) (n : ℕ) (l : Look) (g : Shows c n (l .rows) (l .versions
       let a = first-visible-answered (l .versions) (l .used) (l .txn .snapshot) (headOf (l .rows) r) p e in
       let d : p ≢ 0 = a .some in
       let u : p ≤ c .used = omega (arith, g .used-same, leb-true p (l .used) (and-l (leb p (l .used)) _ (a .is-known))) in
-      rw (ne-eqb p 0 d, g .key-same p (omega (arith, d)) u) (carries-same (keyedOf (l .versions) p) (keyOf (l .versions) p) (l .key) ∙ match-if (carries (keyedOf (l .versions) p) (keyOf (l .versions) p) (l .key)) (Version p) refl)
+      rw (ne-eqb p 0 d, g .key-same p (omega (arith, d)) u) (carries-same (keyedOf (l .versions) p) (keyOf (l .versions) p) (l .key)
+      ∙ match-if (carries (keyedOf (l .versions) p) (keyOf (l .versions) p) (l .key)) (Version p) refl)
   pointer-by pointer.Nothing e = refl
 
   match-by : (f : Found) → latestPending (l .lists) (l .txn .slot) (l .txn .«writes_n») r ≡ f → matches c txn (l .key) r ≡ isMatch (matchBy l r f)
   unfolding matches shownKey writtenKey
-  match-by (place.At i) e = rw (pending-same (l .lists) (l .txn) few r, last-same (l .lists) (l .txn) few r, e, carries-same (writeAt (l .lists) (l .txn .slot) i .keyed) (writeAt (l .lists) (l .txn .slot) i .key) (l .key))
+  match-by (place.At i) e =
+      rw (
+        pending-same (l .lists) (l .txn) few r,
+        last-same (l .lists) (l .txn) few r,
+        e,
+        carries-same (writeAt (l .lists) (l .txn .slot) i .keyed) (writeAt (l .lists) (l .txn .slot) i .key) (l .key),
+      )
       (match-if (carries (writeAt (l .lists) (l .txn .slot) i .keyed) (writeAt (l .lists) (l .txn .slot) i .key) (l .key)) how.Write refl)
-  match-by place.Nothing e = rw (pending-same (l .lists) (l .txn) few r, e, ← version-same c n (l .rows) (l .versions) (l .used) g (l .txn .snapshot) r h) (pointer-by _ refl)
+  match-by place.Nothing e =
+      rw (pending-same (l .lists) (l .txn) few r, e, ← version-same c n (l .rows) (l .versions) (l .used) g (l .txn .snapshot) r h) (pointer-by _ refl)
 
   -- the row matches in the model where it does in the words
   pub matches-same : matches c (txnView (l .lists) (l .txn)) (l .key) r ≡ isMatch (matchOf l r)
@@ -247,10 +272,15 @@ module _ (c : Chains) (n : ℕ) (l : Look) (g : Shows c n (l .rows) (l .versions
 
   through-by : (f : Found) → latestPending (l .lists) (l .txn .slot) (l .txn .«writes_n») r ≡ f → isMatch (matchBy l r f) ≡ true
       → throughOf (matchBy l r f) ≡ cond (pending (writesIn (l .lists) (l .txn)) r) 0 (versionOf c (snapshotView (l .txn .snapshot)) r)
-  through-by (place.At i) e m = rw (pending-same (l .lists) (l .txn) few r, e) (write-through (carries (writeAt (l .lists) (l .txn .slot) i .keyed) (writeAt (l .lists) (l .txn .slot) i .key) (l .key)))
-  through-by place.Nothing e m = rw (pending-same (l .lists) (l .txn) few r, e, ← version-same c n (l .rows) (l .versions) (l .used) g (l .txn .snapshot) r h) (version-through (l .versions) (l .key) (firstVisible (l .versions) (l .used) (l .txn .snapshot) (headOf (l .rows) r)) m)
+  through-by (place.At i) e m =
+      rw (pending-same (l .lists) (l .txn) few r, e)
+      (write-through (carries (writeAt (l .lists) (l .txn .slot) i .keyed) (writeAt (l .lists) (l .txn .slot) i .key) (l .key)))
+  through-by place.Nothing e m =
+      rw (pending-same (l .lists) (l .txn) few r, e, ← version-same c n (l .rows) (l .versions) (l .used) g (l .txn .snapshot) r h)
+      (version-through (l .versions) (l .key) (firstVisible (l .versions) (l .used) (l .txn .snapshot) (headOf (l .rows) r)) m)
 
   -- and there the pointer it is matched through is the model's version; 0 where the row has a pending write
-  pub through-same : isMatch (matchOf l r) ≡ true → throughOf (matchOf l r) ≡ cond (pending (writesIn (l .lists) (l .txn)) r) 0 (versionOf c (snapshotView (l .txn .snapshot)) r)
+  pub through-same : isMatch (matchOf l r) ≡ true
+      → throughOf (matchOf l r) ≡ cond (pending (writesIn (l .lists) (l .txn)) r) 0 (versionOf c (snapshotView (l .txn .snapshot)) r)
   unfolding matchOf
   through-same m = through-by _ refl m

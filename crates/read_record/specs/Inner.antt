@@ -23,4 +23,5 @@ pub record Behind : Type 0 where
 
 -- one read record stored
 abbrev pub addRecord : List ℕ → ℕ → ℕ → ℕ → Behind → Behind
-addRecord versions slot row ptr st = cond (eqb ptr 0) st (record { at = st .at + 1; lists = stored records (st .lists) slot (st .at) (row ∷ ptr ∷ xminOf versions ptr ∷ []) })
+addRecord versions slot row ptr st =
+    cond (eqb ptr 0) st (record { at = st .at + 1; lists = stored records (st .lists) slot (st .at) (row ∷ ptr ∷ xminOf versions ptr ∷ []) })

@@ -49,7 +49,8 @@ fn one_more(added: usize, ptr: u64) -> usize
 
 // Leaves of the pointers those that are new, 0 for the others; tells how many they are.
 fn plan(lists: &[u64], through: &mut [u64], slot: u32, records_n: u32) -> usize
-    ensures { λ r. ⌜ (r ≡ countOf (planned (knownPointers (now (lists .entry)) slot «records_n») (now (through .entry)))) × (now (through .exit) ≡ planned (knownPointers (now (lists .entry)) slot «records_n») (now (through .entry))) ⌝ }
+    ensures { λ r. ⌜ (r ≡ countOf (planned (knownPointers (now (lists .entry)) slot «records_n») (now (through .entry))))
+        × (now (through .exit) ≡ planned (knownPointers (now (lists .entry)) slot «records_n») (now (through .entry))) ⌝ }
 {
     let mut added = 0;
     let mut i = 0;
@@ -65,7 +66,8 @@ fn plan(lists: &[u64], through: &mut [u64], slot: u32, records_n: u32) -> usize
 // Stores the record of a new pointer as read record `at`.
 fn add_record(versions: &[u64], lists: &mut [u64], slot: u32, at: u32, row: u64, ptr: u64) -> u32
     requires { ⌜ at ≤ mostRecords ⌝ }
-    ensures { λ r. ⌜ record { at = r; lists = now (lists .exit) } ≡ addRecord (now (versions .entry)) slot row ptr (record { at = at; lists = now (lists .entry) }) ⌝ }
+    ensures { λ r. ⌜ record { at = r; lists = now (lists .exit) } ≡ addRecord (now (versions .entry)) slot row ptr
+        (record { at = at; lists = now (lists .entry) }) ⌝ }
 {
     if ptr == 0 {
         return at;
@@ -84,7 +86,8 @@ fn add_records(
     from: u32,
 )
     requires { ⌜ from + countOf (now through) ≤ mostRecords ⌝ }
-    ensures { λ _. ⌜ now (lists .exit) ≡ putRecords (now (lists .entry)) slot from (recordsFor (now (versions .entry)) (now (matched .entry)) (now (through .entry))) ⌝ }
+    ensures { λ _. ⌜ now (lists .exit)
+        ≡ putRecords (now (lists .entry)) slot from (recordsFor (now (versions .entry)) (now (matched .entry)) (now (through .entry))) ⌝ }
 {
     let mut at = from;
     let mut i = 0;
@@ -110,7 +113,8 @@ pub fn record_versions(
     slot: u32,
     records_n: u32,
 ) -> Recorded
-    ensures { λ r. ⌜ record { told = r; lists = now (lists .exit); pointers = now (through .exit) } ≡ recordedOf (now (versions .entry)) (now (lists .entry)) slot «records_n» (now (matched .entry)) (now (through .entry)) ⌝ }
+    ensures { λ r. ⌜ record { told = r; lists = now (lists .exit); pointers = now (through .exit) }
+        ≡ recordedOf (now (versions .entry)) (now (lists .entry)) slot «records_n» (now (matched .entry)) (now (through .entry)) ⌝ }
 {
     let added = plan(lists, through, slot, records_n);
     let after = records_n as usize + added;

@@ -9,7 +9,8 @@ use borrow.Author.Tests.{lt-ltb}
 use lib.ListN.{length}
 use Rattle.run_script.specs.Names.{named}
 use Rattle.table.specs.Words.{field}
-use Rattle.table.specs.Fields.{rowWords, versionWords, bucketWords, headOf, claimOf, postedOf, postedKeyOf, xminOf, xmaxOf, nextOf, keyedOf, keyOf, payloadOf, stampOf, holderOf}
+use Rattle.table.specs.Fields.{rowWords, versionWords, bucketWords, headOf, claimOf, postedOf, postedKeyOf, xminOf, xmaxOf, nextOf, keyedOf, keyOf, payloadOf}
+use Rattle.table.specs.Fields.{stampOf, holderOf}
 use Rattle.run_changes.specs.WordNames.{names, nameFrom}
 use Rattle.run_changes.specs.Changes.{State, entryPlace, seenAt, wordSeen, lookOf}
 use Rattle.run_changes.specs.declared.Seen.the-variants.{Word}
@@ -17,7 +18,8 @@ use Rattle.run_changes.specs.declared.Seen.the-variants.{Word}
 -- a field that is in the table is seen
 field-seen : (ws : List ℕ) (w f i : ℕ) → 1 ≤ w → w * i + f < length ws → seenAt ws (entryPlace (length ws) w f i) ≡ Word (field w f ws i)
 unfolding field
-field-seen ws w f i h l = let below : i < length ws = omega (arith, mul-le-mul-right {m = 1} {n = w} i h) in rw (lt-ltb i (length ws) below, lt-ltb (w * i + f) (length ws) l)
+field-seen ws w f i h l = let below : i < length ws = omega (arith, mul-le-mul-right {m = 1} {n = w} i h) in
+    rw (lt-ltb i (length ws) below, lt-ltb (w * i + f) (length ws) l)
 
 module _ (s : State) (i b : ℕ) where
   pub head-named : rowWords * i + 0 < length (s .rows) → lookOf s (named "head") i b ≡ Word (headOf (s .rows) i)

@@ -25,15 +25,19 @@ abbrev pub recordIn : State → ℕ → Transaction
 recordIn s place = getD (s .machine .txns) place (idleOf place)
 
 -- word f of an entry of a list that is in the slots is seen
-entry-seen : (ws : List ℕ) (k : Kind) (f place i : ℕ) → place < mostLive → i < k .room → f < k .w → placeOf k place i + f < length ws → seenAt ws (listPlace k f place i) ≡ Word (getD (words (k .w) (placeOf k place i) ws) f 0)
-entry-seen ws k f place i p r h l = rw (lt-ltb place mostLive p, lt-ltb i (k .room) r, lt-ltb (placeOf k place i + f) (length ws) l, words-at (k .w) (placeOf k place i) ws f h)
+entry-seen : (ws : List ℕ) (k : Kind) (f place i : ℕ) → place < mostLive → i < k .room → f < k .w → placeOf k place i + f < length ws
+    → seenAt ws (listPlace k f place i) ≡ Word (getD (words (k .w) (placeOf k place i) ws) f 0)
+entry-seen ws k f place i p r h l =
+    rw (lt-ltb place mostLive p, lt-ltb i (k .room) r, lt-ltb (placeOf k place i + f) (length ws) l, words-at (k .w) (placeOf k place i) ws f h)
 
 module _ (s : State) (place i : ℕ) (live : place < mostLive) where
-  pub ibucket-named : i < reads .room → placeOf reads place i + 0 < length (s .lists) → lookOf s (named "ibucket") place i ≡ Word (readAt (s .lists) place i .bucket)
+  pub ibucket-named : i < reads .room → placeOf reads place i + 0 < length (s .lists)
+      → lookOf s (named "ibucket") place i ≡ Word (readAt (s .lists) place i .bucket)
   unfolding names nameFrom wordSeen listsPlace
   ibucket-named r l = entry-seen (s .lists) reads 0 place i live r (omega arith) l
 
-  pub istamp-named : i < reads .room → placeOf reads place i + 1 < length (s .lists) → lookOf s (named "istamp") place i ≡ Word (readAt (s .lists) place i .stamp)
+  pub istamp-named : i < reads .room → placeOf reads place i + 1 < length (s .lists)
+      → lookOf s (named "istamp") place i ≡ Word (readAt (s .lists) place i .stamp)
   unfolding names nameFrom wordSeen listsPlace
   istamp-named r l = entry-seen (s .lists) reads 1 place i live r (omega arith) l
 
@@ -41,7 +45,8 @@ module _ (s : State) (place i : ℕ) (live : place < mostLive) where
   unfolding names nameFrom wordSeen listsPlace
   wrow-named r l = entry-seen (s .lists) writes 0 place i live r (omega arith) l
 
-  pub wkeyed-named : i < writes .room → placeOf writes place i + 1 < length (s .lists) → lookOf s (named "wkeyed") place i ≡ Word (writeAt (s .lists) place i .keyed)
+  pub wkeyed-named : i < writes .room → placeOf writes place i + 1 < length (s .lists)
+      → lookOf s (named "wkeyed") place i ≡ Word (writeAt (s .lists) place i .keyed)
   unfolding names nameFrom wordSeen listsPlace
   wkeyed-named r l = entry-seen (s .lists) writes 1 place i live r (omega arith) l
 
@@ -49,23 +54,28 @@ module _ (s : State) (place i : ℕ) (live : place < mostLive) where
   unfolding names nameFrom wordSeen listsPlace
   wkey-named r l = entry-seen (s .lists) writes 2 place i live r (omega arith) l
 
-  pub wpayload-named : i < writes .room → placeOf writes place i + 3 < length (s .lists) → lookOf s (named "wpayload") place i ≡ Word (writeAt (s .lists) place i .payload)
+  pub wpayload-named : i < writes .room → placeOf writes place i + 3 < length (s .lists)
+      → lookOf s (named "wpayload") place i ≡ Word (writeAt (s .lists) place i .payload)
   unfolding names nameFrom wordSeen listsPlace
   wpayload-named r l = entry-seen (s .lists) writes 3 place i live r (omega arith) l
 
-  pub rrow-named : i < records .room → placeOf records place i + 0 < length (s .lists) → lookOf s (named "rrow") place i ≡ Word (recordAt (s .lists) place i .row)
+  pub rrow-named : i < records .room → placeOf records place i + 0 < length (s .lists)
+      → lookOf s (named "rrow") place i ≡ Word (recordAt (s .lists) place i .row)
   unfolding names nameFrom wordSeen listsPlace
   rrow-named r l = entry-seen (s .lists) records 0 place i live r (omega arith) l
 
-  pub rpointer-named : i < records .room → placeOf records place i + 1 < length (s .lists) → lookOf s (named "rpointer") place i ≡ Word (recordAt (s .lists) place i .ptr)
+  pub rpointer-named : i < records .room → placeOf records place i + 1 < length (s .lists)
+      → lookOf s (named "rpointer") place i ≡ Word (recordAt (s .lists) place i .ptr)
   unfolding names nameFrom wordSeen listsPlace
   rpointer-named r l = entry-seen (s .lists) records 1 place i live r (omega arith) l
 
-  pub rxmin-named : i < records .room → placeOf records place i + 2 < length (s .lists) → lookOf s (named "rxmin") place i ≡ Word (recordAt (s .lists) place i .xmin)
+  pub rxmin-named : i < records .room → placeOf records place i + 2 < length (s .lists)
+      → lookOf s (named "rxmin") place i ≡ Word (recordAt (s .lists) place i .xmin)
   unfolding names nameFrom wordSeen listsPlace
   rxmin-named r l = entry-seen (s .lists) records 2 place i live r (omega arith) l
 
-  pub crow-named : i < candidates .room → placeOf candidates place i + 0 < length (s .lists) → lookOf s (named "crow") place i ≡ Word (candidateAt (s .lists) place i)
+  pub crow-named : i < candidates .room → placeOf candidates place i + 0 < length (s .lists)
+      → lookOf s (named "crow") place i ≡ Word (candidateAt (s .lists) place i)
   unfolding names nameFrom wordSeen listsPlace
   crow-named r l = entry-seen (s .lists) candidates 0 place i live r (omega arith) l
 

@@ -76,7 +76,13 @@ lookOf s name a b = wordSeen s (wordNamed name) a b
 
 unfoldable pub machineChanged : Machine → ℕ → ℕ → ℕ → ℕ → Machine
 machineChanged m k place i x =
-    cond (ltb k 14) (cond (ltb place mostLive) (record { sizes = m .sizes; clock = m .clock; used = m .used; txns = set (m .txns) place (recordOf (set (recordWords (getD (m .txns) place (idleOf place))) (recordPlace k i) x)) }) m)
+    cond (ltb k 14) (cond (ltb place mostLive)
+    (record {
+      sizes = m .sizes;
+      clock = m .clock;
+      used = m .used;
+      txns = set (m .txns) place (recordOf (set (recordWords (getD (m .txns) place (idleOf place))) (recordPlace k i) x));
+    }) m)
     (ownOf (m .txns) (set (ownWords m) (k - 14) x))
 
 abbrev pub withRows : State → List ℕ → State

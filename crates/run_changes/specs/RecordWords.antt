@@ -16,7 +16,8 @@ abbrev pub markWord : Bool → ℕ
 markWord true = 1
 markWord false = 0
 
--- number, snapshot xmin and xmax, count of active numbers, mark, phase with the bucket and the key that it carries, slot, counts of the four lists; then the seven active numbers
+-- number, snapshot xmin and xmax, count of active numbers, mark, phase with the bucket and the key that it carries, slot, counts of the four lists; then the
+-- seven active numbers
 unfoldable pub recordWords : Transaction → List ℕ
 recordWords t =
     t .number

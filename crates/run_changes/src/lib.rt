@@ -159,7 +159,9 @@ pub fn look(
     a: u64,
     b: u64,
 ) -> Seen
-    ensures { λ r. ⌜ r ≡ lookOf (record { rows = now (rows .entry); versions = now (versions .entry); buckets = now (buckets .entry); lists = now (lists .entry); machine = m }) name a b ⌝ }
+    ensures { λ r. ⌜ r ≡ lookOf
+        (record { rows = now (rows .entry); versions = now (versions .entry); buckets = now (buckets .entry); lists = now (lists .entry); machine = m })
+        name a b ⌝ }
 {
     let k = word_named(name);
     if k < VERSION_NAMES {
@@ -219,7 +221,14 @@ pub fn change(
     value: u64,
 ) -> Machine
     ensures { λ r. ⌜ record { rows = now (rows .exit); versions = now (versions .exit); buckets = now (buckets .exit); lists = now (lists .exit); machine = r }
-        ≡ changeOf (record { rows = now (rows .entry); versions = now (versions .entry); buckets = now (buckets .entry); lists = now (lists .entry); machine = m }) name a b value ⌝ }
+        ≡ changeOf (record {
+          rows = now (rows .entry);
+          versions = now (versions .entry);
+          buckets = now (buckets .entry);
+          lists =
+              now (lists .entry);
+          machine = m;
+        }) name a b value ⌝ }
 {
     let k = word_named(name);
     if k < VERSION_NAMES {

@@ -44,12 +44,22 @@ chain = record {
 
 -- transaction 5 with these writes, snapshot xmax 6 and these active numbers
 abbrev five : List ℕ → List Write → Txn
-five active writes = record { number = 5; snapshot = record { xmin = least 5 active; xmax = 6; active = active }; marked = false; phase = Open; reads = []; writes = writes; records = []; candidates = [] }
+five active writes = record {
+  number = 5;
+  snapshot = record { xmin = least 5 active; xmax = 6; active = active };
+  marked = false;
+  phase = Open;
+  reads = [];
+  writes = writes;
+  records = [];
+  candidates = [];
+}
 
 -- a record of version 1, read at xmin 2, which is still its xmin, judged by transaction 5 with active {3} when its xmax is m
 abbrev bad : ℕ → Bool
 bad m =
-    badRecord (record { used = 1; head = λ r. 1; xmin = λ p. 2; xmax = λ p. m; next = λ p. 0; key = λ p. some 5; payload = λ p. 0 }) 5 (five (3 ∷ []) [] .snapshot) (record { row = 0; ptr = 1; xmin = 2 })
+    badRecord (record { used = 1; head = λ r. 1; xmin = λ p. 2; xmax = λ p. m; next = λ p. 0; key = λ p. some 5; payload = λ p. 0 }) 5
+    (five (3 ∷ []) [] .snapshot) (record { row = 0; ptr = 1; xmin = 2 })
 
 -- row 2 written by the transaction with key 5, then with key 8
 abbrev twice : Txn
@@ -61,7 +71,14 @@ small = record { rows = 4; versions = 8; buckets = 4 }
 -- transaction 5 is live, and every bucket has this stamp
 abbrev stamped : ℕ → Store
 stamped n = let s = fresh small 6 in
-    record { sizes = small; clock = 6; chains = s .chains; index = record { stamp = λ b. n; posted = λ r. none }; held = s .held; txns = update (λ i. noTxn) 0 (five [] []) }
+    record {
+      sizes = small;
+      clock = 6;
+      chains = s .chains;
+      index = record { stamp = λ b. n; posted = λ r. none };
+      held = s .held;
+      txns = update (λ i. noTxn) 0 (five [] []);
+    }
 
 -- a bucket list of a count, in a place as long as the list
 abbrev list : List ℕ → ℕ → Said

@@ -36,7 +36,8 @@ rows-64 = writes 1 0 16 ++ writes 3 16 16 ++ writes 5 32 16 ++ writes 7 48 16
 
 -- two transactions Prepared, each with two writes to one row
 abbrev pub reserving : ℕ → Store
-reserving v = run (fresh (record { rows = 4; versions = v; buckets = 32 }) 1) (begin ∷ put 1 0 1 1 ∷ put 1 0 2 2 ∷ prepare 1 ∷ begin ∷ put 2 1 3 3 ∷ put 2 1 4 4 ∷ prepare 2 ∷ begin ∷ put 3 2 5 5 ∷ [])
+reserving v = run (fresh (record { rows = 4; versions = v; buckets = 32 }) 1)
+    (begin ∷ put 1 0 1 1 ∷ put 1 0 2 2 ∷ prepare 1 ∷ begin ∷ put 2 1 3 3 ∷ put 2 1 4 4 ∷ prepare 2 ∷ begin ∷ put 3 2 5 5 ∷ [])
 
 pub record Limited : Type 0 where
   pub most-sizes : open-with 256 1024 4096 ≡ 0

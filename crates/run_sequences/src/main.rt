@@ -1,4 +1,5 @@
-// Plays the sequences in data/: a line has a name, the next the steps and the answers that document 01 asks for, and among them looks at words and changes of them.
+// Plays the sequences in data/: a line has a name, the next the steps and the answers that document 01 asks for, and among them looks at words and changes of
+// them.
 // After the values of rows come the rows. data/README.md has the grammar and the names.
 use report_answers::Numbers;
 use report_answers::numbers_of;

@@ -9,7 +9,8 @@ use Rattle.finish_publish.specs.Publish as publish
 use Rattle.step.specs.declared.Stepped.{Stepped}
 use Rattle.step.specs.Steps.{Published, withClock, clockAfter, publishStep}
 
-pub published : (versions lists : List ℕ) (count : ℕ) (t : Transaction) (clock used : ℕ) (rows₀ buckets₀ rows buckets : List ℕ) (a : Answered) (after : ℕ) (r : Stepped)
+pub published : (versions lists : List ℕ) (count : ℕ) (t : Transaction) (clock used : ℕ) (rows₀ buckets₀ rows buckets : List ℕ) (a : Answered) (after : ℕ)
+    (r : Stepped)
     → _≡_ {A = publish.Left} (record { reply = a; rows = rows; buckets = buckets }) (publish.publishOf versions lists count clock t rows₀ buckets₀)
     → after ≡ clockAfter (a .answer) clock → r ≡ withClock a after used
     → _≡_ {A = Published} (record { stepped = r; rows = rows; buckets = buckets }) (publishStep versions lists count t clock used rows₀ buckets₀)

@@ -75,25 +75,37 @@ abbrev pub stays : Stepped → Tables → Moved
 stays st b = record { stepped = st; rows = b .rows; versions = b .versions; buckets = b .buckets; lists = b .lists; found = b .found }
 
 abbrev pub inBuckets : methods.Left → ℕ → ℕ → Tables → Moved
-inBuckets l clock used b = record { stepped = withClock (l .reply) clock used; rows = b .rows; versions = b .versions; buckets = l .buckets; lists = l .lists; found = b .found }
+inBuckets l clock used b =
+    record { stepped = withClock (l .reply) clock used; rows = b .rows; versions = b .versions; buckets = l .buckets; lists = l .lists; found = b .found }
 
 abbrev pub inLists : methods.LeftLists → ℕ → ℕ → Tables → Moved
-inLists l clock used b = record { stepped = withClock (l .reply) clock used; rows = b .rows; versions = b .versions; buckets = b .buckets; lists = l .lists; found = b .found }
+inLists l clock used b =
+    record { stepped = withClock (l .reply) clock used; rows = b .rows; versions = b .versions; buckets = b .buckets; lists = l .lists; found = b .found }
 
 abbrev pub inFound : reads.LeftRows → ℕ → ℕ → Tables → Moved
-inFound l clock used b = record { stepped = withClock (l .reply) clock used; rows = b .rows; versions = b .versions; buckets = b .buckets; lists = l .lists; found = l .found }
+inFound l clock used b =
+    record { stepped = withClock (l .reply) clock used; rows = b .rows; versions = b .versions; buckets = b .buckets; lists = l .lists; found = l .found }
 
 abbrev pub inPrepared : prepare.Left → ℕ → ℕ → Tables → Moved
-inPrepared l clock used b = record { stepped = withClock (l .reply) clock used; rows = l .rows; versions = b .versions; buckets = l .buckets; lists = b .lists; found = b .found }
+inPrepared l clock used b =
+    record { stepped = withClock (l .reply) clock used; rows = l .rows; versions = b .versions; buckets = l .buckets; lists = b .lists; found = b .found }
 
 abbrev pub inInstalled : install.Left → ℕ → Tables → Moved
-inInstalled l clock b = record { stepped = withInstalled (l .reply) clock; rows = l .rows; versions = l .versions; buckets = b .buckets; lists = b .lists; found = b .found }
+inInstalled l clock b = record {
+  stepped = withInstalled (l .reply) clock;
+  rows = l .rows;
+  versions = l .versions;
+  buckets = b .buckets;
+  lists = b .lists;
+  found = b .found;
+}
 
 abbrev pub inPublished : Published → Tables → Moved
 inPublished l b = record { stepped = l .stepped; rows = l .rows; versions = b .versions; buckets = l .buckets; lists = b .lists; found = b .found }
 
 abbrev pub inAborted : publish.Left → ℕ → ℕ → Tables → Moved
-inAborted l clock used b = record { stepped = withClock (l .reply) clock used; rows = l .rows; versions = b .versions; buckets = l .buckets; lists = b .lists; found = b .found }
+inAborted l clock used b =
+    record { stepped = withClock (l .reply) clock used; rows = l .rows; versions = b .versions; buckets = l .buckets; lists = b .lists; found = b .found }
 
 -- by the kind of step
 abbrev pub doneBy : Sizes → Others → Transaction → ℕ → ℕ → Step → Tables → Moved
@@ -101,10 +113,13 @@ doneBy z o t clock used ask.Begin b = stays (withBegun (beginOf (o .active) (liv
 doneBy z o t clock used (ask.Capture n k) b = inBuckets (methods.captureOf (z .buckets) t k (b .buckets) (b .lists)) clock used b
 doneBy z o t clock used (ask.Collect n) b = inBuckets (methods.collectOf (b .rows) (z .rows) t (b .buckets) (b .lists)) clock used b
 doneBy z o t clock used (ask.Rows n room) b = inFound (reads.rowsOf (b .rows) (b .versions) (b .lists) (b .found) (z .rows) used room t) clock used b
-doneBy z o t clock used (ask.Put n r k payload) b = inLists (methods.writeOf (z .rows) t (record { row = r; keyed = 1; key = k; payload = payload }) (b .lists)) clock used b
+doneBy z o t clock used (ask.Put n r k payload) b =
+    inLists (methods.writeOf (z .rows) t (record { row = r; keyed = 1; key = k; payload = payload }) (b .lists)) clock used b
 doneBy z o t clock used (ask.Erase n r) b = inLists (methods.writeOf (z .rows) t (record { row = r; keyed = 0; key = 0; payload = 0 }) (b .lists)) clock used b
-doneBy z o t clock used (ask.Prepare n) b = inPrepared (prepare.prepareOf (b .versions) (b .lists) (z .buckets) (z .versions) used (o .prepared) t (b .rows) (b .buckets)) clock used b
-doneBy z o t clock used (ask.Install n) b = inInstalled (install.installOf (b .lists) t (record { rows = b .rows; versions = b .versions; used = used })) clock b
+doneBy z o t clock used (ask.Prepare n) b =
+    inPrepared (prepare.prepareOf (b .versions) (b .lists) (z .buckets) (z .versions) used (o .prepared) t (b .rows) (b .buckets)) clock used b
+doneBy z o t clock used (ask.Install n) b =
+    inInstalled (install.installOf (b .lists) t (record { rows = b .rows; versions = b .versions; used = used })) clock b
 doneBy z o t clock used (ask.End n) b = stays (withClock (publish.endOf t) clock used) b
 doneBy z o t clock used (ask.Publish n) b = inPublished (publishStep (b .versions) (b .lists) (z .buckets) t clock used (b .rows) (b .buckets)) b
 doneBy z o t clock used (ask.Validate n) b = stays (withClock (prepare.validateOf (b .versions) (b .buckets) (b .lists) t) clock used) b

@@ -95,7 +95,8 @@ fn step_publish(
     clock: u64,
     used: u64,
 ) -> Stepped
-    ensures { λ r. ⌜ record { stepped = r; rows = now (rows .exit); buckets = now (buckets .exit) } ≡ publishStep (now (versions .entry)) (now (lists .entry)) «bucket_count» t clock used (now (rows .entry)) (now (buckets .entry)) ⌝ }
+    ensures { λ r. ⌜ record { stepped = r; rows = now (rows .exit); buckets = now (buckets .exit) }
+        ≡ publishStep (now (versions .entry)) (now (lists .entry)) «bucket_count» t clock used (now (rows .entry)) (now (buckets .entry)) ⌝ }
 {
     let a = publish(rows, versions, buckets, lists, bucket_count, clock, t);
     let answer = a.answer;
@@ -117,8 +118,24 @@ pub fn step(
     used: u64,
     s: Step,
 ) -> Stepped
-    ensures { λ r. ⌜ record { stepped = r; rows = now (rows .exit); versions = now (versions .exit); buckets = now (buckets .exit); lists = now (lists .exit); found = now (found .exit) }
-        ≡ stepOf sizes others t clock used s (record { rows = now (rows .entry); versions = now (versions .entry); buckets = now (buckets .entry); lists = now (lists .entry); found = now (found .entry) }) ⌝ }
+    ensures { λ r. ⌜ record {
+      stepped = r;
+      rows = now (rows .exit);
+      versions = now (versions .exit);
+      buckets = now (buckets .exit);
+      lists =
+          now (lists .exit);
+      found = now (found .exit);
+    }
+        ≡ stepOf sizes others t clock used s
+        (record {
+          rows = now (rows .entry);
+          versions = now (versions .entry);
+          buckets = now (buckets .entry);
+          lists = now (lists .entry);
+          found =
+              now (found .entry);
+        }) ⌝ }
 {
     let numbers = others.numbers;
     let active = others.active;

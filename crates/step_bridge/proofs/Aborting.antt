@@ -78,9 +78,11 @@ join-few f (r ∷ rs) h = rw (length-append (f r) (join f rs)) (omega (arith, h 
 
 pub needs-few : (rows versions xs : List ℕ) (count : ℕ) (installed : Bool) (slot n r : ℕ) → length (writeNeeds rows versions xs count installed slot n r) ≤ 2
 unfolding writeNeeds
-needs-few rows versions xs count installed slot n r = rw length-append (omega (arith, for-few count (oldKeyOf rows versions installed r), for-few count (newKeyOf xs slot n r)))
+needs-few rows versions xs count installed slot n r =
+    rw length-append (omega (arith, for-few count (oldKeyOf rows versions installed r), for-few count (newKeyOf xs slot n r)))
 
-pub needs-in : (rows versions xs : List ℕ) (count : ℕ) (installed : Bool) (slot n r : ℕ) → 1 ≤ count → InRange count (writeNeeds rows versions xs count installed slot n r)
+pub needs-in : (rows versions xs : List ℕ) (count : ℕ) (installed : Bool) (slot n r : ℕ) → 1 ≤ count
+    → InRange count (writeNeeds rows versions xs count installed slot n r)
 unfolding writeNeeds
 needs-in rows versions xs count installed slot n r h i m =
     let old = oldKeyOf rows versions installed r in
@@ -93,7 +95,8 @@ late-test r = elim (decLt r 5) [ yes l ↦ rw (lt-leb 5 r l, lt-ltb r 5 l) | no 
 
 module _ (w : Words) (p : ℕ) where
   pub writes-few : length (rowsWritten (w .tables .lists) (txnAt w p .slot) (txnAt w p .«writes_n»)) ≡ txnAt w p .«writes_n»
-  writes-few = length-map (lists.writesOf (w .tables .lists) (txnAt w p .slot) (txnAt w p .«writes_n»)) (λ (x : Write). x .row) ∙ list-length lists.writeOf 4 (lists.startOf lists.writes (txnAt w p .slot)) (w .tables .lists) (txnAt w p .«writes_n»)
+  writes-few = length-map (lists.writesOf (w .tables .lists) (txnAt w p .slot) (txnAt w p .«writes_n»)) (λ (x : Write). x .row)
+      ∙ list-length lists.writeOf 4 (lists.startOf lists.writes (txnAt w p .slot)) (w .tables .lists) (txnAt w p .«writes_n»)
 
   -- the listed buckets are few
   pub listed-few : Sized w → length (listedNeeds w p) ≤ 48
@@ -105,14 +108,18 @@ module _ (w : Words) (p : ℕ) where
         s .writes,
         writes-few,
         needs-length (w .tables .lists) (txnAt w p),
-        join-few (writeNeeds (w .tables .rows) (w .tables .versions) (w .tables .lists) (w .sizes .buckets) false (txnAt w p .slot) (txnAt w p .«writes_n»)) (rowsWritten (w .tables .lists) (txnAt w p .slot) (txnAt w p .«writes_n»)) (λ r. needs-few (w .tables .rows) (w .tables .versions) (w .tables .lists) (w .sizes .buckets) false (txnAt w p .slot) (txnAt w p .«writes_n») r),
+        join-few (writeNeeds (w .tables .rows) (w .tables .versions) (w .tables .lists) (w .sizes .buckets) false (txnAt w p .slot)
+            (txnAt w p .«writes_n»)) (rowsWritten (w .tables .lists) (txnAt w p .slot) (txnAt w p .«writes_n»))
+            (λ r. needs-few (w .tables .rows) (w .tables .versions) (w .tables .lists) (w .sizes .buckets) false (txnAt w p .slot) (txnAt w p .«writes_n») r),
       ))
 
   -- the buckets that abort frees
   abbrev pub freedList : List ℕ
   freedList = bucketIn (phaseView (txnAt w p .phase)) ∷ listedNeeds w p
 
-  pub freed-buckets : Sized w → freedIn (w .tables .rows) (w .tables .versions) (w .tables .lists) (w .sizes .buckets) false (bucketIn (phaseView (txnAt w p .phase))) (txnAt w p .slot) (txnAt w p .«reads_n») (txnAt w p .«writes_n») (txnAt w p .number) (w .tables .buckets)
+  pub freed-buckets : Sized w
+      → freedIn (w .tables .rows) (w .tables .versions) (w .tables .lists) (w .sizes .buckets) false (bucketIn (phaseView (txnAt w p .phase)))
+      (txnAt w p .slot) (txnAt w p .«reads_n») (txnAt w p .«writes_n») (txnAt w p .number) (w .tables .buckets)
       ≡ clearHolders (w .tables .buckets) (txnAt w p .number) freedList
   unfolding freedIn neededIn
   freed-buckets z = ap (λ (bs : List ℕ). clearHolders (w .tables .buckets) (txnAt w p .number) bs) (listed-all 49 freedList (omega (arith, listed-few z)))
@@ -124,10 +131,13 @@ module _ (w : Words) (z : Sized w) (g : Shaped w) (p : ℕ) (l : 1 ≤ txnAt w p
   -- what is listed is in range
   pub listed-in : InRange (w .sizes .buckets) (listedNeeds w p)
   listed-in b m =
-      let needs-of = writeNeeds (w .tables .rows) (w .tables .versions) (w .tables .lists) (w .sizes .buckets) false (txnAt w p .slot) (txnAt w p .«writes_n») in
+      let needs-of = writeNeeds (w .tables .rows) (w .tables .versions) (w .tables .lists) (w .sizes .buckets) false (txnAt w p .slot)
+      (txnAt w p .«writes_n») in
       let rs = rowsWritten (w .tables .lists) (txnAt w p .slot) (txnAt w p .«writes_n») in
       ⊎-elim (λ n. read-in w z g p l b n)
-      (λ n. let a = join-which needs-of rs b n in needs-in (w .tables .rows) (w .tables .versions) (w .tables .lists) (w .sizes .buckets) false (txnAt w p .slot) (txnAt w p .«writes_n») (a .0) (count-pos w g) b (a .2))
+      (λ n. let a = join-which needs-of rs b n in
+      needs-in (w .tables .rows) (w .tables .versions) (w .tables .lists) (w .sizes .buckets) false (txnAt w p .slot) (txnAt w p .«writes_n») (a .0)
+      (count-pos w g) b (a .2))
       (among-cases b (readsNeed (w .tables .lists) (txnAt w p .slot) (txnAt w p .«reads_n»)) (join needs-of rs) m)
 
   pub freed-in : InRange (w .sizes .buckets) (freedList w p)
@@ -146,10 +156,13 @@ module _ (w : Words) (z : Sized w) (g : Good (view w)) (p : ℕ) (l : 1 ≤ txnA
       wanted : Wants (view w .sizes) (view w .index .posted) (view w .txns p) b → Among b (freedList w p)
       wanted (inl h) = inl (sym (ap bucketIn (h .1)))
       wanted (inr h) = inr (needed-listed w z sh p l b
-          (rw (join-same (λ q. keyBuckets (view w .sizes) (view w .index .posted q) ++ keyBuckets (view w .sizes) (newKey (view w .txns p) q)) (λ q. keyBuckets (view w .sizes) (oldKey (view w .chains) q) ++ keyBuckets (view w .sizes) (newKey (view w .txns p) q)) (pendingRows (view w .sizes) (view w .txns p .writes))
+          (rw (join-same (λ q. keyBuckets (view w .sizes) (view w .index .posted q) ++ keyBuckets (view w .sizes) (newKey (view w .txns p) q))
+          (λ q. keyBuckets (view w .sizes) (oldKey (view w .chains) q) ++ keyBuckets (view w .sizes) (newKey (view w .txns p) q))
+          (pendingRows (view w .sizes) (view w .txns p .writes))
           (λ q m. rw (posted-old (view w) (g .numbers) (g .holders) (g .written) p q (omega (arith, h .0)) m))) at (h .1)))
 
-      by : (j : ℕ) × (view w .held .holder b ≡ view w .txns j .number) × Wants (view w .sizes) (view w .index .posted) (view w .txns j) b → Among b (freedList w p)
+      by : (j : ℕ) × (view w .held .holder b ≡ view w .txns j .number) × Wants (view w .sizes) (view w .index .posted) (view w .txns j) b
+          → Among b (freedList w p)
       by o = wanted (rw (g .numbers .distinct p (o .0) l (sym e ∙ o .1)) (o .2))
 
   pub own-rows : (r : ℕ) → view w .held .claim r ≡ txnAt w p .number → Among r (rowsWritten (w .tables .lists) (txnAt w p .slot) (txnAt w p .«writes_n»))
@@ -190,19 +203,37 @@ module _ (w : Words) where
   )
 
 pub sized-idle : (p : ℕ) (t : Transaction) → SizedTxn p t → SizedTxn p (idleOf (t .slot))
-sized-idle p t s = record { slot = s .slot; active = omega arith; seven = refl; reads = omega arith; writes = omega arith; records = omega arith; candidates = omega arith }
+sized-idle p t s = record {
+  slot = s .slot;
+  active = omega arith;
+  seven = refl;
+  reads = omega arith;
+  writes = omega arith;
+  records = omega arith;
+  candidates = omega arith;
+}
 
 -- a record that ends, whatever else is left: where its rows and buckets stand for these parts of the store, the whole stands for that store
-pub ended-at : (w : Words) → Sized w → (p : ℕ) → p < mostLive → (rows buckets : List ℕ) (a : Answer) (o : machine.Answer) (clock clock′ : ℕ) (c : model.Chains) (x : model.Index) (h : model.Held)
+pub ended-at : (w : Words) → Sized w → (p : ℕ) → p < mostLive
+    → (rows buckets : List ℕ) (a : Answer) (o : machine.Answer) (clock clock′ : ℕ) (c : model.Chains) (x : model.Index) (h : model.Held)
     → clock ≡ clock′ → chainsView (rowsPart (sizesView (w .sizes)) rows) (versionsPart (sizesView (w .sizes)) (w .tables .versions)) (w .used) ≡ c
-    → indexView (rowsPart (sizesView (w .sizes)) rows) (bucketsPart (sizesView (w .sizes)) buckets) ≡ x → heldView (rowsPart (sizesView (w .sizes)) rows) (bucketsPart (sizesView (w .sizes)) buckets) ≡ h
+    → indexView (rowsPart (sizesView (w .sizes)) rows) (bucketsPart (sizesView (w .sizes)) buckets) ≡ x
+    → heldView (rowsPart (sizesView (w .sizes)) rows) (bucketsPart (sizesView (w .sizes)) buckets) ≡ h
     → length rows ≡ length (w .tables .rows) → length buckets ≡ length (w .tables .buckets) → a ≡ told o → w .tables .found ≡ lentAfter o (w .tables .found)
-    → SameAt w p (record { stepped = record { answer = a; txn = idleOf (txnAt w p .slot); clock = clock; used = w .used }; rows = rows; versions = w .tables .versions; buckets = buckets; lists = w .tables .lists; found = w .tables .found })
+    → SameAt w p (record {
+      stepped = record { answer = a; txn = idleOf (txnAt w p .slot); clock = clock; used = w .used };
+      rows = rows;
+      versions = w .tables .versions;
+      buckets = buckets;
+      lists = w .tables .lists;
+      found = w .tables .found;
+    })
     (gives (record { sizes = view w .sizes; clock = clock′; chains = c; index = x; held = h; txns = update (view w .txns) p model.noTxn }) o)
 ended-at w z p l rows buckets a o clock clock′ c x h e₁ e₂ e₃ e₄ r b t f =
     let s = txnAt w p .slot in
     record {
-      store = same-store _ _ refl e₁ e₂ e₃ e₄ (txns-set w z p l (w .tables .lists) (idleOf s) (λ j d. refl) ∙ ap (λ (y : model.Txn). update (view w .txns) p y) (idle-view (w .tables .lists) s));
+      store = same-store _ _ refl e₁ e₂ e₃ e₄ (txns-set w z p l (w .tables .lists) (idleOf s) (λ j d. refl)
+          ∙ ap (λ (y : model.Txn). update (view w .txns) p y) (idle-view (w .tables .lists) s));
       answer = t;
       lent = f;
       sized = sized-set w z p l _ _ _ _ (sized-idle p (txnAt w p) (sized-at w z p)) r refl b refl;
@@ -228,7 +259,8 @@ module _ (w : Words) (z : Sized w) (g : Good (view w)) (n : ℕ) where
       let q = standing w n in
       let t = txnAt w q in
       let rs = rowsWritten (w .tables .lists) (t .slot) (t .«writes_n») in
-      ended-at w z q l _ _ tell.Done machine.Done (w .clock) (w .clock) _ _ _ refl (abort-chains w (t .number) rs) (abort-index w (t .number) rs (freedList w q)) (abort-held w z g q a (leb-false 5 (rank (phaseView (t .phase))) e))
+      ended-at w z q l _ _ tell.Done machine.Done (w .clock) (w .clock) _ _ _ refl (abort-chains w (t .number) rs)
+      (abort-index w (t .number) rs (freedList w q)) (abort-held w z g q a (leb-false 5 (rank (phaseView (t .phase))) e))
       (clear-length 4 1 (t .number) (w .tables .rows) rs) (clear-length 2 1 (t .number) (w .tables .buckets) (freedList w q)) refl refl
 
   -- buckets and claims are freed, and the record ends

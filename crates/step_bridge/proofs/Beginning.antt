@@ -98,7 +98,8 @@ module _ (w : Words) (z : Sized w) where
   -- a free place, and so fewer than eight live; none, and so eight
   pub few-live : standing w 0 < mostLive → liveCount (view w .txns) < mostLive
   unfolding liveCount
-  few-live l = let e : txnAt w (standing w 0) .number ≡ 0 = place-number (view w) 0 l in pick-less (λ i. live (view w .txns i)) 0 mostLive (standing w 0) (omega arith) l (rw (eq-eqb (txnAt w (standing w 0) .number) 0 e))
+  few-live l = let e : txnAt w (standing w 0) .number ≡ 0 = place-number (view w) 0 l in
+      pick-less (λ i. live (view w .txns i)) 0 mostLive (standing w 0) (omega arith) l (rw (eq-eqb (txnAt w (standing w 0) .number) 0 e))
 
   pub all-live : mostLive ≤ standing w 0 → liveCount (view w .txns) ≡ mostLive
   unfolding liveCount
@@ -106,23 +107,40 @@ module _ (w : Words) (z : Sized w) where
 
   few-active : standing w 0 < mostLive → length (activeNumbers (view w .txns)) ≤ mostActive
   unfolding liveCount activeNumbers
-  few-active l = omega (arith, few-live l, length-map (pick (λ i. active (view w .txns i)) 0 mostLive) (λ i. view w .txns i .number), pick-fewer (λ i. active (view w .txns i)) (λ i. live (view w .txns i)) 0 mostLive (λ i e. and-l _ _ e))
+  few-active l = omega (
+    arith,
+    few-live l,
+    length-map (pick (λ i. active (view w .txns i)) 0 mostLive) (λ i. view w .txns i .number),
+    pick-fewer (λ i. active (view w .txns i)) (λ i. live (view w .txns i)) 0 mostLive (λ i e. and-l _ _ e),
+  )
 
   -- the snapshot
-  begun-view : standing w 0 < mostLive → w .clock < lastNumber → (xs : List ℕ) (t : Transaction) → txnView xs (begunOf t (snapshotOf (othersIn (w .txns) .active) (w .clock)) (w .clock) .txn) ≡ newTxn (view w)
+  begun-view : standing w 0 < mostLive → w .clock < lastNumber → (xs : List ℕ) (t : Transaction)
+      → txnView xs (begunOf t (snapshotOf (othersIn (w .txns) .active) (w .clock)) (w .clock) .txn) ≡ newTxn (view w)
   unfolding snapshotOf listOf
   begun-view l c xs t =
       let k = keep-all (othersIn (w .txns) .active) (keptNone (w .clock)) (omega (arith, few-active l, ap length active-same)) refl in
       rw (k .kept, k .lowest, active-same, one-up (w .clock) c)
 
-  begun-sized : standing w 0 < mostLive → SizedTxn (standing w 0) (begunOf (txnAt w (standing w 0)) (snapshotOf (othersIn (w .txns) .active) (w .clock)) (w .clock) .txn)
+  begun-sized : standing w 0 < mostLive
+      → SizedTxn (standing w 0) (begunOf (txnAt w (standing w 0)) (snapshotOf (othersIn (w .txns) .active) (w .clock)) (w .clock) .txn)
   unfolding snapshotOf
   begun-sized l =
       let k = keep-all (othersIn (w .txns) .active) (keptNone (w .clock)) (omega (arith, few-active l, ap length active-same)) refl in
-      record { slot = sized-at w z (standing w 0) .slot; active = omega (arith, k .count, few-active l, ap length active-same); seven = k .room; reads = omega arith; writes = omega arith; records = omega arith; candidates = omega arith }
+      record {
+        slot = sized-at w z (standing w 0) .slot;
+        active = omega (arith, k .count, few-active l, ap length active-same);
+        seven = k .room;
+        reads = omega arith;
+        writes = omega arith;
+        records = omega arith;
+        candidates = omega arith;
+      }
 
   begun-at : standing w 0 < mostLive → (b : Bool) → ltb lastNumber (w .clock + liveCount (view w .txns) + 2) ≡ b
-      → SameAt w (standing w 0) (stays (withBegun (cond b (refusedBegin (txnAt w (standing w 0)) (w .clock) 2) (begunOf (txnAt w (standing w 0)) (snapshotOf (othersIn (w .txns) .active) (w .clock)) (w .clock))) (w .used)) (w .tables))
+      → SameAt w (standing w 0)
+      (stays (withBegun (cond b (refusedBegin (txnAt w (standing w 0)) (w .clock) 2)
+      (begunOf (txnAt w (standing w 0)) (snapshotOf (othersIn (w .txns) .active) (w .clock)) (w .clock))) (w .used)) (w .tables))
       (carried (view w) (asked ask.Begin) (cond b (some NoNumbers) none))
   unfolding carried accepted afterRefusal
   begun-at l true e = refused-same w z (standing w 0) NoNumbers
@@ -136,7 +154,8 @@ module _ (w : Words) (z : Sized w) where
         sized = sized-set w z (standing w 0) l _ _ _ _ (begun-sized l) refl refl refl refl;
       }
 
-  moved-begin : (p : ℕ) → placeFor (w .txns) ask.Begin ≡ p → p < mostLive → movedBy w ask.Begin ≡ stays (withBegun (beginOf (othersIn (w .txns) .active) (liveCount (view w .txns)) (w .clock) (txnAt w p)) (w .used)) (w .tables)
+  moved-begin : (p : ℕ) → placeFor (w .txns) ask.Begin ≡ p → p < mostLive
+      → movedBy w ask.Begin ≡ stays (withBegun (beginOf (othersIn (w .txns) .active) (liveCount (view w .txns)) (w .clock) (txnAt w p)) (w .used)) (w .tables)
   unfolding movedBy stepOf missesOf
   moved-begin p e l = rw (e, default-any (w .txns) p (idleOf 0) (idleOf p) (omega (arith, z .eight)), live-same w (z .eight))
 

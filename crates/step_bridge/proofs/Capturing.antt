@@ -55,7 +55,8 @@ unfolding hasRead some-of member
 has-member [] b = refl
 has-member (r ∷ rs) b = rw (eqb-sym b (r .bucket), has-member rs b)
 
-pub has-place : (xs : List ℕ) (t : Transaction) (b : ℕ) → t .«reads_n» ≤ mostIndexReads → hasRead (readsIn xs t) b ≡ isPlace (readPrefix xs (t .slot) (t .«reads_n») b)
+pub has-place : (xs : List ℕ) (t : Transaction) (b : ℕ) → t .«reads_n» ≤ mostIndexReads
+    → hasRead (readsIn xs t) b ≡ isPlace (readPrefix xs (t .slot) (t .«reads_n») b)
 has-place xs t b h =
     let e : min (t .«reads_n») mostIndexReads ≡ t .«reads_n» = omega arith in
     rw e (has-member (lists.readsOf xs (t .slot) (t .«reads_n»)) b ∙ member-place (bucketsRead (lists.readsOf xs (t .slot) (t .«reads_n»))) b)
@@ -73,25 +74,38 @@ unfolding addRead
 add-new rs b st h = rw h
 
 -- one index read more
-read-view : (xs : List ℕ) (p : ℕ) (t : Transaction) → SizedTxn p t → p < mostLive → listsWords ≤ length xs → t .«reads_n» < mostIndexReads → (ph : Phase) (b st : ℕ)
+read-view : (xs : List ℕ) (p : ℕ) (t : Transaction) → SizedTxn p t → p < mostLive → listsWords ≤ length xs → t .«reads_n» < mostIndexReads
+    → (ph : Phase) (b st : ℕ)
     → txnView (stored lists.reads xs (t .slot) (t .«reads_n») (b ∷ st ∷ [])) (withReads (withPhase t ph) (t .«reads_n» + 1))
-    ≡ record { number = t .number; snapshot = txnView xs t .snapshot; marked = t .marked; phase = phaseView ph; reads = readsIn xs t ++ (record { bucket = b; stamp = st } ∷ []); writes = txnView xs t .writes; records = txnView xs t .records; candidates = txnView xs t .candidates }
+    ≡ record {
+      number = t .number;
+      snapshot = txnView xs t .snapshot;
+      marked = t .marked;
+      phase = phaseView ph;
+      reads = readsIn xs t ++ (record { bucket = b; stamp = st } ∷ []);
+      writes = txnView xs t .writes;
+      records = txnView xs t .records;
+      candidates = txnView xs t .candidates;
+    }
 read-view xs p t z l h i ph b st =
     rw (
       same-list lists.readOf lists.reads xs (t .slot) (t .«reads_n») (b ∷ st ∷ []) refl i (omega arith) (omega (arith, z .slot)) h,
       map-append,
       other-list lists.writeOf lists.reads lists.writes xs (t .slot) (t .«reads_n») (t .«writes_n») (b ∷ st ∷ []) refl i (z .writes) (inl (omega arith)),
       other-list lists.recordOf lists.reads lists.records xs (t .slot) (t .«reads_n») (t .«records_n») (b ∷ st ∷ []) refl i (z .records) (inl (omega arith)),
-      other-list lists.candidateOf lists.reads lists.candidates xs (t .slot) (t .«reads_n») (t .«candidates_n») (b ∷ st ∷ []) refl i (z .candidates) (inl (omega arith)),
+      other-list lists.candidateOf lists.reads lists.candidates xs (t .slot) (t .«reads_n») (t .«candidates_n») (b ∷ st ∷ []) refl i (z .candidates)
+          (inl (omega arith)),
     )
 
 -- a bucket in range gets a holder: the model's tables
 module _ (w : Words) (z : Sized w) (b v : ℕ) (h : b < w .sizes .buckets) where
-  pub holder-set : _≡_ {A = model.Held} (record { holder = holderOf (bucketsPart (sizesView (w .sizes)) (setHolder (w .tables .buckets) b v)); claim = view w .held .claim })
+  pub holder-set : _≡_ {A = model.Held}
+      (record { holder = holderOf (bucketsPart (sizesView (w .sizes)) (setHolder (w .tables .buckets) b v)); claim = view w .held .claim })
       (record { holder = update (view w .held .holder) b v; claim = view w .held .claim })
   holder-set = rw (part-update 2 1 (w .sizes .buckets) (w .tables .buckets) b v (omega arith) h (z .buckets))
 
-  pub stamps-kept : _≡_ {A = model.Index} (record { stamp = stampOf (bucketsPart (sizesView (w .sizes)) (setHolder (w .tables .buckets) b v)); posted = view w .index .posted }) (view w .index)
+  pub stamps-kept : _≡_ {A = model.Index}
+      (record { stamp = stampOf (bucketsPart (sizesView (w .sizes)) (setHolder (w .tables .buckets) b v)); posted = view w .index .posted }) (view w .index)
   stamps-kept = rw (part-other 2 1 (w .sizes .buckets) (w .tables .buckets) b v 0 (omega arith) (omega arith) (omega arith))
 
 module _ (w : Words) (z : Sized w) (g : Shaped w) (n k : ℕ) (l : standing w n < mostLive) where
@@ -106,13 +120,25 @@ module _ (w : Words) (z : Sized w) (g : Shaped w) (n k : ℕ) (l : standing w n 
     store = same-store _ _ refl refl refl refl refl (txns-set w z (standing w n) l (w .tables .lists) (withMark (txnAt w (standing w n))) (λ j d. refl));
     answer = refl;
     lent = refl;
-    sized = sized-set w z (standing w n) l _ _ _ _ (record { slot = s .slot; active = s .active; seven = s .seven; reads = s .reads; writes = s .writes; records = s .records; candidates = s .candidates }) refl refl refl refl;
+    sized = sized-set w z (standing w n) l _ _ _ _
+        (record {
+          slot = s .slot;
+          active = s .active;
+          seven = s .seven;
+          reads = s .reads;
+          writes = s .writes;
+          records = s .records;
+          candidates = s .candidates;
+        }) refl refl refl refl;
   }
 
   -- the bucket is taken
-  held-at : (f : Found) (st : ℕ) → st ≡ view w .index .stamp (bucketOf (view w .sizes) k) → hasRead (readsIn (w .tables .lists) (txnAt w (standing w n))) (bucketOf (view w .sizes) k) ≡ isPlace f → tooMany f (txnAt w (standing w n) .«reads_n») ≡ false
+  held-at : (f : Found) (st : ℕ) → st ≡ view w .index .stamp (bucketOf (view w .sizes) k)
+      → hasRead (readsIn (w .tables .lists) (txnAt w (standing w n))) (bucketOf (view w .sizes) k) ≡ isPlace f
+      → tooMany f (txnAt w (standing w n) .«reads_n») ≡ false
       → SameAt w (standing w n)
-      (inBuckets (heldLeft st (holdOf (txnAt w (standing w n)) f (bucketOf (view w .sizes) k) k st (w .tables .lists)) (setHolder (w .tables .buckets) (bucketOf (view w .sizes) k) (txnAt w (standing w n) .number))) (w .clock) (w .used) (w .tables))
+      (inBuckets (heldLeft st (holdOf (txnAt w (standing w n)) f (bucketOf (view w .sizes) k) k st (w .tables .lists))
+      (setHolder (w .tables .buckets) (bucketOf (view w .sizes) k) (txnAt w (standing w n) .number))) (w .clock) (w .used) (w .tables))
       (carried (view w) (asked (ask.Capture n k)) none)
   unfolding carried accepted holdOf
   held-at (At i) st e r m =
@@ -122,11 +148,30 @@ module _ (w : Words) (z : Sized w) (g : Shaped w) (n k : ℕ) (l : standing w n 
       record {
         store = same-store _ _ refl refl refl (stamps-kept w z b (txnAt w q .number) key-in) (holder-set w z b (txnAt w q .number) key-in)
             (txns-set w z q l (w .tables .lists) (withPhase (txnAt w q) (phase.Holding b k)) (λ j d. refl)
-            ∙ ap (λ (y : List model.IndexRead). update (view w .txns) q (record { number = txnAt w q .number; snapshot = view w .txns q .snapshot; marked = txnAt w q .marked; phase = model.Holding b k; reads = y; writes = view w .txns q .writes; records = view w .txns q .records; candidates = view w .txns q .candidates }))
+            ∙ ap (λ (y : List model.IndexRead). update (view w .txns) q
+            (record {
+              number = txnAt w q .number;
+              snapshot = view w .txns q .snapshot;
+              marked = txnAt w q .marked;
+              phase = model.Holding b k;
+              reads = y;
+              writes = view w .txns q .writes;
+              records = view w .txns q .records;
+              candidates = view w .txns q .candidates;
+            }))
             (sym (add-held (readsIn (w .tables .lists) (txnAt w q)) b (view w .index .stamp b) r)));
         answer = ap tell.Stamp e;
         lent = refl;
-        sized = sized-set w z q l _ _ _ _ (record { slot = s .slot; active = s .active; seven = s .seven; reads = s .reads; writes = s .writes; records = s .records; candidates = s .candidates }) refl refl (field-length 2 1 (w .tables .buckets) b (txnAt w q .number)) refl;
+        sized = sized-set w z q l _ _ _ _
+            (record {
+              slot = s .slot;
+              active = s .active;
+              seven = s .seven;
+              reads = s .reads;
+              writes = s .writes;
+              records = s .records;
+              candidates = s .candidates;
+            }) refl refl (field-length 2 1 (w .tables .buckets) b (txnAt w q .number)) refl;
       }
   held-at Nothing st e r m =
       let q = standing w n in
@@ -138,14 +183,34 @@ module _ (w : Words) (z : Sized w) (g : Shaped w) (n k : ℕ) (l : standing w n 
         store = same-store _ _ refl refl refl (stamps-kept w z b (txnAt w q .number) key-in) (holder-set w z b (txnAt w q .number) key-in)
             (txns-set w z q l _ _ (λ j d. slot-view (w .tables .lists) q j _ (b ∷ st ∷ []) (txnAt w j) (sized-at w z j) (omega arith) (omega arith) d)
             ∙ (ap (λ (y : model.Txn). update (view w .txns) q y) (read-view (w .tables .lists) q (txnAt w q) s l (z .lists) few (phase.Holding b k) b st)
-            ∙ ap (λ (y : List model.IndexRead). update (view w .txns) q (record { number = txnAt w q .number; snapshot = view w .txns q .snapshot; marked = txnAt w q .marked; phase = model.Holding b k; reads = y; writes = view w .txns q .writes; records = view w .txns q .records; candidates = view w .txns q .candidates }))
+            ∙ ap (λ (y : List model.IndexRead). update (view w .txns) q
+            (record {
+              number = txnAt w q .number;
+              snapshot = view w .txns q .snapshot;
+              marked = txnAt w q .marked;
+              phase = model.Holding b k;
+              reads = y;
+              writes = view w .txns q .writes;
+              records = view w .txns q .records;
+              candidates = view w .txns q .candidates;
+            }))
             (rw e (sym (add-new (readsIn (w .tables .lists) (txnAt w q)) b (view w .index .stamp b) r)))));
         answer = ap tell.Stamp e;
         lent = refl;
-        sized = sized-set w z q l _ _ _ _ (record { slot = s .slot; active = s .active; seven = s .seven; reads = omega arith; writes = s .writes; records = s .records; candidates = s .candidates }) refl refl (field-length 2 1 (w .tables .buckets) b (txnAt w q .number)) (length-sets (w .tables .lists) _ (b ∷ st ∷ []));
+        sized = sized-set w z q l _ _ _ _
+            (record {
+              slot = s .slot;
+              active = s .active;
+              seven = s .seven;
+              reads = omega arith;
+              writes = s .writes;
+              records = s .records;
+              candidates = s .candidates;
+            }) refl refl (field-length 2 1 (w .tables .buckets) b (txnAt w q .number)) (length-sets (w .tables .lists) _ (b ∷ st ∷ []));
       }
 
-  captured-at : (f : Found) (st : ℕ) → st ≡ view w .index .stamp (bucketOf (view w .sizes) k) → hasRead (readsIn (w .tables .lists) (txnAt w (standing w n))) (bucketOf (view w .sizes) k) ≡ isPlace f
+  captured-at : (f : Found) (st : ℕ) → st ≡ view w .index .stamp (bucketOf (view w .sizes) k)
+      → hasRead (readsIn (w .tables .lists) (txnAt w (standing w n))) (bucketOf (view w .sizes) k) ≡ isPlace f
       → (a c d e m : Bool) → tooMany f (txnAt w (standing w n) .«reads_n») ≡ m
       → SameAt w (standing w n)
       (inBuckets
@@ -154,9 +219,11 @@ module _ (w : Words) (z : Sized w) (g : Shaped w) (n k : ℕ) (l : standing w n 
       (cond d (left (refusedOf (txnAt w (standing w n)) (refusalNumber Taken)) (w .tables .buckets) (w .tables .lists))
       (cond e (left (refusedOf (withMark (txnAt w (standing w n))) (refusalNumber Stale)) (w .tables .buckets) (w .tables .lists))
       (cond m (left (refusedOf (txnAt w (standing w n)) (refusalNumber ManyReads)) (w .tables .buckets) (w .tables .lists))
-      (heldLeft st (holdOf (txnAt w (standing w n)) f (bucketOf (view w .sizes) k) k st (w .tables .lists)) (setHolder (w .tables .buckets) (bucketOf (view w .sizes) k) (txnAt w (standing w n) .number))))))))
+      (heldLeft st (holdOf (txnAt w (standing w n)) f (bucketOf (view w .sizes) k) k st (w .tables .lists))
+      (setHolder (w .tables .buckets) (bucketOf (view w .sizes) k) (txnAt w (standing w n) .number))))))))
       (w .clock) (w .used) (w .tables))
-      (carried (view w) (asked (ask.Capture n k)) (cond a (some WrongPhase) (cond c (some Marked) (cond d (some Taken) (cond e (some Stale) (cond m (some ManyReads) none))))))
+      (carried (view w) (asked (ask.Capture n k))
+      (cond a (some WrongPhase) (cond c (some Marked) (cond d (some Taken) (cond e (some Stale) (cond m (some ManyReads) none))))))
   unfolding carried afterRefusal
   captured-at f st q r true c d e m h = refused-same w z (standing w n) WrongPhase
   captured-at f st q r false true d e m h = refused-same w z (standing w n) Marked
@@ -165,7 +232,8 @@ module _ (w : Words) (z : Sized w) (g : Shaped w) (n k : ℕ) (l : standing w n 
   captured-at f st q r false false false false true h = refused-same w z (standing w n) ManyReads
   captured-at f st q r false false false false false h = held-at f st q r h
 
-  captured-place : SameAt w (standing w n) (inBuckets (captureAt (txnAt w (standing w n)) (bucketOf (view w .sizes) k) k (w .tables .buckets) (w .tables .lists)) (w .clock) (w .used) (w .tables))
+  captured-place : SameAt w (standing w n)
+      (inBuckets (captureAt (txnAt w (standing w n)) (bucketOf (view w .sizes) k) k (w .tables .buckets) (w .tables .lists)) (w .clock) (w .used) (w .tables))
       (carried (view w) (asked (ask.Capture n k)) (refusal (later-tests (view w) (asked (ask.Capture n k)))))
   unfolding captureAt refusal
   captured-place =

@@ -38,7 +38,8 @@ abbrev pub rowNeeds : Words → ℕ → ℕ → List ℕ
 rowNeeds w p r = writeNeeds (w .tables .rows) (w .tables .versions) (w .tables .lists) (w .sizes .buckets) true (txnAt w p .slot) (txnAt w p .«writes_n») r
 
 abbrev pub rowChanges : Words → ℕ → ℕ → List ℕ
-rowChanges w p r = writeChanges (w .tables .rows) (w .tables .versions) (w .tables .lists) (w .sizes .buckets) (txnAt w p .number) (txnAt w p .slot) (txnAt w p .«writes_n») r
+rowChanges w p r = writeChanges (w .tables .rows) (w .tables .versions) (w .tables .lists) (w .sizes .buckets) (txnAt w p .number) (txnAt w p .slot)
+    (txnAt w p .«writes_n») r
 
 abbrev pub rowsOf : Words → ℕ → List ℕ
 rowsOf w p = rowsWritten (w .tables .lists) (txnAt w p .slot) (txnAt w p .«writes_n»)
@@ -52,7 +53,8 @@ Got w p r = Made (view w .sizes) (view w .chains) (view w .txns p) r
 
 -- the buckets that a row stamps
 abbrev changes : Words → ℕ → ℕ → List ℕ
-changes w p r = cond (sameKey (keyBefore (view w .chains) r) (newKey (view w .txns p) r)) [] (keyBuckets (view w .sizes) (keyBefore (view w .chains) r) ++ keyBuckets (view w .sizes) (newKey (view w .txns p) r))
+changes w p r = cond (sameKey (keyBefore (view w .chains) r) (newKey (view w .txns p) r)) []
+    (keyBuckets (view w .sizes) (keyBefore (view w .chains) r) ++ keyBuckets (view w .sizes) (newKey (view w .txns p) r))
 
 abbrev gotRows : Words → ℕ → List ℕ
 gotRows w p = madeRows (view w .sizes) (view w .chains) (txnAt w p .number) (view w .txns p .writes)
@@ -80,7 +82,8 @@ module _ (w : Words) (z : Sized w) (g : Shaped w) (p : ℕ) (l : 1 ≤ txnAt w p
       (version-key (view w .sizes) (w .tables .rows) (w .tables .versions) (w .used) (headed w z g) (c .next q)
       (omega (arith, g .next-falls q (made-head (view w .sizes) c (view w .txns p) r m .0) u)))
 
-  after-needs : (r : ℕ) → Got w p r → rowNeeds w p r ≡ keyBuckets (view w .sizes) (keyBefore (view w .chains) r) ++ keyBuckets (view w .sizes) (newKey (view w .txns p) r)
+  after-needs : (r : ℕ) → Got w p r → rowNeeds w p r ≡ keyBuckets (view w .sizes) (keyBefore (view w .chains) r)
+      ++ keyBuckets (view w .sizes) (newKey (view w .txns p) r)
   unfolding writeNeeds
   after-needs r m =
       let a = key-buckets (view w .sizes) (oldKeyOf (w .tables .rows) (w .tables .versions) true r) in
@@ -106,8 +109,12 @@ module _ (w : Words) (z : Sized w) (g : Shaped w) (p : ℕ) (l : 1 ≤ txnAt w p
   unfolding writeChanges headedBy
   change-got r b a m = go (headedBy (view w .chains) (txnAt w p .number) r) refl (rw (row-headed r (row-in w z g p l r a)) at m)
     where
-      go : (h : Bool) → headedBy (view w .chains) (txnAt w p .number) r ≡ h → Among b (cond (not h) [] (cond (sameKey (keyOf (oldKeyOf (w .tables .rows) (w .tables .versions) true r)) (keyOf (newKeyOf (w .tables .lists) (txnAt w p .slot) (txnAt w p .«writes_n») r))) [] (rowNeeds w p r))) → Got w p r
-      go true e o = which-made (view w .sizes) (view w .chains) (view w .txns p) r (row-pending w z g p l r a) (leb-true 1 (view w .chains .head r) (and-l (leb 1 (view w .chains .head r)) _ e)) (eqb-true _ _ (and-r (leb 1 (view w .chains .head r)) _ e))
+      go : (h : Bool) → headedBy (view w .chains) (txnAt w p .number) r ≡ h
+          → Among b (cond (not h) []
+          (cond (sameKey (keyOf (oldKeyOf (w .tables .rows) (w .tables .versions) true r))
+          (keyOf (newKeyOf (w .tables .lists) (txnAt w p .slot) (txnAt w p .«writes_n») r))) [] (rowNeeds w p r))) → Got w p r
+      go true e o = which-made (view w .sizes) (view w .chains) (view w .txns p) r (row-pending w z g p l r a)
+          (leb-true 1 (view w .chains .head r) (and-l (leb 1 (view w .chains .head r)) _ e)) (eqb-true _ _ (and-r (leb 1 (view w .chains .head r)) _ e))
       go false e o = absurd o
 
   -- the stamped buckets are those that changed
@@ -151,9 +158,12 @@ module _ (w : Words) (z : Sized w) (g : Good (view w)) (p : ℕ) (l : 1 ≤ txnA
       wanted (inr h) = inr (⊎-elim
           (λ a. among-left b (readsNeed (w .tables .lists) (txnAt w p .slot) (txnAt w p .«reads_n»)) _ (rw (reads-need (w .tables .lists) (txnAt w p)) at a))
           (λ a. among-right b (readsNeed (w .tables .lists) (txnAt w p .slot) (txnAt w p .«reads_n»)) _ (rows-listed a))
-          (among-cases b (readBuckets (view w .txns p)) (join (λ r. keyBuckets (view w .sizes) (view w .index .posted r) ++ keyBuckets (view w .sizes) (newKey (view w .txns p) r)) (pendingRows (view w .sizes) (view w .txns p .writes))) (h .1)))
+          (among-cases b (readBuckets (view w .txns p))
+          (join (λ r. keyBuckets (view w .sizes) (view w .index .posted r) ++ keyBuckets (view w .sizes) (newKey (view w .txns p) r))
+          (pendingRows (view w .sizes) (view w .txns p .writes))) (h .1)))
 
-      by : (j : ℕ) × (view w .held .holder b ≡ view w .txns j .number) × Wants (view w .sizes) (view w .index .posted) (view w .txns j) b → Among b (bucketIn (phaseView (txnAt w p .phase)) ∷ listedAfter w p)
+      by : (j : ℕ) × (view w .held .holder b ≡ view w .txns j .number) × Wants (view w .sizes) (view w .index .posted) (view w .txns j) b
+          → Among b (bucketIn (phaseView (txnAt w p .phase)) ∷ listedAfter w p)
       by o = wanted (rw (g .numbers .distinct p (o .0) l (sym e ∙ o .1)) (o .2))
 
 module _ (w : Words) (z : Sized w) (p : ℕ) where
@@ -167,12 +177,16 @@ module _ (w : Words) (z : Sized w) (p : ℕ) where
         s .writes,
         writes-few w p,
         needs-length (w .tables .lists) (txnAt w p),
-        join-few (rowNeeds w p) (rowsOf w p) (λ r. needs-few (w .tables .rows) (w .tables .versions) (w .tables .lists) (w .sizes .buckets) true (txnAt w p .slot) (txnAt w p .«writes_n») r),
+        join-few (rowNeeds w p) (rowsOf w p)
+            (λ r. needs-few (w .tables .rows) (w .tables .versions) (w .tables .lists) (w .sizes .buckets) true (txnAt w p .slot) (txnAt w p .«writes_n») r),
       ))
 
   change-few : (r : ℕ) → length (rowChanges w p r) ≤ 2
   unfolding writeChanges
-  change-few r = cond-elim (λ (bs : List ℕ). length bs ≤ 2) (not (words.headedBy (w .tables .rows) (w .tables .versions) (txnAt w p .number) r)) [] _ (λ t. omega arith) (λ t. cond-elim (λ (bs : List ℕ). length bs ≤ 2) (sameKey (keyOf (oldKeyOf (w .tables .rows) (w .tables .versions) true r)) (keyOf (newKeyOf (w .tables .lists) (txnAt w p .slot) (txnAt w p .«writes_n») r))) [] (rowNeeds w p r) (λ t. omega arith)
+  change-few r = cond-elim (λ (bs : List ℕ). length bs ≤ 2) (not (words.headedBy (w .tables .rows) (w .tables .versions) (txnAt w p .number) r)) [] _
+      (λ t. omega arith) (λ t. cond-elim (λ (bs : List ℕ). length bs ≤ 2)
+      (sameKey (keyOf (oldKeyOf (w .tables .rows) (w .tables .versions) true r))
+      (keyOf (newKeyOf (w .tables .lists) (txnAt w p .slot) (txnAt w p .«writes_n») r))) [] (rowNeeds w p r) (λ t. omega arith)
       (λ t. needs-few (w .tables .rows) (w .tables .versions) (w .tables .lists) (w .sizes .buckets) true (txnAt w p .slot) (txnAt w p .«writes_n») r))
 
   pub changes-few : length (join (rowChanges w p) (rowsOf w p)) ≤ 48
@@ -181,14 +195,20 @@ module _ (w : Words) (z : Sized w) (p : ℕ) where
 module _ (w : Words) (z : Sized w) (g : Shaped w) (p : ℕ) where
   -- and are in range
   needs-range : (r : ℕ) → InRange (w .sizes .buckets) (rowNeeds w p r)
-  needs-range r = needs-in (w .tables .rows) (w .tables .versions) (w .tables .lists) (w .sizes .buckets) true (txnAt w p .slot) (txnAt w p .«writes_n») r (count-pos w g)
+  needs-range r = needs-in (w .tables .rows) (w .tables .versions) (w .tables .lists) (w .sizes .buckets) true (txnAt w p .slot) (txnAt w p .«writes_n») r
+      (count-pos w g)
 
   pub after-in : 1 ≤ txnAt w p .number → InRange (w .sizes .buckets) (listedAfter w p)
-  after-in l b m = ⊎-elim (λ a. read-in w z g p l b a) (λ a. let o = join-which (rowNeeds w p) (rowsOf w p) b a in needs-range (o .0) b (o .2)) (among-cases b (readsNeed (w .tables .lists) (txnAt w p .slot) (txnAt w p .«reads_n»)) (join (rowNeeds w p) (rowsOf w p)) m)
+  after-in l b m = ⊎-elim (λ a. read-in w z g p l b a) (λ a. let o = join-which (rowNeeds w p) (rowsOf w p) b a in
+      needs-range (o .0) b (o .2)) (among-cases b (readsNeed (w .tables .lists) (txnAt w p .slot) (txnAt w p .«reads_n»)) (join (rowNeeds w p) (rowsOf w p)) m)
 
   change-in : (r : ℕ) → InRange (w .sizes .buckets) (rowChanges w p r)
   unfolding writeChanges
-  change-in r = cond-elim (λ (bs : List ℕ). InRange (w .sizes .buckets) bs) (not (words.headedBy (w .tables .rows) (w .tables .versions) (txnAt w p .number) r)) [] _ (λ t i m. absurd m) (λ t. cond-elim (λ (bs : List ℕ). InRange (w .sizes .buckets) bs) (sameKey (keyOf (oldKeyOf (w .tables .rows) (w .tables .versions) true r)) (keyOf (newKeyOf (w .tables .lists) (txnAt w p .slot) (txnAt w p .«writes_n») r))) [] (rowNeeds w p r) (λ t i m. absurd m) (λ t. needs-range r))
+  change-in r = cond-elim (λ (bs : List ℕ). InRange (w .sizes .buckets) bs)
+      (not (words.headedBy (w .tables .rows) (w .tables .versions) (txnAt w p .number) r)) [] _ (λ t i m. absurd m)
+      (λ t. cond-elim (λ (bs : List ℕ). InRange (w .sizes .buckets) bs)
+      (sameKey (keyOf (oldKeyOf (w .tables .rows) (w .tables .versions) true r))
+      (keyOf (newKeyOf (w .tables .lists) (txnAt w p .slot) (txnAt w p .«writes_n») r))) [] (rowNeeds w p r) (λ t i m. absurd m) (λ t. needs-range r))
 
   pub changes-in : InRange (w .sizes .buckets) (join (rowChanges w p) (rowsOf w p))
   changes-in b m = let o = join-which (rowChanges w p) (rowsOf w p) b m in change-in (o .0) b (o .2)

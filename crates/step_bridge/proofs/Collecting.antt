@@ -60,11 +60,21 @@ module _ (xs : List ℕ) (s : ℕ) (rs : List ℕ) (hs : s < mostLive) (few : le
       ∙ (ap (λ (j : ℕ). getD (keptIn xs s rs) j 0) e ∙ sets-at xs (placeOf candidates s 0) rs i k (omega arith))))
 
   kept-before : {A : Type 0} (f : List ℕ → A) (l : Kind) (n : ℕ) → n ≤ l .room → endOf l ≤ candidates .off → listAt f l (keptIn xs s rs) s n ≡ listAt f l xs s n
-  kept-before f l n hn e = let b = mul-le-mul-left {m = n} {n = l .room} (l .w) hn in list-kept f (l .w) (startOf l s) xs n (placeOf candidates s 0) rs (inl (omega arith))
+  kept-before f l n hn e = let b = mul-le-mul-left {m = n} {n = l .room} (l .w) hn in
+      list-kept f (l .w) (startOf l s) xs n (placeOf candidates s 0) rs (inl (omega arith))
 
 collected-view : (xs : List ℕ) (p : ℕ) (t : Transaction) (rs : List ℕ) (k : ℕ) → SizedTxn p t → p < mostLive → length rs ≤ mostRows → listsWords ≤ length xs
     → txnView (keptIn xs (t .slot) rs) (withCandidates (withPhase t (phase.Collected k)) (length rs))
-    ≡ record { number = t .number; snapshot = txnView xs t .snapshot; marked = t .marked; phase = model.Collected k; reads = txnView xs t .reads; writes = txnView xs t .writes; records = txnView xs t .records; candidates = rs }
+    ≡ record {
+      number = t .number;
+      snapshot = txnView xs t .snapshot;
+      marked = t .marked;
+      phase = model.Collected k;
+      reads = txnView xs t .reads;
+      writes = txnView xs t .writes;
+      records = txnView xs t .records;
+      candidates = rs;
+    }
 collected-view xs p t rs k z l few h =
     let o : t .slot < mostLive = omega (arith, z .slot) in
     rw (
@@ -91,7 +101,8 @@ module _ (w : Words) (z : Sized w) (g : Shaped w) where
       let e : min (w .sizes .rows) mostRows ≡ w .sizes .rows = omega arith in
       rw e (pick-same _ _ 0 (w .sizes .rows) (λ r lo hi.
       let h : r < w .sizes .rows = omega arith in
-      rw (part-field 4 2 (w .sizes .rows) (w .tables .rows) r (omega arith) h, part-field 4 3 (w .sizes .rows) (w .tables .rows) r (omega arith) h) (posted-test (postedOf (w .tables .rows) r) (postedKeyOf (w .tables .rows) r) k)))
+      rw (part-field 4 2 (w .sizes .rows) (w .tables .rows) r (omega arith) h, part-field 4 3 (w .sizes .rows) (w .tables .rows) r (omega arith) h)
+      (posted-test (postedOf (w .tables .rows) r) (postedKeyOf (w .tables .rows) r) k)))
 
   posted-few : (k : ℕ) → length (postedRows (view w) k) ≤ mostRows
   unfolding postedRows
@@ -101,7 +112,8 @@ module _ (w : Words) (z : Sized w) (g : Shaped w) where
       → SameAt w (standing w n)
       (inBuckets
       (cond b (left (refusedOf (txnAt w (standing w n)) (refusalNumber WrongPhase)) (w .tables .buckets) (w .tables .lists))
-      (collectedLeft (txnAt w (standing w n)) (bucketIn (phaseView (txnAt w (standing w n) .phase))) (keyIn (phaseView (txnAt w (standing w n) .phase))) (postedRows (view w) (keyIn (phaseView (txnAt w (standing w n) .phase)))) (w .tables .buckets) (w .tables .lists)))
+      (collectedLeft (txnAt w (standing w n)) (bucketIn (phaseView (txnAt w (standing w n) .phase))) (keyIn (phaseView (txnAt w (standing w n) .phase)))
+      (postedRows (view w) (keyIn (phaseView (txnAt w (standing w n) .phase)))) (w .tables .buckets) (w .tables .lists)))
       (w .clock) (w .used) (w .tables))
       (carried (view w) (asked (ask.Collect n)) (cond b (some WrongPhase) none))
   unfolding carried accepted afterRefusal
@@ -114,12 +126,22 @@ module _ (w : Words) (z : Sized w) (g : Shaped w) where
       let rs = postedRows (view w) (keyIn ph) in
       let few = posted-few (keyIn ph) in
       record {
-        store = same-store _ _ refl refl refl (stamps-kept w z (bucketIn ph) 0 (g .in-store q a .bucket-in)) (holder-set w z (bucketIn ph) 0 (g .in-store q a .bucket-in))
+        store = same-store _ _ refl refl refl (stamps-kept w z (bucketIn ph) 0 (g .in-store q a .bucket-in))
+            (holder-set w z (bucketIn ph) 0 (g .in-store q a .bucket-in))
             (txns-set w z q l _ _ (λ j d. slot-view (w .tables .lists) q j _ rs (txnAt w j) (sized-at w z j) (omega arith) (omega arith) d)
             ∙ ap (λ (y : model.Txn). update (view w .txns) q y) (collected-view (w .tables .lists) q (txnAt w q) rs (keyIn ph) s l few (z .lists)));
         answer = refl;
         lent = refl;
-        sized = sized-set w z q l _ _ _ _ (record { slot = s .slot; active = s .active; seven = s .seven; reads = s .reads; writes = s .writes; records = s .records; candidates = few }) refl refl (field-length 2 1 (w .tables .buckets) (bucketIn ph) 0) (length-sets (w .tables .lists) _ rs);
+        sized = sized-set w z q l _ _ _ _
+            (record {
+              slot = s .slot;
+              active = s .active;
+              seven = s .seven;
+              reads = s .reads;
+              writes = s .writes;
+              records = s .records;
+              candidates = few;
+            }) refl refl (field-length 2 1 (w .tables .buckets) (bucketIn ph) 0) (length-sets (w .tables .lists) _ rs);
       }
 
   -- the posted rows are kept, and the bucket is free

@@ -59,7 +59,8 @@ entry-among [] i h = absurd (omega arith)
 entry-among (x ∷ xs) zero h = inl refl
 entry-among (x ∷ xs) (suc i) h = inr (entry-among xs i (omega arith))
 
-canonical-fine : (input old : List ℕ) → inRange input mostBuckets → length input ≤ length old → canonicalOf input mostBuckets old ≡ record { answer = Sorted (length (bucketsOf input)); out = laid (bucketsOf input) old }
+canonical-fine : (input old : List ℕ) → inRange input mostBuckets → length input ≤ length old
+    → canonicalOf input mostBuckets old ≡ record { answer = Sorted (length (bucketsOf input)); out = laid (bucketsOf input) old }
 unfolding canonicalOf
 canonical-fine input old below room = rw (fine-when mostBuckets (length old) input below (omega arith))
 
@@ -71,10 +72,14 @@ module _ (xs : List ℕ) (s n : ℕ) (z : model.Sizes) (below : (r : ℕ) → Am
       let rs = rowsWritten xs s n in
       let ps = pendingRows z (map writeView (writesOf xs s n)) in
       ascending-unique (bucketsOf rs) ps (buckets-ascending rs) (rising-ascending 0 ps (pick-rising (pending (map writeView (writesOf xs s n))) 0 (z .rows)))
-      (λ v. buckets-member v rs ∙ same-test (member v rs) (member v ps) (λ e. let m = member-among v rs e in among-member v ps (written-pending xs s n z v (below v m) m)) (λ e. among-member v rs (pending-written xs s n z v (member-among v ps e))))
+      (λ v. buckets-member v rs ∙ same-test (member v rs) (member v ps) (λ e. let m = member-among v rs e in
+      among-member v ps (written-pending xs s n z v (below v m) m)) (λ e. among-member v rs (pending-written xs s n z v (member-among v ps e))))
 
   pub listed-pending : z .rows ≤ mostBuckets → length (rowsWritten xs s n) ≤ mostWrites → pendingInto xs s n (replicate mostWrites 0)
-      ≡ record { out = laid (pendingRows z (map writeView (writesOf xs s n))) (replicate mostWrites 0); n = length (pendingRows z (map writeView (writesOf xs s n))) }
+      ≡ record {
+        out = laid (pendingRows z (map writeView (writesOf xs s n))) (replicate mostWrites 0);
+        n = length (pendingRows z (map writeView (writesOf xs s n)));
+      }
   unfolding pendingInto rowsListed
   listed-pending most few =
       let rs = rowsWritten xs s n in
@@ -92,9 +97,11 @@ key-there k = by (eqb (k .keyed) 0)
     by false = refl
 
 -- where the old key is the model's, so is the test
-pub gets-same : (rows versions xs : List ℕ) (t : Transaction) (c : model.Chains) (r : ℕ) → t .«writes_n» ≤ mostWrites → keyOf (oldKeyOf rows versions false r) ≡ oldKey c r → getsVersionOf rows versions xs (t .slot) (t .«writes_n») r ≡ getsVersion c (writesIn xs t) r
+pub gets-same : (rows versions xs : List ℕ) (t : Transaction) (c : model.Chains) (r : ℕ) → t .«writes_n» ≤ mostWrites
+    → keyOf (oldKeyOf rows versions false r) ≡ oldKey c r → getsVersionOf rows versions xs (t .slot) (t .«writes_n») r ≡ getsVersion c (writesIn xs t) r
 unfolding getsVersionOf getsVersion
-gets-same rows versions xs t c r few e = rw (key-there (oldKeyOf rows versions false r), key-there (newKeyOf xs (t .slot) (t .«writes_n») r), e, new-key-same xs t few r)
+gets-same rows versions xs t c r few e =
+    rw (key-there (oldKeyOf rows versions false r), key-there (newKeyOf xs (t .slot) (t .«writes_n») r), e, new-key-same xs t few r)
 
 join-pick : (test also : ℕ → Bool) (k n : ℕ) → join (λ r. cond (also r) (r ∷ []) []) (pick test k n) ≡ pick (λ r. test r && also r) k n
 unfolding join pick
@@ -102,30 +109,38 @@ join-pick test also k zero = refl
 join-pick test also k (suc n) = by (test k) (also k) refl (join-pick test also (suc k) n)
   where
     by : (a b : Bool) → also k ≡ b → join (λ r. cond (also r) (r ∷ []) []) (pick test (suc k) n) ≡ pick (λ r. test r && also r) (suc k) n
-        → join (λ r. cond (also r) (r ∷ []) []) (cond a (k ∷ pick test (suc k) n) (pick test (suc k) n)) ≡ cond (a && b) (k ∷ pick (λ r. test r && also r) (suc k) n) (pick (λ r. test r && also r) (suc k) n)
+        → join (λ r. cond (also r) (r ∷ []) []) (cond a (k ∷ pick test (suc k) n) (pick test (suc k) n))
+        ≡ cond (a && b) (k ∷ pick (λ r. test r && also r) (suc k) n) (pick (λ r. test r && also r) (suc k) n)
     by true true d e = rw d (ap (λ (l : List ℕ). k ∷ l) e)
     by true false d e = rw d e
     by false b d e = e
 
 -- the pending rows that get a version, picked out of a list
-module _ (rows versions xs : List ℕ) (t : Transaction) (z : model.Sizes) (c : model.Chains) (few : t .«writes_n» ≤ mostWrites) (old : (r : ℕ) → r < z .rows → keyOf (oldKeyOf rows versions false r) ≡ oldKey c r) where
+module _ (rows versions xs : List ℕ) (t : Transaction) (z : model.Sizes) (c : model.Chains) (few : t .«writes_n» ≤ mostWrites)
+    (old : (r : ℕ) → r < z .rows → keyOf (oldKeyOf rows versions false r) ≡ oldKey c r) where
   pub kept-rows : join (kept rows versions xs (t .slot) (t .«writes_n»)) (pendingRows z (writesIn xs t)) ≡ versionRows z c (writesIn xs t)
   unfolding kept pendingRows versionRows
   kept-rows =
-      join-same (kept rows versions xs (t .slot) (t .«writes_n»)) (λ r. cond (getsVersion c (writesIn xs t) r) (r ∷ []) []) (pick (pending (writesIn xs t)) 0 (z .rows))
-      (λ r m. ap (λ (b : Bool). cond b (r ∷ []) []) (gets-same rows versions xs t c r few (old r (omega (arith, pick-which (pending (writesIn xs t)) 0 (z .rows) r m .1)))))
+      join-same (kept rows versions xs (t .slot) (t .«writes_n»)) (λ r. cond (getsVersion c (writesIn xs t) r) (r ∷ []) [])
+      (pick (pending (writesIn xs t)) 0 (z .rows))
+      (λ r m. ap (λ (b : Bool). cond b (r ∷ []) [])
+      (gets-same rows versions xs t c r few (old r (omega (arith, pick-which (pending (writesIn xs t)) 0 (z .rows) r m .1)))))
       ∙ join-pick (pending (writesIn xs t)) (getsVersion c (writesIn xs t)) 0 (z .rows)
 
   -- as the words list them
-  pub version-front : front (pendingInto xs (t .slot) (t .«writes_n») (replicate mostWrites 0)) ≡ pendingRows z (writesIn xs t) → length (versionRows z c (writesIn xs t)) ≤ mostWrites
+  pub version-front : front (pendingInto xs (t .slot) (t .«writes_n») (replicate mostWrites 0)) ≡ pendingRows z (writesIn xs t)
+      → length (versionRows z c (writesIn xs t)) ≤ mostWrites
       → front (versionsInto rows versions xs (t .slot) (t .«writes_n») (replicate mostWrites 0)) ≡ versionRows z c (writesIn xs t)
   unfolding versionsInto
   version-front e room = rw (e, kept-rows) (listed-all 16 (versionRows z c (writesIn xs t)) room)
 
-  pub version-count : front (pendingInto xs (t .slot) (t .«writes_n») (replicate mostWrites 0)) ≡ pendingRows z (writesIn xs t) → length (versionRows z c (writesIn xs t)) ≤ mostWrites
+  pub version-count : front (pendingInto xs (t .slot) (t .«writes_n») (replicate mostWrites 0)) ≡ pendingRows z (writesIn xs t)
+      → length (versionRows z c (writesIn xs t)) ≤ mostWrites
       → versionsInto rows versions xs (t .slot) (t .«writes_n») (replicate mostWrites 0) .n ≡ length (versionRows z c (writesIn xs t))
   unfolding versionsInto
-  version-count e room = rw (e, kept-rows) (listed-count (versionRows z c (writesIn xs t)) (record { out = replicate mostWrites 0; n = 0 }) (rw (length-replicate {A = ℕ} 16 0) (omega arith)) ∙ zero-add (length (versionRows z c (writesIn xs t))))
+  version-count e room = rw (e, kept-rows)
+      (listed-count (versionRows z c (writesIn xs t)) (record { out = replicate mostWrites 0; n = 0 }) (rw (length-replicate {A = ℕ} 16 0) (omega arith))
+      ∙ zero-add (length (versionRows z c (writesIn xs t))))
 
 -- no more than the pending ones
 pub versions-fewer : (z : model.Sizes) (c : model.Chains) (ws : List model.Write) → length (versionRows z c ws) ≤ length (pendingRows z ws)

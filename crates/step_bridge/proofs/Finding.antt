@@ -47,7 +47,14 @@ module _ (w : Words) (z : Sized w) (g : Shaped w) where
   lists-stand : (p : ℕ) → p < mostLive → Stands (w .tables .lists) (txnAt w p)
   lists-stand p l =
       let s = sized-at w z p in
-      record { slot-in = omega (arith, s .slot); long = z .lists; reads-few = s .reads; writes-few = s .writes; records-few = s .records; candidates-few = s .candidates }
+      record {
+        slot-in = omega (arith, s .slot);
+        long = z .lists;
+        reads-few = s .reads;
+        writes-few = s .writes;
+        records-few = s .records;
+        candidates-few = s .candidates;
+      }
 
   read-at : (n room : ℕ) → standing w n < mostLive → (left : LeftRows) → ReadAs (view w) (w .tables .lists) (w .tables .found) (txnAt w (standing w n)) left
       → SameAt w (standing w n) (inFound left (w .clock) (w .used) (w .tables)) (carried (view w) (asked (ask.Rows n room)) none)
@@ -62,19 +69,31 @@ module _ (w : Words) (z : Sized w) (g : Shaped w) where
             ∙ ap (λ (y : model.Txn). update (view w .txns) q y) (h .txn-is));
         answer = h .answer-is;
         lent = h .found-is;
-        sized = sized-set w z q l _ _ _ _ (record { slot = h .slot-same ∙ s .slot; active = rw (h .snapshot-same) (s .active); seven = rw (h .snapshot-same) (s .seven); reads = st .reads-few; writes = st .writes-few; records = st .records-few; candidates = st .candidates-few })
+        sized = sized-set w z q l _ _ _ _
+            (record {
+              slot = h .slot-same ∙ s .slot;
+              active = rw (h .snapshot-same) (s .active);
+              seven = rw (h .snapshot-same) (s .seven);
+              reads = st .reads-few;
+              writes = st .writes-few;
+              records = st .records-few;
+              candidates = st .candidates-few;
+            })
             refl refl refl (h .long-same);
       }
     where
       other : (j : ℕ) → j ≢ standing w n → txnView (left .lists) (txnAt w j) ≡ txnView (w .tables .lists) (txnAt w j)
       other j d = elim (decLt j mostLive) [
         | yes i ↦ h .others (txnAt w j) (λ e. d (sym (sized-at w z j .slot) ∙ (e ∙ sized-at w z (standing w n) .slot))) (lists-stand j i)
-        | no i ↦ rw (List·getD-eq-default (w .txns) (idleOf j) {n = j} (omega (arith, z .eight))) (idle-view (left .lists) j ∙ sym (idle-view (w .tables .lists) j))
+        | no i ↦ rw (List·getD-eq-default (w .txns) (idleOf j) {n = j} (omega (arith, z .eight)))
+            (idle-view (left .lists) j ∙ sym (idle-view (w .tables .lists) j))
       ]
 
   found-at : (n room : ℕ) → standing w n < mostLive → (left : LeftRows) (phase short many : Bool)
-      → RowsAs (view w) (w .tables .lists) (w .tables .found) (txnAt w (standing w n)) (cond phase (some WrongPhase) (cond short (some NoRoom) (cond many (some ManyRecords) none))) left
-      → SameAt w (standing w n) (inFound left (w .clock) (w .used) (w .tables)) (carried (view w) (asked (ask.Rows n room)) (cond phase (some WrongPhase) (cond short (some NoRoom) (cond many (some ManyRecords) none))))
+      → RowsAs (view w) (w .tables .lists) (w .tables .found) (txnAt w (standing w n))
+      (cond phase (some WrongPhase) (cond short (some NoRoom) (cond many (some ManyRecords) none))) left
+      → SameAt w (standing w n) (inFound left (w .clock) (w .used) (w .tables))
+      (carried (view w) (asked (ask.Rows n room)) (cond phase (some WrongPhase) (cond short (some NoRoom) (cond many (some ManyRecords) none))))
   unfolding carried afterRefusal
   found-at n room l left true short many e = rw e (refused-same w z (standing w n) WrongPhase)
   found-at n room l left false true many e = rw e (refused-same w z (standing w n) NoRoom)
@@ -89,4 +108,5 @@ module _ (w : Words) (z : Sized w) (g : Shaped w) where
       by-place w z (ask.Rows n room) refl tt
       (λ l d e. found-at n room l _ (not (eqb (model.rank (x .phase)) phaseCollected)) (ltb (min room mostRows) (length (foundRows (view w) x)))
       (ltb mostRecords (length (recordsAfter (view w) x)))
-      (rows-model (view w) (w .tables .rows) (w .tables .versions) (w .tables .lists) (w .used) (txnAt w (standing w n)) chains-shown (good-sized (view w .sizes) (g .sizes) .rows-most) (lists-stand (standing w n) l) (w .tables .found) room h))
+      (rows-model (view w) (w .tables .rows) (w .tables .versions) (w .tables .lists) (w .used) (txnAt w (standing w n)) chains-shown
+      (good-sized (view w .sizes) (g .sizes) .rows-most) (lists-stand (standing w n) l) (w .tables .found) room h))

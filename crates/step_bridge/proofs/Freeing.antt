@@ -29,7 +29,8 @@ unfolding freedAt release member update
 freed-one n f i is = fun-ext λ j. by j (ℕ-discrete j i)
   where
     by : (j : ℕ) → Dec (j ≡ i)
-        → cond (member j is) (cond (eqb (cond (eqb j i) (cond (eqb (f i) n) 0 (f i)) (f j)) n) 0 (cond (eqb j i) (cond (eqb (f i) n) 0 (f i)) (f j))) (cond (eqb j i) (cond (eqb (f i) n) 0 (f i)) (f j))
+        → cond (member j is) (cond (eqb (cond (eqb j i) (cond (eqb (f i) n) 0 (f i)) (f j)) n) 0 (cond (eqb j i) (cond (eqb (f i) n) 0 (f i)) (f j)))
+        (cond (eqb j i) (cond (eqb (f i) n) 0 (f i)) (f j))
         ≡ cond (eqb j i || member j is) (cond (eqb (f j) n) 0 (f j)) (f j)
     by j (no d) = rw (ne-eqb j i d)
     by j (yes e) = rw (e, eq-eqb i i refl) (go (member i is) (eqb (f i) n) refl)

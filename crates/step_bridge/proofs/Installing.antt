@@ -97,40 +97,70 @@ module _ (m : ℕ) (vs : List ℕ) (p n h : ℕ) (x : Write) (hp : p < m) (hh : 
 
   pub stored-xmin : field 6 0 (part 6 m (setField 6 1 (versionStored vs p n h x) h n)) ≡ update (field 6 0 (part 6 m vs)) p n
   unfolding versionStored v1 v2 v3 v4 v5 v6
-  stored-xmin = past 1 v6 h n 0 (omega arith) (omega arith) (omega arith) ∙ (past 5 v5 p (x .payload) 0 (omega arith) (omega arith) (omega arith) ∙ (past 4 v4 p (x .key) 0 (omega arith) (omega arith) (omega arith) ∙ (past 3 v3 p (x .keyed) 0 (omega arith) (omega arith) (omega arith)
-      ∙ (past 2 v2 p h 0 (omega arith) (omega arith) (omega arith) ∙ (past 1 v1 p 0 0 (omega arith) (omega arith) (omega arith) ∙ part-update 6 0 m vs p n (omega arith) hp l)))))
+  stored-xmin = past 1 v6 h n 0 (omega arith) (omega arith) (omega arith)
+      ∙ (past 5 v5 p (x .payload) 0 (omega arith) (omega arith) (omega arith)
+      ∙ (past 4 v4 p (x .key) 0 (omega arith) (omega arith) (omega arith) ∙ (past 3 v3 p (x .keyed) 0 (omega arith) (omega arith) (omega arith)
+      ∙ (past 2 v2 p h 0 (omega arith) (omega arith) (omega arith)
+      ∙ (past 1 v1 p 0 0 (omega arith) (omega arith) (omega arith) ∙ part-update 6 0 m vs p n (omega arith) hp l)))))
 
   pub stored-xmax : field 6 1 (part 6 m (setField 6 1 (versionStored vs p n h x) h n)) ≡ update (update (field 6 1 (part 6 m vs)) p 0) h n
   unfolding versionStored v1 v2 v3 v4 v5 v6
   stored-xmax = part-update 6 1 m v6 h n (omega arith) hh (rw l6 l)
-      ∙ ap (λ (f : ℕ → ℕ). update f h n) (past 5 v5 p (x .payload) 1 (omega arith) (omega arith) (omega arith) ∙ (past 4 v4 p (x .key) 1 (omega arith) (omega arith) (omega arith) ∙ (past 3 v3 p (x .keyed) 1 (omega arith) (omega arith) (omega arith)
-      ∙ (past 2 v2 p h 1 (omega arith) (omega arith) (omega arith) ∙ (part-update 6 1 m v1 p 0 (omega arith) hp (rw l1 l) ∙ ap (λ (f : ℕ → ℕ). update f p 0) (past 0 vs p n 1 (omega arith) (omega arith) (omega arith)))))))
+      ∙ ap (λ (f : ℕ → ℕ). update f h n) (past 5 v5 p (x .payload) 1 (omega arith) (omega arith) (omega arith)
+      ∙ (past 4 v4 p (x .key) 1 (omega arith) (omega arith) (omega arith) ∙ (past 3 v3 p (x .keyed) 1 (omega arith) (omega arith) (omega arith)
+      ∙ (past 2 v2 p h 1 (omega arith) (omega arith) (omega arith)
+      ∙ (part-update 6 1 m v1 p 0 (omega arith) hp (rw l1 l)
+      ∙ ap (λ (f : ℕ → ℕ). update f p 0) (past 0 vs p n 1 (omega arith) (omega arith) (omega arith)))))))
 
   pub stored-next : field 6 2 (part 6 m (setField 6 1 (versionStored vs p n h x) h n)) ≡ update (field 6 2 (part 6 m vs)) p h
   unfolding versionStored v1 v2 v3 v4 v5 v6
-  stored-next = past 1 v6 h n 2 (omega arith) (omega arith) (omega arith) ∙ (past 5 v5 p (x .payload) 2 (omega arith) (omega arith) (omega arith) ∙ (past 4 v4 p (x .key) 2 (omega arith) (omega arith) (omega arith) ∙ (past 3 v3 p (x .keyed) 2 (omega arith) (omega arith) (omega arith)
-      ∙ (part-update 6 2 m v2 p h (omega arith) hp (rw l2 l) ∙ ap (λ (f : ℕ → ℕ). update f p h) (past 1 v1 p 0 2 (omega arith) (omega arith) (omega arith) ∙ past 0 vs p n 2 (omega arith) (omega arith) (omega arith))))))
+  stored-next = past 1 v6 h n 2 (omega arith) (omega arith) (omega arith)
+      ∙ (past 5 v5 p (x .payload) 2 (omega arith) (omega arith) (omega arith)
+      ∙ (past 4 v4 p (x .key) 2 (omega arith) (omega arith) (omega arith) ∙ (past 3 v3 p (x .keyed) 2 (omega arith) (omega arith) (omega arith)
+      ∙ (part-update 6 2 m v2 p h (omega arith) hp (rw l2 l)
+      ∙ ap (λ (f : ℕ → ℕ). update f p h) (past 1 v1 p 0 2 (omega arith) (omega arith) (omega arith)
+      ∙ past 0 vs p n 2 (omega arith) (omega arith) (omega arith))))))
 
   stored-keyed : field 6 3 (part 6 m (setField 6 1 (versionStored vs p n h x) h n)) ≡ update (field 6 3 (part 6 m vs)) p (x .keyed)
   unfolding versionStored v1 v2 v3 v4 v5 v6
-  stored-keyed = past 1 v6 h n 3 (omega arith) (omega arith) (omega arith) ∙ (past 5 v5 p (x .payload) 3 (omega arith) (omega arith) (omega arith) ∙ (past 4 v4 p (x .key) 3 (omega arith) (omega arith) (omega arith)
-      ∙ (part-update 6 3 m v3 p (x .keyed) (omega arith) hp (rw l3 l) ∙ ap (λ (f : ℕ → ℕ). update f p (x .keyed)) (past 2 v2 p h 3 (omega arith) (omega arith) (omega arith) ∙ (past 1 v1 p 0 3 (omega arith) (omega arith) (omega arith) ∙ past 0 vs p n 3 (omega arith) (omega arith) (omega arith))))))
+  stored-keyed = past 1 v6 h n 3 (omega arith) (omega arith) (omega arith)
+      ∙ (past 5 v5 p (x .payload) 3 (omega arith) (omega arith) (omega arith) ∙ (past 4 v4 p (x .key) 3 (omega arith) (omega arith) (omega arith)
+      ∙ (part-update 6 3 m v3 p (x .keyed) (omega arith) hp (rw l3 l)
+      ∙ ap (λ (f : ℕ → ℕ). update f p (x .keyed)) (past 2 v2 p h 3 (omega arith) (omega arith) (omega arith)
+      ∙ (past 1 v1 p 0 3 (omega arith) (omega arith) (omega arith) ∙ past 0 vs p n 3 (omega arith) (omega arith) (omega arith))))))
 
   stored-key : field 6 4 (part 6 m (setField 6 1 (versionStored vs p n h x) h n)) ≡ update (field 6 4 (part 6 m vs)) p (x .key)
   unfolding versionStored v1 v2 v3 v4 v5 v6
-  stored-key = past 1 v6 h n 4 (omega arith) (omega arith) (omega arith) ∙ (past 5 v5 p (x .payload) 4 (omega arith) (omega arith) (omega arith) ∙ (part-update 6 4 m v4 p (x .key) (omega arith) hp (rw l4 l)
-      ∙ ap (λ (f : ℕ → ℕ). update f p (x .key)) (past 3 v3 p (x .keyed) 4 (omega arith) (omega arith) (omega arith) ∙ (past 2 v2 p h 4 (omega arith) (omega arith) (omega arith) ∙ (past 1 v1 p 0 4 (omega arith) (omega arith) (omega arith) ∙ past 0 vs p n 4 (omega arith) (omega arith) (omega arith))))))
+  stored-key = past 1 v6 h n 4 (omega arith) (omega arith) (omega arith)
+      ∙ (past 5 v5 p (x .payload) 4 (omega arith) (omega arith) (omega arith) ∙ (part-update 6 4 m v4 p (x .key) (omega arith) hp (rw l4 l)
+      ∙ ap (λ (f : ℕ → ℕ). update f p (x .key)) (past 3 v3 p (x .keyed) 4 (omega arith) (omega arith) (omega arith)
+      ∙ (past 2 v2 p h 4 (omega arith) (omega arith) (omega arith)
+      ∙ (past 1 v1 p 0 4 (omega arith) (omega arith) (omega arith) ∙ past 0 vs p n 4 (omega arith) (omega arith) (omega arith))))))
 
   pub stored-payload : field 6 5 (part 6 m (setField 6 1 (versionStored vs p n h x) h n)) ≡ update (field 6 5 (part 6 m vs)) p (x .payload)
   unfolding versionStored v1 v2 v3 v4 v5 v6
   stored-payload = past 1 v6 h n 5 (omega arith) (omega arith) (omega arith) ∙ (part-update 6 5 m v5 p (x .payload) (omega arith) hp (rw l5 l)
-      ∙ ap (λ (f : ℕ → ℕ). update f p (x .payload)) (past 4 v4 p (x .key) 5 (omega arith) (omega arith) (omega arith) ∙ (past 3 v3 p (x .keyed) 5 (omega arith) (omega arith) (omega arith) ∙ (past 2 v2 p h 5 (omega arith) (omega arith) (omega arith) ∙ (past 1 v1 p 0 5 (omega arith) (omega arith) (omega arith) ∙ past 0 vs p n 5 (omega arith) (omega arith) (omega arith))))))
+      ∙ ap (λ (f : ℕ → ℕ). update f p (x .payload)) (past 4 v4 p (x .key) 5 (omega arith) (omega arith) (omega arith)
+      ∙ (past 3 v3 p (x .keyed) 5 (omega arith) (omega arith) (omega arith)
+      ∙ (past 2 v2 p h 5 (omega arith) (omega arith) (omega arith)
+      ∙ (past 1 v1 p 0 5 (omega arith) (omega arith) (omega arith) ∙ past 0 vs p n 5 (omega arith) (omega arith) (omega arith))))))
 
   -- a key is of both its words
-  pub stored-keys : (λ (q : ℕ). keyView (field 6 3 (part 6 m (setField 6 1 (versionStored vs p n h x) h n)) q) (field 6 4 (part 6 m (setField 6 1 (versionStored vs p n h x) h n)) q))
+  pub stored-keys : (λ (q : ℕ). keyView (field 6 3 (part 6 m (setField 6 1 (versionStored vs p n h x) h n)) q)
+      (field 6 4 (part 6 m (setField 6 1 (versionStored vs p n h x) h n)) q))
       ≡ update (λ (q : ℕ). keyView (field 6 3 (part 6 m vs) q) (field 6 4 (part 6 m vs) q)) p (keyView (x .keyed) (x .key))
   stored-keys = rw (stored-keyed, stored-key) (fun-ext λ q. by q (ℕ-discrete q p))
     where
-      by : (q : ℕ) → Dec (q ≡ p) → keyView (update (field 6 3 (part 6 m vs)) p (x .keyed) q) (update (field 6 4 (part 6 m vs)) p (x .key) q) ≡ update (λ (q : ℕ). keyView (field 6 3 (part 6 m vs) q) (field 6 4 (part 6 m vs) q)) p (keyView (x .keyed) (x .key)) q
-      by q (yes e) = rw (e, update-same (field 6 3 (part 6 m vs)) p (x .keyed), update-same (field 6 4 (part 6 m vs)) p (x .key), update-same (λ (q : ℕ). keyView (field 6 3 (part 6 m vs) q) (field 6 4 (part 6 m vs) q)) p (keyView (x .keyed) (x .key)))
-      by q (no d) = rw (update-other (field 6 3 (part 6 m vs)) p (x .keyed) q d, update-other (field 6 4 (part 6 m vs)) p (x .key) q d, update-other (λ (q : ℕ). keyView (field 6 3 (part 6 m vs) q) (field 6 4 (part 6 m vs) q)) p (keyView (x .keyed) (x .key)) q d)
+      by : (q : ℕ) → Dec (q ≡ p) → keyView (update (field 6 3 (part 6 m vs)) p (x .keyed) q) (update (field 6 4 (part 6 m vs)) p (x .key) q)
+          ≡ update (λ (q : ℕ). keyView (field 6 3 (part 6 m vs) q) (field 6 4 (part 6 m vs) q)) p (keyView (x .keyed) (x .key)) q
+      by q (yes e) = rw (
+        e,
+        update-same (field 6 3 (part 6 m vs)) p (x .keyed),
+        update-same (field 6 4 (part 6 m vs)) p (x .key),
+        update-same (λ (q : ℕ). keyView (field 6 3 (part 6 m vs) q) (field 6 4 (part 6 m vs) q)) p (keyView (x .keyed) (x .key)),
+      )
+      by q (no d) = rw (
+        update-other (field 6 3 (part 6 m vs)) p (x .keyed) q d,
+        update-other (field 6 4 (part 6 m vs)) p (x .key) q d,
+        update-other (λ (q : ℕ). keyView (field 6 3 (part 6 m vs) q) (field 6 4 (part 6 m vs) q)) p (keyView (x .keyed) (x .key)) q d,
+      )

@@ -41,14 +41,16 @@ use Rattle.step_bridge.proofs.Listing.{listed-all, some-same}
 
 -- the index reads as the model has them
 pub reads-length : (xs : List ℕ) (t : Transaction) → length (readsIn xs t) ≡ t .«reads_n»
-reads-length xs t = length-map (lists.readsOf xs (t .slot) (t .«reads_n»)) readView ∙ list-length lists.readOf 2 (lists.startOf lists.reads (t .slot)) xs (t .«reads_n»)
+reads-length xs t = length-map (lists.readsOf xs (t .slot) (t .«reads_n»)) readView
+    ∙ list-length lists.readOf 2 (lists.startOf lists.reads (t .slot)) xs (t .«reads_n»)
 
 pub reads-need : (xs : List ℕ) (t : Transaction) → readBuckets (txnView xs t) ≡ readsNeed xs (t .slot) (t .«reads_n»)
 unfolding readBuckets
 reads-need xs t = map-map (λ (r : model.IndexRead). r .bucket) readView (lists.readsOf xs (t .slot) (t .«reads_n»))
 
 pub needs-length : (xs : List ℕ) (t : Transaction) → length (readsNeed xs (t .slot) (t .«reads_n»)) ≡ t .«reads_n»
-needs-length xs t = length-map (lists.readsOf xs (t .slot) (t .«reads_n»)) (λ (r : IndexRead). r .bucket) ∙ list-length lists.readOf 2 (lists.startOf lists.reads (t .slot)) xs (t .«reads_n»)
+needs-length xs t = length-map (lists.readsOf xs (t .slot) (t .«reads_n»)) (λ (r : IndexRead). r .bucket)
+    ∙ list-length lists.readOf 2 (lists.startOf lists.reads (t .slot)) xs (t .«reads_n»)
 
 module _ (w : Words) (z : Sized w) (g : Shaped w) where
   -- a bucket in range carries what the model sees
@@ -56,26 +58,36 @@ module _ (w : Words) (z : Sized w) (g : Shaped w) where
   unfolding byAnother
   taken-same n b h = rw (part-field 2 1 (w .sizes .buckets) (w .tables .buckets) b (omega arith) h)
 
-  pub read-in : (p : ℕ) → 1 ≤ txnAt w p .number → (b : ℕ) → Among b (readsNeed (w .tables .lists) (txnAt w p .slot) (txnAt w p .«reads_n»)) → b < w .sizes .buckets
+  pub read-in : (p : ℕ) → 1 ≤ txnAt w p .number → (b : ℕ) → Among b (readsNeed (w .tables .lists) (txnAt w p .slot) (txnAt w p .«reads_n»))
+      → b < w .sizes .buckets
   read-in p l b m =
       let rs = lists.readsOf (w .tables .lists) (txnAt w p .slot) (txnAt w p .«reads_n») in
       let a = map-among (λ (r : IndexRead). r .bucket) rs b m in
       rw (a .2) (g .in-store p l .reads-in (readView (a .0)) (among-map readView rs (a .0) (a .1)))
 
-  pub reads-taken : (p : ℕ) → 1 ≤ txnAt w p .number → readsTakenIn (w .tables .buckets) (w .tables .lists) (txnAt w p .slot) (txnAt w p .«reads_n») (txnAt w p .number) ≡ some-of (byAnother (view w .held .holder) (txnAt w p .number)) (readBuckets (view w .txns p))
+  pub reads-taken : (p : ℕ) → 1 ≤ txnAt w p .number
+      → readsTakenIn (w .tables .buckets) (w .tables .lists) (txnAt w p .slot) (txnAt w p .«reads_n») (txnAt w p .number)
+      ≡ some-of (byAnother (view w .held .holder) (txnAt w p .number)) (readBuckets (view w .txns p))
   unfolding readsTakenIn
   reads-taken p l =
       let t = txnAt w p in
-      rw (listed-all 48 (readsNeed (w .tables .lists) (t .slot) (t .«reads_n»)) (omega (arith, needs-length (w .tables .lists) t, sized-at w z p .reads)), reads-need (w .tables .lists) t)
-      (some-same (λ b. takenBy (holderOf (w .tables .buckets) b) (t .number)) (byAnother (view w .held .holder) (t .number)) (readsNeed (w .tables .lists) (t .slot) (t .«reads_n»)) (λ b m. taken-same (t .number) b (read-in p l b m)))
+      rw (
+        listed-all 48 (readsNeed (w .tables .lists) (t .slot) (t .«reads_n»)) (omega (arith, needs-length (w .tables .lists) t, sized-at w z p .reads)),
+        reads-need (w .tables .lists) t,
+      )
+      (some-same (λ b. takenBy (holderOf (w .tables .buckets) b) (t .number)) (byAnother (view w .held .holder) (t .number))
+      (readsNeed (w .tables .lists) (t .slot) (t .«reads_n»)) (λ b m. taken-same (t .number) b (read-in p l b m)))
 
   -- the verdict
-  pub verdict-same : (p : ℕ) → 1 ≤ txnAt w p .number → verdictOf (w .tables .versions) (w .tables .buckets) (w .tables .lists) (txnAt w p) ≡ verdictTold (judged.verdict (view w .chains) (view w .index) (view w .txns p))
+  pub verdict-same : (p : ℕ) → 1 ≤ txnAt w p .number → verdictOf (w .tables .versions) (w .tables .buckets) (w .tables .lists) (txnAt w p)
+      ≡ verdictTold (judged.verdict (view w .chains) (view w .index) (view w .txns p))
   verdict-same p l =
       let u = g .versions-left in
       verdict-model (view w .chains) (view w .index) (w .tables .versions) (w .tables .buckets) (w .tables .lists) (txnAt w p) (record {
-        xmin-same = λ r m. let a = g .in-store p l .records-in r m in part-field 6 0 (suc (w .sizes .versions)) (w .tables .versions) (r .ptr) (omega arith) (omega arith);
-        xmax-same = λ r m. let a = g .in-store p l .records-in r m in part-field 6 1 (suc (w .sizes .versions)) (w .tables .versions) (r .ptr) (omega arith) (omega arith);
+        xmin-same = λ r m. let a = g .in-store p l .records-in r m in
+            part-field 6 0 (suc (w .sizes .versions)) (w .tables .versions) (r .ptr) (omega arith) (omega arith);
+        xmax-same = λ r m. let a = g .in-store p l .records-in r m in
+            part-field 6 1 (suc (w .sizes .versions)) (w .tables .versions) (r .ptr) (omega arith) (omega arith);
         stamp-same = λ r m. part-field 2 0 (w .sizes .buckets) (w .tables .buckets) (r .bucket) (omega arith) (g .in-store p l .reads-in r m);
       })
 

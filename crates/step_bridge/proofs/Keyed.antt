@@ -23,7 +23,8 @@ use Rattle.txn.specs.declared.Transaction.{Transaction}
 use Rattle.txn_needs.specs.Keys.{keyOf, writtenAt, newKeyOf}
 
 -- the last write of a list with one more
-last-snoc : (so : Option model.Write) (ws : List model.Write) (x : model.Write) (r : ℕ) → lastWriteFrom so (ws ++ (x ∷ [])) r ≡ cond (eqb (x .row) r) (some x) (lastWriteFrom so ws r)
+last-snoc : (so : Option model.Write) (ws : List model.Write) (x : model.Write) (r : ℕ)
+    → lastWriteFrom so (ws ++ (x ∷ [])) r ≡ cond (eqb (x .row) r) (some x) (lastWriteFrom so ws r)
 unfolding lastWriteFrom
 last-snoc so [] x r = refl
 last-snoc so (y ∷ ws) x r = last-snoc (cond (eqb (y .row) r) (some y) so) ws x r
@@ -38,15 +39,21 @@ unfolding lastWriteFrom
 none-yet r = refl
 
 -- below m of the slot's n writes
-last-below : (xs : List ℕ) (s n m r : ℕ) → m ≤ n → foundWrite xs s (lastBelow (rowsWritten (lists.writesOf xs s n)) r m) ≡ lastWrite (map writeView (lists.writesOf xs s m)) r
+last-below : (xs : List ℕ) (s n m r : ℕ) → m ≤ n
+    → foundWrite xs s (lastBelow (rowsWritten (lists.writesOf xs s n)) r m) ≡ lastWrite (map writeView (lists.writesOf xs s m)) r
 unfolding lastBelow listOf
 last-below xs s n zero r h = sym (none-yet r)
 last-below xs s n (suc m) r h =
-    rw (map-append, last-snoc none (map writeView (lists.writesOf xs s m)) (writeView (lists.writeAt xs s m)) r, fields-at (λ (w : Write). w .row) lists.writeOf lists.writes xs s n m (omega arith))
+    rw (
+      map-append,
+      last-snoc none (map writeView (lists.writesOf xs s m)) (writeView (lists.writeAt xs s m)) r,
+      fields-at (λ (w : Write). w .row) lists.writeOf lists.writes xs s n m (omega arith),
+    )
     (go (eqb (lists.writeAt xs s m .row) r) (last-below xs s n m r (omega arith)))
   where
     go : (b : Bool) → foundWrite xs s (lastBelow (rowsWritten (lists.writesOf xs s n)) r m) ≡ lastWrite (map writeView (lists.writesOf xs s m)) r
-        → foundWrite xs s (cond b (At m) (lastBelow (rowsWritten (lists.writesOf xs s n)) r m)) ≡ cond b (some (writeView (lists.writeAt xs s m))) (lastWrite (map writeView (lists.writesOf xs s m)) r)
+        → foundWrite xs s (cond b (At m) (lastBelow (rowsWritten (lists.writesOf xs s n)) r m)) ≡ cond b (some (writeView (lists.writeAt xs s m)))
+        (lastWrite (map writeView (lists.writesOf xs s m)) r)
     go true ih = refl
     go false ih = ih
 

@@ -15,7 +15,8 @@ use Rattle.base_lists.specs.Lists.{every, some-of, all-of, Among}
 use Rattle.base_lists.proofs.ListLaws.{and-l, and-r}
 use Rattle.txn_needs.specs.Needs.{Listed, pushOne, pushAll}
 
-push-room : (x : ℕ) (xs : List ℕ) (st : Listed) → st .n < length (st .out) → pushAll st (x ∷ xs) ≡ pushAll (record { out = set (st .out) (st .n) x; n = st .n + 1 }) xs
+push-room : (x : ℕ) (xs : List ℕ) (st : Listed) → st .n < length (st .out)
+    → pushAll st (x ∷ xs) ≡ pushAll (record { out = set (st .out) (st .n) x; n = st .n + 1 }) xs
 unfolding pushAll pushOne
 push-room x xs st l = ap (λ (b : Bool). pushAll (cond b (record { out = set (st .out) (st .n) x; n = st .n + 1 }) st) xs) (lt-ltb (st .n) (length (st .out)) l)
 
@@ -23,7 +24,8 @@ push-end : (st : Listed) → pushAll st [] ≡ st
 unfolding pushAll
 push-end st = refl
 
-pub listed-front : (xs : List ℕ) (st : Listed) → st .n + length xs ≤ length (st .out) → take (pushAll st xs .n) (pushAll st xs .out) ≡ take (st .n) (st .out) ++ xs
+pub listed-front : (xs : List ℕ) (st : Listed) → st .n + length xs ≤ length (st .out)
+    → take (pushAll st xs .n) (pushAll st xs .out) ≡ take (st .n) (st .out) ++ xs
 listed-front [] st h = rw (push-end st) (sym (append-nil (take (st .n) (st .out))))
 listed-front (x ∷ xs) st h =
     let l : st .n < length (st .out) = omega arith in
@@ -38,7 +40,8 @@ listed-count (x ∷ xs) st h =
     rw (push-room x xs st l) (listed-count xs (record { out = set (st .out) (st .n) x; n = st .n + 1 }) (rw length-set (omega arith)) ∙ omega arith)
 
 -- in a list of zeros
-pub listed-all : (room : ℕ) (xs : List ℕ) → length xs ≤ room → take (pushAll (record { out = replicate room 0; n = 0 }) xs .n) (pushAll (record { out = replicate room 0; n = 0 }) xs .out) ≡ xs
+pub listed-all : (room : ℕ) (xs : List ℕ) → length xs ≤ room
+    → take (pushAll (record { out = replicate room 0; n = 0 }) xs .n) (pushAll (record { out = replicate room 0; n = 0 }) xs .out) ≡ xs
 listed-all room xs h = listed-front xs (record { out = replicate room 0; n = 0 }) (rw (length-replicate {A = ℕ} room 0) (omega arith))
 
 pub some-same : {A : Type 0} (test also : A → Bool) (xs : List A) → ((x : A) → Among x xs → test x ≡ also x) → some-of test xs ≡ some-of also xs
@@ -55,4 +58,9 @@ all-each test (y ∷ xs) e x (inr m) = all-each test xs (and-r (test y) (all-of 
 pub every-at : (n : ℕ) (test : ℕ → Bool) → every n test ≡ true → (i : ℕ) → i < n → test i ≡ true
 unfolding every
 every-at zero test e i h = absurd (omega arith)
-every-at (suc n) test e i h = elim (decLt i n) [ yes l ↦ every-at n test (and-l (every n test) (test n) e) i l | no l ↦ let d : i ≡ n = omega (arith, l) in rw d (and-r (every n test) (test n) e) ]
+every-at (suc n) test e i h =
+    elim (decLt i n) [
+      | yes l ↦ every-at n test (and-l (every n test) (test n) e) i l
+      | no l ↦ let d : i ≡ n = omega (arith, l) in
+          rw d (and-r (every n test) (test n) e)
+    ]

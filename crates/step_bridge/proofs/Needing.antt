@@ -12,7 +12,8 @@ use borrow.Author.Tests.{eq-eqb}
 use Rattle.base_limits.specs.Limits.{mostBuckets}
 use Rattle.base_lists.specs.Lists.{member, join, Among}
 use Rattle.base_lists.specs.Table.{updateAll}
-use Rattle.base_lists.proofs.ListLaws.{among-left, among-right, among-cases, among-map, map-among, join-which, which-join, member-among, among-member, same-test, or-left, or-right, pick-which}
+use Rattle.base_lists.proofs.ListLaws.{among-left, among-right, among-cases, among-map, map-among, join-which, which-join, member-among, among-member}
+use Rattle.base_lists.proofs.ListLaws.{same-test, or-left, or-right, pick-which}
 use Rattle.model.specs.Store as model
 use Rattle.model.specs.Store.{bucketOf}
 use Rattle.model.specs.Seeing.{pending}
@@ -34,9 +35,12 @@ use Rattle.step_bridge.proofs.Judging.{reads-need}
 use Rattle.step_bridge.proofs.Keyed.{new-key-same}
 
 -- lists with the same entries take the same entries
-pub all-same : (f : ℕ → ℕ) (is js : List ℕ) (v : ℕ) → ((j : ℕ) → Among j is → Among j js) → ((j : ℕ) → Among j js → Among j is) → updateAll f is v ≡ updateAll f js v
+pub all-same : (f : ℕ → ℕ) (is js : List ℕ) (v : ℕ) → ((j : ℕ) → Among j is → Among j js) → ((j : ℕ) → Among j js → Among j is)
+    → updateAll f is v ≡ updateAll f js v
 unfolding updateAll
-all-same f is js v to back = fun-ext λ j. ap (λ (b : Bool). cond b v (f j)) (same-test (member j is) (member j js) (λ e. among-member j js (to j (member-among j is e))) (λ e. among-member j is (back j (member-among j js e))))
+all-same f is js v to back =
+    fun-ext λ j. ap (λ (b : Bool). cond b v (f j))
+    (same-test (member j is) (member j js) (λ e. among-member j js (to j (member-among j is e))) (λ e. among-member j is (back j (member-among j js e))))
 
 -- a write's row is pending
 among-pending : (ws : List model.Write) (x : model.Write) → Among x ws → pending ws (x .row) ≡ true
@@ -72,7 +76,8 @@ key-buckets z k = by (eqb (k .keyed) 0)
 
 -- the buckets that the words list for the index reads and the pending rows
 abbrev pub listedNeeds : Words → ℕ → List ℕ
-listedNeeds w p = readsNeed (w .tables .lists) (txnAt w p .slot) (txnAt w p .«reads_n») ++ writesNeed (w .tables .rows) (w .tables .versions) (w .tables .lists) (w .sizes .buckets) false (txnAt w p .slot) (txnAt w p .«writes_n»)
+listedNeeds w p = readsNeed (w .tables .lists) (txnAt w p .slot) (txnAt w p .«reads_n») ++ writesNeed (w .tables .rows) (w .tables .versions)
+    (w .tables .lists) (w .sizes .buckets) false (txnAt w p .slot) (txnAt w p .«writes_n»)
 
 module _ (w : Words) (z : Sized w) (g : Shaped w) where
   -- heads and pointers are in the parts that the sizes name
@@ -87,7 +92,8 @@ module _ (w : Words) (z : Sized w) (g : Shaped w) where
   rows-most = omega (arith, good-sized (view w .sizes) (g .sizes) .rows-most)
 
   -- what is needed for one pending row
-  pub row-needs : (p r : ℕ) → r < w .sizes .rows → writeNeeds (w .tables .rows) (w .tables .versions) (w .tables .lists) (w .sizes .buckets) false (txnAt w p .slot) (txnAt w p .«writes_n») r
+  pub row-needs : (p r : ℕ) → r < w .sizes .rows
+      → writeNeeds (w .tables .rows) (w .tables .versions) (w .tables .lists) (w .sizes .buckets) false (txnAt w p .slot) (txnAt w p .«writes_n») r
       ≡ keyBuckets (view w .sizes) (oldKey (view w .chains) r) ++ keyBuckets (view w .sizes) (newKey (view w .txns p) r)
   unfolding writeNeeds
   row-needs p r h =
@@ -101,7 +107,8 @@ module _ (w : Words) (z : Sized w) (g : Shaped w) where
       )
 
   -- the rows of the pending writes are the pending rows
-  pub row-in : (p : ℕ) → 1 ≤ txnAt w p .number → (r : ℕ) → Among r (rowsWritten (w .tables .lists) (txnAt w p .slot) (txnAt w p .«writes_n»)) → r < w .sizes .rows
+  pub row-in : (p : ℕ) → 1 ≤ txnAt w p .number → (r : ℕ) → Among r (rowsWritten (w .tables .lists) (txnAt w p .slot) (txnAt w p .«writes_n»))
+      → r < w .sizes .rows
   row-in p l r m =
       let ws = lists.writesOf (w .tables .lists) (txnAt w p .slot) (txnAt w p .«writes_n») in
       let a = map-among (λ (x : Write). x .row) ws r m in
@@ -110,10 +117,12 @@ module _ (w : Words) (z : Sized w) (g : Shaped w) where
   pub writes-in : (p : ℕ) → 1 ≤ txnAt w p .number → WritesIn (view w .sizes) (w .tables .lists) (txnAt w p)
   writes-in p l = record { few = sized-at w z p .writes; below = row-in p l }
 
-  pub row-pending : (p : ℕ) → 1 ≤ txnAt w p .number → (r : ℕ) → Among r (rowsWritten (w .tables .lists) (txnAt w p .slot) (txnAt w p .«writes_n»)) → Among r (pendingRows (view w .sizes) (view w .txns p .writes))
+  pub row-pending : (p : ℕ) → 1 ≤ txnAt w p .number → (r : ℕ) → Among r (rowsWritten (w .tables .lists) (txnAt w p .slot) (txnAt w p .«writes_n»))
+      → Among r (pendingRows (view w .sizes) (view w .txns p .writes))
   row-pending p l r m = written-pending (w .tables .lists) (txnAt w p .slot) (txnAt w p .«writes_n») (view w .sizes) r (row-in p l r m) m
 
-  pub pending-row : (p r : ℕ) → Among r (pendingRows (view w .sizes) (view w .txns p .writes)) → Among r (rowsWritten (w .tables .lists) (txnAt w p .slot) (txnAt w p .«writes_n»))
+  pub pending-row : (p r : ℕ) → Among r (pendingRows (view w .sizes) (view w .txns p .writes))
+      → Among r (rowsWritten (w .tables .lists) (txnAt w p .slot) (txnAt w p .«writes_n»))
   pending-row p r m = pending-written (w .tables .lists) (txnAt w p .slot) (txnAt w p .«writes_n») (view w .sizes) r m
 
   -- they are those that the model needs
@@ -122,20 +131,27 @@ module _ (w : Words) (z : Sized w) (g : Shaped w) where
   needed-listed p l b m = ⊎-elim
       (λ n. among-left b (readsNeed (w .tables .lists) (txnAt w p .slot) (txnAt w p .«reads_n»)) _ (rw (reads-need (w .tables .lists) (txnAt w p)) at n))
       (λ n.
-      let a = join-which (λ r. keyBuckets (view w .sizes) (oldKey (view w .chains) r) ++ keyBuckets (view w .sizes) (newKey (view w .txns p) r)) (pendingRows (view w .sizes) (view w .txns p .writes)) b n in
+      let a = join-which (λ r. keyBuckets (view w .sizes) (oldKey (view w .chains) r) ++ keyBuckets (view w .sizes) (newKey (view w .txns p) r))
+      (pendingRows (view w .sizes) (view w .txns p .writes)) b n in
       let r = pending-row p (a .0) (a .1) in
       among-right b (readsNeed (w .tables .lists) (txnAt w p .slot) (txnAt w p .«reads_n»)) _
-      (which-join (writeNeeds (w .tables .rows) (w .tables .versions) (w .tables .lists) (w .sizes .buckets) false (txnAt w p .slot) (txnAt w p .«writes_n»)) (rowsWritten (w .tables .lists) (txnAt w p .slot) (txnAt w p .«writes_n»)) b (a .0) r
+      (which-join (writeNeeds (w .tables .rows) (w .tables .versions) (w .tables .lists) (w .sizes .buckets) false (txnAt w p .slot)
+      (txnAt w p .«writes_n»)) (rowsWritten (w .tables .lists) (txnAt w p .slot) (txnAt w p .«writes_n»)) b (a .0) r
       (rw (row-needs p (a .0) (row-in p l (a .0) r)) (a .2))))
-      (among-cases b (readBuckets (view w .txns p)) (join (λ r. keyBuckets (view w .sizes) (oldKey (view w .chains) r) ++ keyBuckets (view w .sizes) (newKey (view w .txns p) r)) (pendingRows (view w .sizes) (view w .txns p .writes))) m)
+      (among-cases b (readBuckets (view w .txns p))
+      (join (λ r. keyBuckets (view w .sizes) (oldKey (view w .chains) r) ++ keyBuckets (view w .sizes) (newKey (view w .txns p) r))
+      (pendingRows (view w .sizes) (view w .txns p .writes))) m)
 
   pub listed-needed : (p : ℕ) → 1 ≤ txnAt w p .number → (b : ℕ) → Among b (listedNeeds w p) → Among b (neededBuckets (view w) (view w .txns p))
   unfolding neededBuckets
   listed-needed p l b m = ⊎-elim
       (λ n. among-left b (readBuckets (view w .txns p)) _ (rw (reads-need (w .tables .lists) (txnAt w p)) n))
       (λ n.
-      let a = join-which (writeNeeds (w .tables .rows) (w .tables .versions) (w .tables .lists) (w .sizes .buckets) false (txnAt w p .slot) (txnAt w p .«writes_n»)) (rowsWritten (w .tables .lists) (txnAt w p .slot) (txnAt w p .«writes_n»)) b n in
+      let a = join-which (writeNeeds (w .tables .rows) (w .tables .versions) (w .tables .lists) (w .sizes .buckets) false (txnAt w p .slot)
+      (txnAt w p .«writes_n»)) (rowsWritten (w .tables .lists) (txnAt w p .slot) (txnAt w p .«writes_n»)) b n in
       among-right b (readBuckets (view w .txns p)) _
-      (which-join (λ r. keyBuckets (view w .sizes) (oldKey (view w .chains) r) ++ keyBuckets (view w .sizes) (newKey (view w .txns p) r)) (pendingRows (view w .sizes) (view w .txns p .writes)) b (a .0) (row-pending p l (a .0) (a .1))
+      (which-join (λ r. keyBuckets (view w .sizes) (oldKey (view w .chains) r) ++ keyBuckets (view w .sizes) (newKey (view w .txns p) r))
+      (pendingRows (view w .sizes) (view w .txns p .writes)) b (a .0) (row-pending p l (a .0) (a .1))
       (rw (row-needs p (a .0) (row-in p l (a .0) (a .1))) at (a .2))))
-      (among-cases b (readsNeed (w .tables .lists) (txnAt w p .slot) (txnAt w p .«reads_n»)) (writesNeed (w .tables .rows) (w .tables .versions) (w .tables .lists) (w .sizes .buckets) false (txnAt w p .slot) (txnAt w p .«writes_n»)) m)
+      (among-cases b (readsNeed (w .tables .lists) (txnAt w p .slot) (txnAt w p .«reads_n»))
+      (writesNeed (w .tables .rows) (w .tables .versions) (w .tables .lists) (w .sizes .buckets) false (txnAt w p .slot) (txnAt w p .«writes_n»)) m)

@@ -72,18 +72,38 @@ module _ (w : Words) (o : Opened w) where
     versions = o .versions-long;
     buckets = o .buckets-long;
     lists = o .lists-long;
-    txns = λ i h. rw (place-idle i) (record { slot = refl; active = omega arith; seven = refl; reads = omega arith; writes = omega arith; records = omega arith; candidates = omega arith });
+    txns = λ i h. rw (place-idle i)
+        (record {
+          slot = refl;
+          active = omega arith;
+          seven = refl;
+          reads = omega arith;
+          writes = omega arith;
+          records = omega arith;
+          candidates = omega arith;
+        });
   }
 
   -- what they stand for
   pub opened-view : view w ≡ fresh (sizesView (w .sizes)) (w .clock)
   opened-view =
       same-store _ _ refl refl
-      (rw (o .unused, zero-field rowWords 0 rowsOf (o .rows-zero), zero-field versionWords 0 versionsOf (o .versions-zero), zero-field versionWords 1 versionsOf (o .versions-zero), zero-field versionWords 2 versionsOf (o .versions-zero), zero-field versionWords 3 versionsOf (o .versions-zero), zero-field versionWords 5 versionsOf (o .versions-zero)))
+      (rw (
+        o .unused,
+        zero-field rowWords 0 rowsOf (o .rows-zero),
+        zero-field versionWords 0 versionsOf (o .versions-zero),
+        zero-field versionWords 1 versionsOf (o .versions-zero),
+        zero-field versionWords 2 versionsOf (o .versions-zero),
+        zero-field versionWords 3 versionsOf (o .versions-zero),
+        zero-field versionWords 5 versionsOf (o .versions-zero),
+      ))
       (rw (zero-field bucketWords 0 bucketsOf (o .buckets-zero), zero-field rowWords 2 rowsOf (o .rows-zero)))
       (rw (zero-field bucketWords 1 bucketsOf (o .buckets-zero), zero-field rowWords 1 rowsOf (o .rows-zero)))
       (fun-ext λ i. rw (place-idle i) (idle-view (w .tables .lists) i))
 
   pub opened-stands : Stands w
   unfolding run
-  opened-stands = record { sized = opened-sized; good = subst (λ (v : model.Store). Good v) (sym opened-view) (opened-good (sizesView (w .sizes)) (w .clock) [] (o .opens) (o .clock-in)) }
+  opened-stands = record {
+    sized = opened-sized;
+    good = subst (λ (v : model.Store). Good v) (sym opened-view) (opened-good (sizesView (w .sizes)) (w .clock) [] (o .opens) (o .clock-in));
+  }

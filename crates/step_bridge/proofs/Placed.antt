@@ -30,14 +30,16 @@ unfolding listOf
 idle-view xs i = refl
 
 -- stores within one slot leave every list of another
-slot-list : {A : Type 0} (f : List ℕ → A) (l : Kind) (xs : List ℕ) (p j n at : ℕ) (vs : List ℕ) → Within l → n ≤ l .room → slotWords * p ≤ at → at + length vs ≤ slotWords * suc p → j ≢ p
+slot-list : {A : Type 0} (f : List ℕ → A) (l : Kind) (xs : List ℕ) (p j n at : ℕ) (vs : List ℕ) → Within l → n ≤ l .room → slotWords * p ≤ at
+    → at + length vs ≤ slotWords * suc p → j ≢ p
     → listAt f l (sets xs at vs) j n ≡ listAt f l xs j n
 slot-list f l xs p j n at vs il hn lo hi d =
     let b = mul-le-mul-left {m = n} {n = l .room} (l .w) hn in
     list-kept f (l .w) (startOf l j) xs n at vs
     (elim (decLt j p) [ yes q ↦ inl (omega arith) | no q ↦ let q : p < j = omega (arith, d) in inr (omega arith) ])
 
-pub slot-view : (xs : List ℕ) (p j at : ℕ) (vs : List ℕ) (t : Transaction) → SizedTxn j t → slotWords * p ≤ at → at + length vs ≤ slotWords * suc p → j ≢ p → txnView (sets xs at vs) t ≡ txnView xs t
+pub slot-view : (xs : List ℕ) (p j at : ℕ) (vs : List ℕ) (t : Transaction) → SizedTxn j t → slotWords * p ≤ at → at + length vs ≤ slotWords * suc p
+    → j ≢ p → txnView (sets xs at vs) t ≡ txnView xs t
 slot-view xs p j at vs t z lo hi d =
     let e : t .slot ≢ p = λ q. d (sym (z .slot) ∙ q) in
     rw (
@@ -72,7 +74,8 @@ module _ (w : Words) (z : Sized w) (p : ℕ) (l : p < mostLive) where
       by j (no n) = rw (update-other (view w .txns) p (txnView xs t) j n) (ap (txnView xs) (getD-set-other (w .txns) p j t (idleOf j) n) ∙ h j n)
 
   -- what is left is in order
-  pub sized-set : (t : Transaction) (b : Tables) (clock used : ℕ) → SizedTxn p t → length (b .rows) ≡ length (w .tables .rows) → length (b .versions) ≡ length (w .tables .versions)
+  pub sized-set : (t : Transaction) (b : Tables) (clock used : ℕ) → SizedTxn p t → length (b .rows) ≡ length (w .tables .rows)
+      → length (b .versions) ≡ length (w .tables .versions)
       → length (b .buckets) ≡ length (w .tables .buckets) → length (b .lists) ≡ length (w .tables .lists)
       → Sized (record { tables = b; txns = set (w .txns) p t; sizes = w .sizes; clock = clock; used = used })
   sized-set t b clock used h r v c d = record {

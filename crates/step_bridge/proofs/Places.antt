@@ -22,7 +22,8 @@ use Rattle.step.specs.Words.{Words, view, txnAt, placeFor, SizedTxn, Sized}
 
 module _ (test : ℕ → Bool) where
   -- where there is a first place, the words find it
-  place-found : (k n : ℕ) (xs : List ℕ) → ((i : ℕ) → i < length xs → test (k + i) ≡ eqb (getD xs i 0) n) → first test k (length xs) < k + length xs → placeFrom k xs n ≡ first test k (length xs)
+  place-found : (k n : ℕ) (xs : List ℕ) → ((i : ℕ) → i < length xs → test (k + i) ≡ eqb (getD xs i 0) n) → first test k (length xs) < k + length xs
+      → placeFrom k xs n ≡ first test k (length xs)
   unfolding first placeFrom
   place-found k n [] h = λ l. absurd (omega arith)
   place-found k n (x ∷ xs) h =
@@ -93,7 +94,16 @@ module _ (w : Words) (z : Sized w) where
 
   -- every record is in order, a free one past the eighth too
   pub sized-at : (j : ℕ) → SizedTxn j (txnAt w j)
-  sized-at j = elim (decLt j mostLive) [ yes l ↦ z .txns j l | no l ↦ rw (List·getD-eq-default (w .txns) (idleOf j) {n = j} (omega (arith, z .eight))) (idle j) ]
+  sized-at j = elim (decLt j mostLive)
+      [ yes l ↦ z .txns j l | no l ↦ rw (List·getD-eq-default (w .txns) (idleOf j) {n = j} (omega (arith, z .eight))) (idle j) ]
     where
       idle : (j : ℕ) → SizedTxn j (idleOf j)
-      idle j = record { slot = refl; active = omega arith; seven = refl; reads = omega arith; writes = omega arith; records = omega arith; candidates = omega arith }
+      idle j = record {
+        slot = refl;
+        active = omega arith;
+        seven = refl;
+        reads = omega arith;
+        writes = omega arith;
+        records = omega arith;
+        candidates = omega arith;
+      }

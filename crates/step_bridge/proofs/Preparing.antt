@@ -40,7 +40,8 @@ use Rattle.step_bridge.proofs.Listing.{listed-all, some-same}
 use Rattle.step_bridge.proofs.Tabled.{set-all, set-other, set-length}
 use Rattle.step_bridge.proofs.Writing.{sized-phase}
 use Rattle.step_bridge.proofs.Judging.{taken-same, verdict-same}
-use Rattle.step_bridge.proofs.Needing.{all-same, headed, rows-most, writes-in, listedNeeds, row-in, row-pending, pending-row, needed-listed, listed-needed}
+use Rattle.step_bridge.proofs.Needing.{all-same, headed, rows-most, writes-in, listedNeeds, row-in, row-pending, pending-row, needed-listed}
+use Rattle.step_bridge.proofs.Needing.{listed-needed}
 use Rattle.step_bridge.proofs.Aborting.{listed-few, listed-in}
 use Rattle.step_bridge.proofs.Distinct.{versions-counted}
 use Rattle.step_bridge.proofs.Reserving.{reserved-same}
@@ -58,19 +59,24 @@ clear-same (judged.Row r p) = refl
 clear-same judged.Mark = refl
 
 module _ (w : Words) (z : Sized w) (g : Shaped w) where
-  taken-needs : (p : ℕ) → 1 ≤ txnAt w p .number → anyTaken (w .tables .buckets) (txnAt w p .number) (listedNeeds w p) ≡ some-of (byAnother (view w .held .holder) (txnAt w p .number)) (neededBuckets (view w) (view w .txns p))
+  taken-needs : (p : ℕ) → 1 ≤ txnAt w p .number
+      → anyTaken (w .tables .buckets) (txnAt w p .number) (listedNeeds w p) ≡ some-of (byAnother (view w .held .holder) (txnAt w p .number))
+      (neededBuckets (view w) (view w .txns p))
   taken-needs p l =
-      some-same (λ b. takenBy (fields.holderOf (w .tables .buckets) b) (txnAt w p .number)) (byAnother (view w .held .holder) (txnAt w p .number)) (listedNeeds w p) (λ b m. taken-same w z g (txnAt w p .number) b (listed-in w z g p l b m))
+      some-same (λ b. takenBy (fields.holderOf (w .tables .buckets) b) (txnAt w p .number)) (byAnother (view w .held .holder) (txnAt w p .number))
+      (listedNeeds w p) (λ b m. taken-same w z g (txnAt w p .number) b (listed-in w z g p l b m))
       ∙ some-both _ _ _ (λ b m. listed-needed w z g p l b m) (λ b m. needed-listed w z g p l b m)
 
   claim-same : (n r : ℕ) → r < w .sizes .rows → takenBy (fields.claimOf (w .tables .rows) r) n ≡ byAnother (view w .held .claim) n r
   unfolding byAnother
   claim-same n r h = rw (part-field 4 1 (w .sizes .rows) (w .tables .rows) r (omega arith) h)
 
-  claimed-rows : (p : ℕ) → 1 ≤ txnAt w p .number → anyClaimed (w .tables .rows) (txnAt w p .number) (rowsWritten (w .tables .lists) (txnAt w p .slot) (txnAt w p .«writes_n»))
+  claimed-rows : (p : ℕ) → 1 ≤ txnAt w p .number
+      → anyClaimed (w .tables .rows) (txnAt w p .number) (rowsWritten (w .tables .lists) (txnAt w p .slot) (txnAt w p .«writes_n»))
       ≡ some-of (byAnother (view w .held .claim) (txnAt w p .number)) (pendingRows (view w .sizes) (view w .txns p .writes))
   claimed-rows p l =
-      some-same (λ r. takenBy (fields.claimOf (w .tables .rows) r) (txnAt w p .number)) (byAnother (view w .held .claim) (txnAt w p .number)) (rowsWritten (w .tables .lists) (txnAt w p .slot) (txnAt w p .«writes_n»)) (λ r m. claim-same (txnAt w p .number) r (row-in w z g p l r m))
+      some-same (λ r. takenBy (fields.claimOf (w .tables .rows) r) (txnAt w p .number)) (byAnother (view w .held .claim) (txnAt w p .number))
+      (rowsWritten (w .tables .lists) (txnAt w p .slot) (txnAt w p .«writes_n»)) (λ r m. claim-same (txnAt w p .number) r (row-in w z g p l r m))
       ∙ some-both _ _ _ (λ r m. row-pending w z g p l r m) (λ r m. pending-row w z g p r m)
 
   -- what others have reserved, and the own rows that get a version
@@ -85,8 +91,11 @@ module _ (w : Words) (z : Sized w) (g : Shaped w) where
   own-same p l = versions-counted (view w .sizes) (w .tables .rows) (w .tables .versions) (w .used) (headed w z g) (rows-most w z g) (w .tables .lists)
       (txnAt w p) (writes-in w z g p l)
 
-  needed-front : (p : ℕ) → take (neededInto (w .tables .rows) (w .tables .versions) (w .tables .lists) (w .sizes .buckets) (txnAt w p .slot) (txnAt w p .«reads_n») (txnAt w p .«writes_n») (replicate 48 0) .n)
-      (neededInto (w .tables .rows) (w .tables .versions) (w .tables .lists) (w .sizes .buckets) (txnAt w p .slot) (txnAt w p .«reads_n») (txnAt w p .«writes_n») (replicate 48 0) .out) ≡ listedNeeds w p
+  needed-front : (p : ℕ) → take
+      (neededInto (w .tables .rows) (w .tables .versions) (w .tables .lists) (w .sizes .buckets) (txnAt w p .slot) (txnAt w p .«reads_n»)
+      (txnAt w p .«writes_n») (replicate 48 0) .n)
+      (neededInto (w .tables .rows) (w .tables .versions) (w .tables .lists) (w .sizes .buckets) (txnAt w p .slot) (txnAt w p .«reads_n»)
+      (txnAt w p .«writes_n») (replicate 48 0) .out) ≡ listedNeeds w p
   unfolding neededInto
   needed-front p = listed-all 48 (listedNeeds w p) (listed-few w p z)
 
@@ -102,8 +111,10 @@ module _ (w : Words) (z : Sized w) (g : Shaped w) where
       rw (
         set-all 2 1 (omega arith) (w .sizes .buckets) n (w .tables .buckets) (listedNeeds w p) (listed-in w z g p l) (z .buckets),
         set-all 4 1 (omega arith) (w .sizes .rows) n (w .tables .rows) rs (λ r m. row-in w z g p l r m) (z .rows),
-        all-same (view w .held .holder) (listedNeeds w p) (neededBuckets (view w) (view w .txns p)) n (λ b m. listed-needed w z g p l b m) (λ b m. needed-listed w z g p l b m),
-        all-same (view w .held .claim) rs (pendingRows (view w .sizes) (view w .txns p .writes)) n (λ r m. row-pending w z g p l r m) (λ r m. pending-row w z g p r m),
+        all-same (view w .held .holder) (listedNeeds w p) (neededBuckets (view w) (view w .txns p)) n (λ b m. listed-needed w z g p l b m)
+            (λ b m. needed-listed w z g p l b m),
+        all-same (view w .held .claim) rs (pendingRows (view w .sizes) (view w .txns p .writes)) n (λ r m. row-pending w z g p l r m)
+            (λ r m. pending-row w z g p r m),
       )
 
   prepare-chains : (n : ℕ) (rs : List ℕ)
@@ -133,7 +144,8 @@ module _ (w : Words) (z : Sized w) (g : Shaped w) where
       (rowsWritten (w .tables .lists) (txnAt w (standing w n) .slot) (txnAt w (standing w n) .«writes_n»)))
       (setHolders (w .tables .buckets) (txnAt w (standing w n) .number) (listedNeeds w (standing w n)))))))))
       (w .clock) (w .used) (w .tables))
-      (carried (view w) (asked (ask.Prepare n)) (cond a (some WrongPhase) (cond (b || c) (some Taken) (cond d (some Conflict) (cond e (some NoVersions) none)))))
+      (carried (view w) (asked (ask.Prepare n))
+      (cond a (some WrongPhase) (cond (b || c) (some Taken) (cond d (some Conflict) (cond e (some NoVersions) none)))))
   unfolding carried accepted afterRefusal
   prepared-at n l o true b c d e = refused-same w z (standing w n) WrongPhase
   prepared-at n l o false true c d e = refused-same w z (standing w n) Taken
@@ -145,7 +157,8 @@ module _ (w : Words) (z : Sized w) (g : Shaped w) where
       let t = txnAt w q in
       let rs = rowsWritten (w .tables .lists) (t .slot) (t .«writes_n») in
       record {
-        store = same-store _ _ refl refl (prepare-chains (t .number) rs) (prepare-index (t .number) rs (listedNeeds w q)) (prepare-held q o) (txns-set w z q l (w .tables .lists) (withPhase t phase.Prepared) (λ j d. refl));
+        store = same-store _ _ refl refl (prepare-chains (t .number) rs) (prepare-index (t .number) rs (listedNeeds w q)) (prepare-held q o)
+            (txns-set w z q l (w .tables .lists) (withPhase t phase.Prepared) (λ j d. refl));
         answer = refl;
         lent = refl;
         sized = sized-set w z q l _ _ _ _ (sized-phase q t phase.Prepared (sized-at w z q)) (set-length 4 1 (t .number) (w .tables .rows) rs) refl
@@ -154,7 +167,9 @@ module _ (w : Words) (z : Sized w) (g : Shaped w) where
 
   -- the tests after the phase
   prepare-place : (n : ℕ) → standing w n < mostLive → 1 ≤ txnAt w (standing w n) .number
-      → SameAt w (standing w n) (inPrepared (prepareOf (w .tables .versions) (w .tables .lists) (w .sizes .buckets) (w .sizes .versions) (w .used) (othersIn (w .txns) .prepared) (txnAt w (standing w n)) (w .tables .rows) (w .tables .buckets)) (w .clock) (w .used) (w .tables))
+      → SameAt w (standing w n)
+      (inPrepared (prepareOf (w .tables .versions) (w .tables .lists) (w .sizes .buckets) (w .sizes .versions) (w .used)
+      (othersIn (w .txns) .prepared) (txnAt w (standing w n)) (w .tables .rows) (w .tables .buckets)) (w .clock) (w .used) (w .tables))
       (carried (view w) (asked (ask.Prepare n)) (refusal (later-tests (view w) (asked (ask.Prepare n)))))
   unfolding prepareOf prepareWith lacks refusal
   prepare-place n l o =

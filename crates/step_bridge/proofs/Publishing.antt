@@ -45,7 +45,8 @@ use Rattle.step_bridge.proofs.Keyed.{new-key-same}
 use Rattle.step_bridge.proofs.Needing.{all-same, row-in, row-pending, pending-row}
 use Rattle.step_bridge.proofs.Aborting.{own-rows, ended-at}
 use Rattle.step_bridge.proofs.Reposting.{keys-by, postings, posted-all, posted-length, posted-other}
-use Rattle.step_bridge.proofs.Changing.{rowChanges, rowsOf, listedAfter, changed-to, changed-back, held-listed, after-few, after-in, changes-few, changes-in}
+use Rattle.step_bridge.proofs.Changing.{rowChanges, rowsOf, listedAfter, changed-to, changed-back, held-listed, after-few, after-in, changes-few}
+use Rattle.step_bridge.proofs.Changing.{changes-in}
 
 -- what publish leaves of the rows and of the buckets
 abbrev rowsPosted : Words → ℕ → List ℕ
@@ -68,11 +69,14 @@ bucketsAfter w p = clearHolders (stamped w p) (txnAt w p .number) (heldOf w p)
 
 module _ (w : Words) (z : Sized w) (p : ℕ) where
   -- the words list what they stamp and what they free
-  pub stamped-is : stampedIn (w .tables .rows) (w .tables .versions) (w .tables .lists) (w .sizes .buckets) (txnAt w p .number) (txnAt w p .slot) (txnAt w p .«writes_n») (w .clock) (w .tables .buckets) ≡ stamped w p
+  pub stamped-is : stampedIn (w .tables .rows) (w .tables .versions) (w .tables .lists) (w .sizes .buckets) (txnAt w p .number) (txnAt w p .slot)
+      (txnAt w p .«writes_n») (w .clock) (w .tables .buckets) ≡ stamped w p
   unfolding stampedIn
   stamped-is = ap (λ (bs : List ℕ). setStamps (w .tables .buckets) (w .clock) bs) (listed-all 49 (changesOf w p) (omega (arith, changes-few w z p)))
 
-  pub freed-is : (bs : List ℕ) → freedIn (w .tables .rows) (w .tables .versions) (w .tables .lists) (w .sizes .buckets) true (bucketIn (phaseView (txnAt w p .phase))) (txnAt w p .slot) (txnAt w p .«reads_n») (txnAt w p .«writes_n») (txnAt w p .number) bs
+  pub freed-is : (bs : List ℕ)
+      → freedIn (w .tables .rows) (w .tables .versions) (w .tables .lists) (w .sizes .buckets) true (bucketIn (phaseView (txnAt w p .phase)))
+      (txnAt w p .slot) (txnAt w p .«reads_n») (txnAt w p .«writes_n») (txnAt w p .number) bs
       ≡ clearHolders bs (txnAt w p .number) (heldOf w p)
   unfolding freedIn neededIn
   freed-is bs = ap (λ (hs : List ℕ). clearHolders bs (txnAt w p .number) hs) (listed-all 49 (heldOf w p) (omega (arith, after-few w z p)))
@@ -90,7 +94,8 @@ module _ (w : Words) (z : Sized w) (p : ℕ) where
   pub buckets-long : length (bucketsAfter w p) ≡ length (w .tables .buckets)
   buckets-long = clear-length 2 1 (txnAt w p .number) (stamped w p) (heldOf w p) ∙ set-length 2 0 (w .clock) (w .tables .buckets) (changesOf w p)
 
-  pub publish-chains : chainsView (rowsPart (sizesView (w .sizes)) (rowsAfter w p)) (versionsPart (sizesView (w .sizes)) (w .tables .versions)) (w .used) ≡ view w .chains
+  pub publish-chains : chainsView (rowsPart (sizesView (w .sizes)) (rowsAfter w p)) (versionsPart (sizesView (w .sizes)) (w .tables .versions)) (w .used)
+      ≡ view w .chains
   publish-chains = rw (
     clear-other 4 1 (omega arith) (w .sizes .rows) (txnAt w p .number) (rowsPosted w p) (rowsOf w p) 0 (omega arith) (omega arith),
     posted-other (w .tables .lists) (txnAt w p .slot) (txnAt w p .«writes_n») (w .sizes .rows) (rowsOf w p) (w .tables .rows) 0 (omega arith),
@@ -102,28 +107,35 @@ module _ (w : Words) (z : Sized w) (g : Shaped w) (p : ℕ) (l : 1 ≤ txnAt w p
   held-in b (inr m) = after-in w z g p l b m
 
   -- postings follow the new keys
-  publish-posted : postings (w .sizes .rows) (rowsAfter w p) ≡ repost (view w .txns p) (pendingRows (view w .sizes) (view w .txns p .writes)) (view w .index .posted)
+  publish-posted : postings (w .sizes .rows) (rowsAfter w p) ≡ repost (view w .txns p) (pendingRows (view w .sizes) (view w .txns p .writes))
+      (view w .index .posted)
   unfolding repost
   publish-posted =
       let n = txnAt w p .number in
       let ps = pendingRows (view w .sizes) (view w .txns p .writes) in
       keys-by _ _ _ _ (clear-other 4 1 (omega arith) (w .sizes .rows) n (rowsPosted w p) (rowsOf w p) 2 (omega arith) (omega arith))
       (clear-other 4 1 (omega arith) (w .sizes .rows) n (rowsPosted w p) (rowsOf w p) 3 (omega arith) (omega arith))
-      ∙ (fun-ext λ q. posted-all (w .tables .lists) (txnAt w p .slot) (txnAt w p .«writes_n») (w .sizes .rows) (rowsOf w p) (w .tables .rows) (λ r m. row-in w z g p l r m) (z .rows) q
+      ∙ (fun-ext λ q. posted-all (w .tables .lists) (txnAt w p .slot) (txnAt w p .«writes_n») (w .sizes .rows) (rowsOf w p) (w .tables .rows)
+      (λ r m. row-in w z g p l r m) (z .rows) q
       ∙ rw (
         new-key-same (w .tables .lists) (txnAt w p) (sized-at w z p .writes) q,
-        same-test (member q (rowsOf w p)) (member q ps) (λ e. among-member q ps (row-pending w z g p l q (member-among q (rowsOf w p) e))) (λ e. among-member q (rowsOf w p) (pending-row w z g p q (member-among q ps e))),
+        same-test (member q (rowsOf w p)) (member q ps) (λ e. among-member q ps (row-pending w z g p l q (member-among q (rowsOf w p) e)))
+            (λ e. among-member q (rowsOf w p) (pending-row w z g p q (member-among q ps e))),
       ))
 
-  publish-stamps : field 2 0 (part 2 (w .sizes .buckets) (bucketsAfter w p)) ≡ updateAll (view w .index .stamp) (changedBuckets (view w) (view w .txns p)) (w .clock)
+  publish-stamps : field 2 0 (part 2 (w .sizes .buckets) (bucketsAfter w p)) ≡ updateAll (view w .index .stamp) (changedBuckets (view w) (view w .txns p))
+      (w .clock)
   publish-stamps = clear-other 2 1 (omega arith) (w .sizes .buckets) (txnAt w p .number) (stamped w p) (heldOf w p) 0 (omega arith) (omega arith)
       ∙ (set-all 2 0 (omega arith) (w .sizes .buckets) (w .clock) (w .tables .buckets) (changesOf w p) (changes-in w z g p) (z .buckets)
-      ∙ all-same (view w .index .stamp) (changesOf w p) (changedBuckets (view w) (view w .txns p)) (w .clock) (λ b m. changed-to w z g p l b m) (λ b m. changed-back w z g p l b m))
+      ∙ all-same (view w .index .stamp) (changesOf w p) (changedBuckets (view w) (view w .txns p)) (w .clock) (λ b m. changed-to w z g p l b m)
+      (λ b m. changed-back w z g p l b m))
 
-  pub publish-index : indexView (rowsPart (sizesView (w .sizes)) (rowsAfter w p)) (bucketsPart (sizesView (w .sizes)) (bucketsAfter w p)) ≡ publishedIndex (view w) (view w .txns p)
+  pub publish-index : indexView (rowsPart (sizesView (w .sizes)) (rowsAfter w p)) (bucketsPart (sizesView (w .sizes)) (bucketsAfter w p))
+      ≡ publishedIndex (view w) (view w .txns p)
   publish-index = two _ _ _ _ publish-stamps publish-posted
     where
-      two : (f f′ : ℕ → ℕ) (h h′ : ℕ → Option ℕ) → f ≡ f′ → h ≡ h′ → _≡_ {A = model.Index} (record { stamp = f; posted = h }) (record { stamp = f′; posted = h′ })
+      two : (f f′ : ℕ → ℕ) (h h′ : ℕ → Option ℕ) → f ≡ f′ → h ≡ h′
+          → _≡_ {A = model.Index} (record { stamp = f; posted = h }) (record { stamp = f′; posted = h′ })
       two f f′ h h′ a b = rw (a, b)
 
   -- what is listed is freed
@@ -136,7 +148,8 @@ module _ (w : Words) (z : Sized w) (g : Shaped w) (p : ℕ) (l : 1 ≤ txnAt w p
   pub claims-freed : field 4 1 (part 4 (w .sizes .rows) (rowsAfter w p)) ≡ freedAt (txnAt w p .number) (view w .held .claim) (rowsOf w p)
   claims-freed =
       clear-all 4 1 (omega arith) (w .sizes .rows) (txnAt w p .number) (rowsPosted w p) (rowsOf w p) (λ r m. row-in w z g p l r m) (posted-room w z p)
-      ∙ ap (λ (f : ℕ → ℕ). freedAt (txnAt w p .number) f (rowsOf w p)) (posted-other (w .tables .lists) (txnAt w p .slot) (txnAt w p .«writes_n») (w .sizes .rows) (rowsOf w p) (w .tables .rows) 1 (omega arith))
+      ∙ ap (λ (f : ℕ → ℕ). freedAt (txnAt w p .number) f (rowsOf w p))
+      (posted-other (w .tables .lists) (txnAt w p .slot) (txnAt w p .«writes_n») (w .sizes .rows) (rowsOf w p) (w .tables .rows) 1 (omega arith))
 
 -- who is live keeps the clock below the last number
 some-long : (xs : List ℕ) (x : ℕ) → Among x xs → 1 ≤ length xs
@@ -144,7 +157,12 @@ some-long (y ∷ xs) x m = omega arith
 
 pub clock-below : (w : Words) → Shaped w → (p : ℕ) → p < mostLive → 1 ≤ txnAt w p .number → w .clock < lastNumber
 unfolding liveCount
-clock-below w g p l a = omega (arith, g .numbers-left, some-long (pick (λ i. live (view w .txns i)) 0 mostLive) p (which-pick (λ i. live (view w .txns i)) 0 mostLive p (omega arith) l (live-test (view w .txns p) a)))
+clock-below w g p l a = omega (
+  arith,
+  g .numbers-left,
+  some-long (pick (λ i. live (view w .txns i)) 0 mostLive) p
+      (which-pick (λ i. live (view w .txns i)) 0 mostLive p (omega arith) l (live-test (view w .txns p) a)),
+)
 
 -- in phase Ended all is installed
 phase-ended : (x : model.Phase) → not (eqb (rank x) phaseEnded) ≡ false → phaseInstalled ≤ rank x
@@ -167,7 +185,11 @@ module _ (w : Words) (z : Sized w) (g : Good (view w)) (n : ℕ) (l : standing w
       (inPublished
       (publishedFrom
       (cond b (record { reply = refusedOf (txnAt w (standing w n)) (refusalNumber WrongPhase); rows = w .tables .rows; buckets = w .tables .buckets })
-      (record { reply = record { answer = tell.Stamp (w .clock); txn = idleOf (txnAt w (standing w n) .slot) }; rows = rowsAfter w (standing w n); buckets = bucketsAfter w (standing w n) }))
+      (record {
+        reply = record { answer = tell.Stamp (w .clock); txn = idleOf (txnAt w (standing w n) .slot) };
+        rows = rowsAfter w (standing w n);
+        buckets = bucketsAfter w (standing w n);
+      }))
       (w .clock) (w .used))
       (w .tables))
       (carried (view w) (asked (ask.Publish n)) (cond b (some WrongPhase) none))
@@ -176,9 +198,13 @@ module _ (w : Words) (z : Sized w) (g : Good (view w)) (n : ℕ) (l : standing w
   published-at false e =
       let q = standing w n in
       let k = phase-ended (phaseView (txnAt w q .phase)) e in
-      ended-at w z q l _ _ (tell.Stamp (w .clock)) (machine.Stamp (w .clock)) (oneMore (w .clock)) (suc (w .clock)) _ _ _ (one-up (w .clock) (clock-below w sh q l a)) (publish-chains w z q) (publish-index w z sh q a) (publish-held k) (rows-long w z q) (buckets-long w z q) refl refl
+      ended-at w z q l _ _ (tell.Stamp (w .clock)) (machine.Stamp (w .clock)) (oneMore (w .clock)) (suc (w .clock)) _ _ _
+      (one-up (w .clock) (clock-below w sh q l a)) (publish-chains w z q) (publish-index w z sh q a) (publish-held k) (rows-long w z q)
+      (buckets-long w z q) refl refl
 
-  published-place : SameAt w (standing w n) (inPublished (publishStep (w .tables .versions) (w .tables .lists) (w .sizes .buckets) (txnAt w (standing w n)) (w .clock) (w .used) (w .tables .rows) (w .tables .buckets)) (w .tables))
+  published-place : SameAt w (standing w n)
+      (inPublished (publishStep (w .tables .versions) (w .tables .lists) (w .sizes .buckets) (txnAt w (standing w n)) (w .clock) (w .used)
+      (w .tables .rows) (w .tables .buckets)) (w .tables))
       (carried (view w) (asked (ask.Publish n)) (refusal (later-tests (view w) (asked (ask.Publish n)))))
   unfolding publishStep publishOf refusal
   published-place = rw (stamped-is w z (standing w n), freed-is w z (standing w n) (stamped w (standing w n)))

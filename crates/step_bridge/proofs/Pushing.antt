@@ -49,11 +49,15 @@ use Rattle.step_bridge.proofs.Distinct.{versions-front}
 use Rattle.step_bridge.proofs.Installing.{last-key, last-payload, stored-xmin, stored-xmax, stored-next, stored-keys, stored-payload}
 
 -- chains are their parts
-same-chains : (c c′ : model.Chains) → c .used ≡ c′ .used → c .head ≡ c′ .head → c .xmin ≡ c′ .xmin → c .xmax ≡ c′ .xmax → c .next ≡ c′ .next → c .key ≡ c′ .key → c .payload ≡ c′ .payload → c ≡ c′
-same-chains c c′ a b d e f g h = parts (c .used) (c′ .used) (c .head) (c′ .head) (c .xmin) (c′ .xmin) (c .xmax) (c′ .xmax) (c .next) (c′ .next) (c .key) (c′ .key) (c .payload) (c′ .payload) a b d e f g h
+same-chains : (c c′ : model.Chains) → c .used ≡ c′ .used → c .head ≡ c′ .head → c .xmin ≡ c′ .xmin → c .xmax ≡ c′ .xmax → c .next ≡ c′ .next
+    → c .key ≡ c′ .key → c .payload ≡ c′ .payload → c ≡ c′
+same-chains c c′ a b d e f g h =
+    parts (c .used) (c′ .used) (c .head) (c′ .head) (c .xmin) (c′ .xmin) (c .xmax) (c′ .xmax) (c .next) (c′ .next) (c .key) (c′ .key) (c .payload)
+    (c′ .payload) a b d e f g h
   where
     parts : (u u′ : ℕ) (a a′ b b′ d d′ e e′ : ℕ → ℕ) (k k′ : ℕ → Option ℕ) (f f′ : ℕ → ℕ) → u ≡ u′ → a ≡ a′ → b ≡ b′ → d ≡ d′ → e ≡ e′ → k ≡ k′ → f ≡ f′
-        → _≡_ {A = model.Chains} (record { used = u; head = a; xmin = b; xmax = d; next = e; key = k; payload = f }) (record { used = u′; head = a′; xmin = b′; xmax = d′; next = e′; key = k′; payload = f′ })
+        → _≡_ {A = model.Chains} (record { used = u; head = a; xmin = b; xmax = d; next = e; key = k; payload = f })
+        (record { used = u′; head = a′; xmin = b′; xmax = d′; next = e′; key = k′; payload = f′ })
     parts u u′ a a′ b b′ d d′ e e′ k k′ f f′ p q r s t v w = rw (p, q, r, s, t, v, w)
 
 -- the chains of the words as the model has them
@@ -86,11 +90,13 @@ module _ (xs : List ℕ) (s n number : ℕ) where
   all-versions-length [] c = refl
   all-versions-length (r ∷ rs) c = all-versions-length rs (pushedRow xs s n number c r) ∙ pushed-versions-length c r
 
-  one-row-other : (m k : ℕ) → k < 4 → k ≢ 0 → (c : install.Chains) (r : ℕ) → field 4 k (part 4 m (pushedRow xs s n number c r .rows)) ≡ field 4 k (part 4 m (c .rows))
+  one-row-other : (m k : ℕ) → k < 4 → k ≢ 0 → (c : install.Chains) (r : ℕ)
+      → field 4 k (part 4 m (pushedRow xs s n number c r .rows)) ≡ field 4 k (part 4 m (c .rows))
   unfolding pushedRow
   one-row-other m k h d c r = part-other 4 0 m (c .rows) r (oneMore (c .used)) k h (omega arith) d
 
-  pub all-rows-other : (m k : ℕ) → k < 4 → k ≢ 0 → (rs : List ℕ) (c : install.Chains) → field 4 k (part 4 m (pushedRows xs s n number c rs .rows)) ≡ field 4 k (part 4 m (c .rows))
+  pub all-rows-other : (m k : ℕ) → k < 4 → k ≢ 0 → (rs : List ℕ) (c : install.Chains)
+      → field 4 k (part 4 m (pushedRows xs s n number c rs .rows)) ≡ field 4 k (part 4 m (c .rows))
   unfolding pushedRows
   all-rows-other m k h d [] c = refl
   all-rows-other m k h d (r ∷ rs) c = all-rows-other m k h d rs (pushedRow xs s n number c r) ∙ one-row-other m k h d c r
@@ -104,7 +110,8 @@ reserved-has z c ts (suc n) i h = elim (ℕ-discrete i n) [ yes e ↦ rw e (omeg
 module _ (z : model.Sizes) (small : z .versions ≤ mostVersions) (xs : List ℕ) (t : Transaction) (few : t .«writes_n» ≤ mostWrites) where
   -- one row
   push-view : (c : install.Chains) (r : ℕ) → r < z .rows → c .used < z .versions → Fit z c
-      → chainsOf z (pushedRow xs (t .slot) (t .«writes_n») (t .number) c r) ≡ push (t .number) r (newKey (txnView xs t) r) (writtenPayload (lastWrite (writesIn xs t) r)) (chainsOf z c)
+      → chainsOf z (pushedRow xs (t .slot) (t .«writes_n») (t .number) c r)
+      ≡ push (t .number) r (newKey (txnView xs t) r) (writtenPayload (lastWrite (writesIn xs t) r)) (chainsOf z c)
   unfolding pushedRow
   push-view c r hr hu f =
       let m = suc (z .versions) in
@@ -126,7 +133,8 @@ module _ (z : model.Sizes) (small : z .versions ≤ mostVersions) (xs : List ℕ
   push-fit c r hr hu f = let e = push-view c r hr hu f in record {
     rows = rw rows-length (f .rows);
     versions = rw versions-length (f .versions);
-    heads = λ q. subst (λ (d : model.Chains). d .head q ≤ d .used) (sym e) (update-elim (λ y. y ≤ suc (c .used)) (chainsOf z c .head) r (suc (c .used)) q (λ d. omega arith) (λ d. omega (arith, f .heads q)));
+    heads = λ q. subst (λ (d : model.Chains). d .head q ≤ d .used) (sym e)
+        (update-elim (λ y. y ≤ suc (c .used)) (chainsOf z c .head) r (suc (c .used)) q (λ d. omega arith) (λ d. omega (arith, f .heads q)));
   }
     where
       rows-length : length (pushedRow xs (t .slot) (t .«writes_n») (t .number) c r .rows) ≡ length (c .rows)
@@ -143,7 +151,8 @@ module _ (z : model.Sizes) (small : z .versions ≤ mostVersions) (xs : List ℕ
   pushed-view (r ∷ rs) c h u f =
       let hr = h r (inl refl) in
       let e = push-view c r hr (omega arith) f in
-      pushed-view rs (pushedRow xs (t .slot) (t .«writes_n») (t .number) c r) (λ i m. h i (inr m)) (omega (arith, ap (λ (d : model.Chains). d .used) e)) (push-fit c r hr (omega arith) f)
+      pushed-view rs (pushedRow xs (t .slot) (t .«writes_n») (t .number) c r) (λ i m. h i (inr m)) (omega (arith, ap (λ (d : model.Chains). d .used) e))
+      (push-fit c r hr (omega arith) f)
       ∙ ap (λ (d : model.Chains). pushAll (txnView xs t) rs d) e
 
 -- the chains that a step finds
@@ -152,7 +161,8 @@ chainsIn w = record { rows = w .tables .rows; versions = w .tables .versions; us
 
 -- all that install leaves, by its rows
 abbrev after-rows : Words → ℕ → install.Chains
-after-rows w p = pushedRows (w .tables .lists) (txnAt w p .slot) (txnAt w p .«writes_n») (txnAt w p .number) (chainsIn w) (versionRows (view w .sizes) (view w .chains) (view w .txns p .writes))
+after-rows w p = pushedRows (w .tables .lists) (txnAt w p .slot) (txnAt w p .«writes_n») (txnAt w p .number) (chainsIn w)
+    (versionRows (view w .sizes) (view w .chains) (view w .txns p .writes))
 
 module _ (w : Words) (z : Sized w) (g : Shaped w) (n : ℕ) (l : standing w n < mostLive) (a : 1 ≤ txnAt w (standing w n) .number) where
   install-chains : rank (phaseView (txnAt w (standing w n) .phase)) ≡ phasePrepared
@@ -163,19 +173,30 @@ module _ (w : Words) (z : Sized w) (g : Shaped w) (n : ℕ) (l : standing w n < 
       let ps = versionRows (view w .sizes) (view w .chains) (view w .txns q .writes) in
       pushed-view (view w .sizes) (good-sized (view w .sizes) (g .sizes) .versions-most) (w .tables .lists) (txnAt w q) (sized-at w z q .writes) ps (chainsIn w)
       (λ i m. row-in w z g q a i (pending-row w z g q i (gets-writes (view w .sizes) (view w .chains) (view w .txns q) i m)))
-      (omega (arith, g .versions-left, reserved-has (view w .sizes) (view w .chains) (view w .txns) mostLive q l, reserves (view w .sizes) (view w .chains) (view w .txns q) a r))
+      (omega (
+        arith,
+        g .versions-left,
+        reserved-has (view w .sizes) (view w .chains) (view w .txns) mostLive q l,
+        reserves (view w .sizes) (view w .chains) (view w .txns q) a r,
+      ))
       (record { rows = z .rows; versions = z .versions; heads = g .heads-in })
 
-  install-index : indexView (rowsPart (sizesView (w .sizes)) (after-rows w (standing w n) .rows)) (bucketsPart (sizesView (w .sizes)) (w .tables .buckets)) ≡ view w .index
+  install-index : indexView (rowsPart (sizesView (w .sizes)) (after-rows w (standing w n) .rows))
+      (bucketsPart (sizesView (w .sizes)) (w .tables .buckets)) ≡ view w .index
   install-index =
       let t = txnAt w (standing w n) in
       let ps = versionRows (view w .sizes) (view w .chains) (view w .txns (standing w n) .writes) in
-      rw (all-rows-other (w .tables .lists) (t .slot) (t .«writes_n») (t .number) (w .sizes .rows) 2 (omega arith) (omega arith) ps (chainsIn w), all-rows-other (w .tables .lists) (t .slot) (t .«writes_n») (t .number) (w .sizes .rows) 3 (omega arith) (omega arith) ps (chainsIn w))
+      rw (
+        all-rows-other (w .tables .lists) (t .slot) (t .«writes_n») (t .number) (w .sizes .rows) 2 (omega arith) (omega arith) ps (chainsIn w),
+        all-rows-other (w .tables .lists) (t .slot) (t .«writes_n») (t .number) (w .sizes .rows) 3 (omega arith) (omega arith) ps (chainsIn w),
+      )
 
-  install-held : heldView (rowsPart (sizesView (w .sizes)) (after-rows w (standing w n) .rows)) (bucketsPart (sizesView (w .sizes)) (w .tables .buckets)) ≡ view w .held
+  install-held : heldView (rowsPart (sizesView (w .sizes)) (after-rows w (standing w n) .rows)) (bucketsPart (sizesView (w .sizes)) (w .tables .buckets))
+      ≡ view w .held
   install-held =
       let t = txnAt w (standing w n) in
-      rw (all-rows-other (w .tables .lists) (t .slot) (t .«writes_n») (t .number) (w .sizes .rows) 1 (omega arith) (omega arith) (versionRows (view w .sizes) (view w .chains) (view w .txns (standing w n) .writes)) (chainsIn w))
+      rw (all-rows-other (w .tables .lists) (t .slot) (t .«writes_n») (t .number) (w .sizes .rows) 1 (omega arith) (omega arith)
+      (versionRows (view w .sizes) (view w .chains) (view w .txns (standing w n) .writes)) (chainsIn w))
 
   installed-at : (b : Bool) → not (eqb (rank (phaseView (txnAt w (standing w n) .phase))) phasePrepared) ≡ b
       → SameAt w (standing w n)
@@ -202,10 +223,13 @@ module _ (w : Words) (z : Sized w) (g : Shaped w) (n : ℕ) (l : standing w n < 
       let r : rank (phaseView (t .phase))
       ≡ phasePrepared = eqb-true (rank (phaseView (t .phase))) phasePrepared (not-false (eqb (rank (phaseView (t .phase))) phasePrepared) e) in
       record {
-        store = same-store _ _ refl refl (install-chains r) install-index install-held (txns-set w z q l (w .tables .lists) (withPhase t phase.Installed) (λ j d. refl));
+        store = same-store _ _ refl refl (install-chains r) install-index install-held
+            (txns-set w z q l (w .tables .lists) (withPhase t phase.Installed) (λ j d. refl));
         answer = refl;
         lent = refl;
-        sized = sized-set w z q l _ _ _ _ (sized-phase q t phase.Installed (sized-at w z q)) (all-rows-length (w .tables .lists) (t .slot) (t .«writes_n») (t .number) ps (chainsIn w)) (all-versions-length (w .tables .lists) (t .slot) (t .«writes_n») (t .number) ps (chainsIn w)) refl refl;
+        sized = sized-set w z q l _ _ _ _ (sized-phase q t phase.Installed (sized-at w z q))
+            (all-rows-length (w .tables .lists) (t .slot) (t .«writes_n») (t .number) ps (chainsIn w))
+            (all-versions-length (w .tables .lists) (t .slot) (t .«writes_n») (t .number) ps (chainsIn w)) refl refl;
       }
 
   installed-place : SameAt w (standing w n) (inInstalled (installOf (w .tables .lists) (txnAt w (standing w n)) (chainsIn w)) (w .clock) (w .tables))

@@ -40,32 +40,39 @@ pub keys-by : (f f′ h h′ : ℕ → ℕ) → f ≡ f′ → h ≡ h′ → bo
 keys-by f f′ h h′ a b = ap (λ (g : ℕ → ℕ). both g h) a ∙ ap (λ (g : ℕ → ℕ). both f′ g) b
 
 module _ (xs : List ℕ) (s n m : ℕ) where
-  posted-one : (rows : List ℕ) (r : ℕ) → r < m → 4 * m ≤ length rows → postings m (postedOne xs s n rows r) ≡ update (postings m rows) r (keyOf (newKeyOf xs s n r))
+  posted-one : (rows : List ℕ) (r : ℕ) → r < m → 4 * m ≤ length rows
+      → postings m (postedOne xs s n rows r) ≡ update (postings m rows) r (keyOf (newKeyOf xs s n r))
   unfolding postedOne
   posted-one rows r h l =
       let k = newKeyOf xs s n r in
       keys-by _ _ _ _
-      (part-other 4 3 m (setField 4 2 rows r (k .keyed)) r (k .key) 2 (omega arith) (omega arith) (omega arith) ∙ part-update 4 2 m rows r (k .keyed) (omega arith) h l)
+      (part-other 4 3 m (setField 4 2 rows r (k .keyed)) r (k .key) 2 (omega arith) (omega arith) (omega arith)
+      ∙ part-update 4 2 m rows r (k .keyed) (omega arith) h l)
       (part-update 4 3 m (setField 4 2 rows r (k .keyed)) r (k .key) (omega arith) h (rw (field-length 4 2 rows r (k .keyed)) l)
       ∙ ap (λ (f : ℕ → ℕ). update f r (k .key)) (part-other 4 2 m rows r (k .keyed) 3 (omega arith) (omega arith) (omega arith)))
       ∙ two-words (field 4 2 (part 4 m rows)) (field 4 3 (part 4 m rows)) r (k .keyed) (k .key)
 
   one-length : (rows : List ℕ) (r : ℕ) → length (postedOne xs s n rows r) ≡ length rows
   unfolding postedOne
-  one-length rows r = field-length 4 3 (setField 4 2 rows r (newKeyOf xs s n r .keyed)) r (newKeyOf xs s n r .key) ∙ field-length 4 2 rows r (newKeyOf xs s n r .keyed)
+  one-length rows r = field-length 4 3 (setField 4 2 rows r (newKeyOf xs s n r .keyed)) r (newKeyOf xs s n r .key)
+      ∙ field-length 4 2 rows r (newKeyOf xs s n r .keyed)
 
   one-other : (rows : List ℕ) (r k : ℕ) → k < 2 → field 4 k (part 4 m (postedOne xs s n rows r)) ≡ field 4 k (part 4 m rows)
   unfolding postedOne
-  one-other rows r k h = part-other 4 3 m (setField 4 2 rows r (newKeyOf xs s n r .keyed)) r (newKeyOf xs s n r .key) k (omega arith) (omega arith) (omega arith) ∙ part-other 4 2 m rows r (newKeyOf xs s n r .keyed) k (omega arith) (omega arith) (omega arith)
+  one-other rows r k h = part-other 4 3 m (setField 4 2 rows r (newKeyOf xs s n r .keyed)) r (newKeyOf xs s n r .key) k (omega arith) (omega arith)
+      (omega arith) ∙ part-other 4 2 m rows r (newKeyOf xs s n r .keyed) k (omega arith) (omega arith) (omega arith)
 
-  pub posted-all : (rs rows : List ℕ) → InRange m rs → 4 * m ≤ length rows → (q : ℕ) → postings m (postedAll xs s n rows rs) q ≡ cond (member q rs) (keyOf (newKeyOf xs s n q)) (postings m rows q)
+  pub posted-all : (rs rows : List ℕ) → InRange m rs → 4 * m ≤ length rows → (q : ℕ)
+      → postings m (postedAll xs s n rows rs) q ≡ cond (member q rs) (keyOf (newKeyOf xs s n q)) (postings m rows q)
   unfolding postedAll member
   posted-all [] rows h l q = refl
   posted-all (r ∷ rs) rows h l q =
       posted-all rs (postedOne xs s n rows r) (λ i a. h i (inr a)) (rw (one-length rows r) l) q
-      ∙ (ap (λ (f : ℕ → Option ℕ). cond (member q rs) (keyOf (newKeyOf xs s n q)) (f q)) (posted-one rows r (h r (inl refl)) l) ∙ by (ℕ-discrete q r) (member q rs))
+      ∙ (ap (λ (f : ℕ → Option ℕ). cond (member q rs) (keyOf (newKeyOf xs s n q)) (f q)) (posted-one rows r (h r (inl refl)) l)
+      ∙ by (ℕ-discrete q r) (member q rs))
     where
-      by : Dec (q ≡ r) → (b : Bool) → cond b (keyOf (newKeyOf xs s n q)) (update (postings m rows) r (keyOf (newKeyOf xs s n r)) q) ≡ cond (eqb q r || b) (keyOf (newKeyOf xs s n q)) (postings m rows q)
+      by : Dec (q ≡ r) → (b : Bool) → cond b (keyOf (newKeyOf xs s n q)) (update (postings m rows) r (keyOf (newKeyOf xs s n r)) q)
+          ≡ cond (eqb q r || b) (keyOf (newKeyOf xs s n q)) (postings m rows q)
       by (yes e) true = rw (eq-eqb q r e)
       by (yes e) false = rw (e, eq-eqb r r refl, update-same (postings m rows) r (keyOf (newKeyOf xs s n r)))
       by (no d) true = rw (ne-eqb q r d)

@@ -30,11 +30,15 @@ use Rattle.step_bridge.proofs.Places.{standing, there, nowhere, place-i
 use Rattle.step_bridge.proofs.Placed.{after, unmoved, unmoved-same}
 
 -- a store is its parts
-pub same-store : (s s′ : model.Store) → s .sizes ≡ s′ .sizes → s .clock ≡ s′ .clock → s .chains ≡ s′ .chains → s .index ≡ s′ .index → s .held ≡ s′ .held → s .txns ≡ s′ .txns → s ≡ s′
-same-store s s′ a b c d e f = parts (s .sizes) (s′ .sizes) (s .clock) (s′ .clock) (s .chains) (s′ .chains) (s .index) (s′ .index) (s .held) (s′ .held) (s .txns) (s′ .txns) a b c d e f
+pub same-store : (s s′ : model.Store) → s .sizes ≡ s′ .sizes → s .clock ≡ s′ .clock → s .chains ≡ s′ .chains → s .index ≡ s′ .index → s .held ≡ s′ .held
+    → s .txns ≡ s′ .txns → s ≡ s′
+same-store s s′ a b c d e f =
+    parts (s .sizes) (s′ .sizes) (s .clock) (s′ .clock) (s .chains) (s′ .chains) (s .index) (s′ .index) (s .held) (s′ .held) (s .txns) (s′ .txns) a b c d e f
   where
-    parts : (z z′ : model.Sizes) (n n′ : ℕ) (c c′ : model.Chains) (x x′ : model.Index) (h h′ : model.Held) (t t′ : ℕ → model.Txn) → z ≡ z′ → n ≡ n′ → c ≡ c′ → x ≡ x′ → h ≡ h′ → t ≡ t′
-        → _≡_ {A = model.Store} (record { sizes = z; clock = n; chains = c; index = x; held = h; txns = t }) (record { sizes = z′; clock = n′; chains = c′; index = x′; held = h′; txns = t′ })
+    parts : (z z′ : model.Sizes) (n n′ : ℕ) (c c′ : model.Chains) (x x′ : model.Index) (h h′ : model.Held) (t t′ : ℕ → model.Txn) → z ≡ z′ → n ≡ n′
+        → c ≡ c′ → x ≡ x′ → h ≡ h′ → t ≡ t′
+        → _≡_ {A = model.Store} (record { sizes = z; clock = n; chains = c; index = x; held = h; txns = t })
+        (record { sizes = z′; clock = n′; chains = c′; index = x′; held = h′; txns = t′ })
     parts z z′ n n′ c c′ x x′ h h′ t t′ a b d e f g = rw (a, b, d, e, f, g)
 
 -- and so is what is held
@@ -59,7 +63,8 @@ pub record SameAs (w : Words) (s : Step) (m : Moved) : Type 0 where
 abbrev pub Same : Words → Step → Type 0
 Same w s = SameAs w s (movedBy w s)
 
-pub same-from : (w : Words) (s : Step) (p : ℕ) (m : Moved) (out : machine.Stepped) {m′ : Moved} → placeFor (w .txns) s ≡ p → m′ ≡ m → stepIn (view w) (asked s) ≡ out → SameAt w p m out → SameAs w s m′
+pub same-from : (w : Words) (s : Step) (p : ℕ) (m : Moved) (out : machine.Stepped) {m′ : Moved} → placeFor (w .txns) s ≡ p → m′ ≡ m
+    → stepIn (view w) (asked s) ≡ out → SameAt w p m out → SameAs w s m′
 same-from w s p m out {m′} a b c h =
     let e : after w (placeFor (w .txns) s) m′ ≡ after w p m = ap (λ (q : ℕ). after w q m′) a ∙ ap (λ (x : Moved). after w p x) b in
     record {
@@ -70,7 +75,8 @@ same-from w s p m out {m′} a b c h =
     }
 
 -- an answer that changes nothing, and so every refusal but a stale stamp's
-pub unmoved-at : (w : Words) → Sized w → (p : ℕ) (a : Answer) (o : machine.Answer) → a ≡ told o → w .tables .found ≡ lentAfter o (w .tables .found) → SameAt w p (unmoved w p a) (gives (view w) o)
+pub unmoved-at : (w : Words) → Sized w → (p : ℕ) (a : Answer) (o : machine.Answer) → a ≡ told o → w .tables .found ≡ lentAfter o (w .tables .found)
+    → SameAt w p (unmoved w p a) (gives (view w) o)
 unmoved-at w z p a o e f = record {
   store = ap (λ (x : Words). view x) (unmoved-same w p a);
   answer = e;
@@ -78,7 +84,8 @@ unmoved-at w z p a o e f = record {
   sized = subst (λ (x : Words). Sized x) (sym (unmoved-same w p a)) z;
 }
 
-pub refused-same : (w : Words) → Sized w → (p : ℕ) (r : Refusal) → SameAt w p (unmoved w p (tell.Refused (refusalNumber r))) (gives (view w) (machine.Refused r))
+pub refused-same : (w : Words) → Sized w → (p : ℕ) (r : Refusal)
+    → SameAt w p (unmoved w p (tell.Refused (refusalNumber r))) (gives (view w) (machine.Refused r))
 refused-same w z p r = unmoved-at w z p (tell.Refused (refusalNumber r)) (machine.Refused r) refl refl
 
 -- the tests of a step once its transaction is found: the phase, and its own
@@ -106,7 +113,8 @@ module _ (w : Words) (z : Sized w) (s : Step) (b : isBegin s ≡ false) where
   unfolding movedBy stepOf missesOf
   moved-found p e l h = rw (e, default-any (w .txns) p (idleOf 0) (idleOf p) (omega (arith, z .eight)), b, h)
 
-  -- a step that names a transaction, and what is done to all that it leaves unless nothing was changed: the same where nobody has the number, and so the same where it is the same for the one who has it
+  -- a step that names a transaction, and what is done to all that it leaves unless nothing was changed: the same where nobody has the number, and so the same
+  -- where it is the same for the one who has it
   pub by-place-as : (done : Moved → Moved) → ((p : ℕ) (a : Answer) → placeFor (w .txns) s ≡ p → p < mostLive → done (unmoved w p a) ≡ unmoved w p a)
       → Names (asked s)
       → (standing w (wantedOf s) < mostLive → wantedOf s ≢ 0 → txnAt w (standing w (wantedOf s)) .number ≡ wantedOf s

@@ -57,15 +57,18 @@ module _ (w : Words) (p : ℕ) (e : goodTxn (view w) (view w .txns p) ≡ true) 
   txn-in : InStore w p
   unfolding goodTxn goodRanges
   txn-in =
-      let t = all-five (ltb (x .number) (w .clock)) (eqb (x .snapshot .xmin) (least (x .number) (x .snapshot .active))) (goodCounts x) (goodRanges (view w .sizes) (w .used) x) (goodHeads (view w .sizes) (view w .chains) x) e in
+      let t = all-five (ltb (x .number) (w .clock)) (eqb (x .snapshot .xmin) (least (x .number) (x .snapshot .active))) (goodCounts x)
+      (goodRanges (view w .sizes) (w .used) x) (goodHeads (view w .sizes) (view w .chains) x) e in
       let rows : model.Write → Bool = λ v. ltb (v .row) (w .sizes .rows) in
       let kept : ℕ → Bool = λ r. ltb r (w .sizes .rows) in
       let buckets : model.IndexRead → Bool = λ r. ltb (r .bucket) (w .sizes .buckets) in
-      let g = all-five (all-of rows (x .writes)) (all-of record-in (x .records)) (all-of kept (x .candidates)) (all-of buckets (x .reads)) (ltb (bucketIn (x .phase)) (w .sizes .buckets)) (t .3) in
+      let g = all-five (all-of rows (x .writes)) (all-of record-in (x .records)) (all-of kept (x .candidates)) (all-of buckets (x .reads))
+      (ltb (bucketIn (x .phase)) (w .sizes .buckets)) (t .3) in
       record {
         reads-in = λ r m. ltb-true _ _ (all-each buckets (x .reads) (g .3) r m);
         writes-in = λ v m. ltb-true _ _ (all-each rows (x .writes) (g .0) v m);
-        records-in = λ r m. leb-true (r .ptr) (w .used) (and-r (leb 1 (r .ptr)) _ (and-r (ltb (r .row) (w .sizes .rows)) _ (all-each record-in (x .records) (g .1) r m)));
+        records-in = λ r m. leb-true (r .ptr) (w .used)
+            (and-r (leb 1 (r .ptr)) _ (and-r (ltb (r .row) (w .sizes .rows)) _ (all-each record-in (x .records) (g .1) r m)));
         bucket-in = ltb-true _ _ (g .4);
       }
 
@@ -74,7 +77,8 @@ module _ (w : Words) (z : Sized w) (e : rightShape (view w) ≡ true) where
   live-place : (p : ℕ) → 1 ≤ txnAt w p .number → p < mostLive
   live-place p l = elim (decLt p mostLive) [
     | yes h ↦ h
-    | no h ↦ let none = ap (λ (t : Transaction). t .number) (List·getD-eq-default (w .txns) (idleOf p) {n = p} (omega (arith, h, z .eight))) in absurd (omega (arith, none))
+    | no h ↦ let none = ap (λ (t : Transaction). t .number) (List·getD-eq-default (w .txns) (idleOf p) {n = p} (omega (arith, h, z .eight))) in
+        absurd (omega (arith, none))
   ]
 
   abbrev tested : ℕ → Bool
@@ -97,7 +101,8 @@ module _ (w : Words) (z : Sized w) (e : rightShape (view w) ≡ true) where
   unfolding rightShape
   room = and-r (sizes-test && goodChains (view w .sizes) (view w .chains) && every mostLive tested && distinctNumbers (view w .txns) && clock-test) room-test e
 
-  front : (sizes-test ≡ true) × (goodChains (view w .sizes) (view w .chains) ≡ true) × (every mostLive tested ≡ true) × (distinctNumbers (view w .txns) ≡ true) × (clock-test ≡ true)
+  front : (sizes-test ≡ true) × (goodChains (view w .sizes) (view w .chains) ≡ true) × (every mostLive tested ≡ true)
+      × (distinctNumbers (view w .txns) ≡ true) × (clock-test ≡ true)
   front = all-five sizes-test (goodChains (view w .sizes) (view w .chains)) (every mostLive tested) (distinctNumbers (view w .txns)) clock-test front-holds
 
   abbrev heads-test : Bool
@@ -109,14 +114,18 @@ module _ (w : Words) (z : Sized w) (e : rightShape (view w) ≡ true) where
   head-in : (r : ℕ) → view w .chains .head r ≤ w .used
   unfolding goodChains
   head-in r = elim (decLt r (w .sizes .rows)) [
-    | yes h ↦ leb-true _ (w .used) (every-at (w .sizes .rows) (λ q. leb (view w .chains .head q) (w .used)) (and-r (leb (w .used) (w .sizes .versions)) heads-test (and-l _ falls-test (front .1))) r h)
+    | yes h ↦ leb-true _ (w .used)
+        (every-at (w .sizes .rows) (λ q. leb (view w .chains .head q) (w .used))
+        (and-r (leb (w .used) (w .sizes .versions)) heads-test (and-l _ falls-test (front .1))) r h)
     | no h ↦ rw (part-past 4 0 (w .sizes .rows) (w .tables .rows) r (omega (arith, h))) (omega arith)
   ]
 
   falls : (p : ℕ) → 1 ≤ p → p ≤ w .used → view w .chains .next p < p
   unfolding goodChains
   falls zero l h = absurd (omega arith)
-  falls (suc p) l h = ltb-true _ _ (every-at (w .used) (λ q. ltb (view w .chains .next (suc q)) (suc q)) (and-r (leb (w .used) (w .sizes .versions) && heads-test) falls-test (front .1)) p (omega arith))
+  falls (suc p) l h = ltb-true _ _
+      (every-at (w .used) (λ q. ltb (view w .chains .next (suc q)) (suc q))
+      (and-r (leb (w .used) (w .sizes .versions) && heads-test) falls-test (front .1)) p (omega arith))
 
   live-in : (p : ℕ) → 1 ≤ txnAt w p .number → InStore w p
   live-in p l = txn-in w p (rw (ne-eqb (txnAt w p .number) 0 (λ q. omega arith)) at (every-at mostLive tested (front .2) p (live-place p l)))

@@ -28,7 +28,8 @@ nonzero [] = []
 nonzero (x ∷ xs) = cond (eqb x 0) (nonzero xs) (x ∷ nonzero xs)
 
 -- those of the picked places
-pub pick-nonzero : (f : ℕ → ℕ) (test : ℕ → Bool) (k : ℕ) (xs : List ℕ) → ((i : ℕ) → i < length xs → test (k + i) ≡ not (eqb (getD xs i 0) 0)) → ((i : ℕ) → i < length xs → test (k + i) ≡ true → f (k + i) ≡ getD xs i 0)
+pub pick-nonzero : (f : ℕ → ℕ) (test : ℕ → Bool) (k : ℕ) (xs : List ℕ) → ((i : ℕ) → i < length xs → test (k + i) ≡ not (eqb (getD xs i 0) 0))
+    → ((i : ℕ) → i < length xs → test (k + i) ≡ true → f (k + i) ≡ getD xs i 0)
     → map f (pick test k (length xs)) ≡ nonzero xs
 unfolding pick nonzero
 pick-nonzero f test k [] h e = refl
@@ -40,7 +41,8 @@ pick-nonzero f test k (x ∷ xs) h e =
     (λ i l. let o : suc k + i ≡ k + suc i = omega arith in ap test o ∙ h (suc i) (omega arith))
     (λ i l q. let o : suc k + i ≡ k + suc i = omega arith in ap f o ∙ e (suc i) (omega arith) (sym (ap test o) ∙ q)))
   where
-    go : (b t : Bool) → t ≡ not b → (t ≡ true → f k ≡ x) → map f (pick test (suc k) (length xs)) ≡ nonzero xs → map f (cond t (k ∷ pick test (suc k) (length xs)) (pick test (suc k) (length xs))) ≡ cond b (nonzero xs) (x ∷ nonzero xs)
+    go : (b t : Bool) → t ≡ not b → (t ≡ true → f k ≡ x) → map f (pick test (suc k) (length xs)) ≡ nonzero xs
+        → map f (cond t (k ∷ pick test (suc k) (length xs)) (pick test (suc k) (length xs))) ≡ cond b (nonzero xs) (x ∷ nonzero xs)
     go true t d v ih = rw d ih
     go false t d v ih = rw (d, v d, ih)
 
@@ -96,7 +98,8 @@ more x k = record { active = set (k .active) (k .n) x; n = k .n + 1; least = min
 
 keep-more : (x : ℕ) (xs : List ℕ) (k : Kept) → eqb x 0 ≡ false → k .n < mostActive → keepAll k (x ∷ xs) ≡ keepAll (more x k) xs
 unfolding keepAll keepActive
-keep-more x xs k e h = ap (λ (b : Bool). keepAll (cond b k (cond (leb mostActive (k .n)) k (more x k))) xs) e ∙ ap (λ (b : Bool). keepAll (cond b k (more x k)) xs) (lt-leb mostActive (k .n) h)
+keep-more x xs k e h = ap (λ (b : Bool). keepAll (cond b k (cond (leb mostActive (k .n)) k (more x k))) xs) e
+    ∙ ap (λ (b : Bool). keepAll (cond b k (more x k)) xs) (lt-leb mostActive (k .n) h)
 
 keep-none : (k : Kept) → Keeps k [] (keepAll k [])
 unfolding keepAll nonzero least
@@ -110,10 +113,16 @@ pub keep-all : (xs : List ℕ) (k : Kept) → k .n + length (nonzero xs) ≤ mos
 keep-all [] k h l = keep-none k
 keep-all (x ∷ xs) k h l = go (λ j a b. keep-all xs j a b) (eqb x 0) refl
   where
-    go : ((j : Kept) → j .n + length (nonzero xs) ≤ mostActive → length (j .active) ≡ mostActive → Keeps j xs (keepAll j xs)) → (b : Bool) → eqb x 0 ≡ b → Keeps k (x ∷ xs) (keepAll k (x ∷ xs))
+    go : ((j : Kept) → j .n + length (nonzero xs) ≤ mostActive → length (j .active) ≡ mostActive → Keeps j xs (keepAll j xs)) → (b : Bool) → eqb x 0 ≡ b
+        → Keeps k (x ∷ xs) (keepAll k (x ∷ xs))
     go ih true e =
         let r = ih k (omega (arith, ap length (nonzero-zero x xs e))) l in
-        rw (keep-zero x xs k e) (record { kept = rw (nonzero-zero x xs e) (r .kept); lowest = rw (nonzero-zero x xs e) (r .lowest); count = rw (nonzero-zero x xs e) (r .count); room = r .room })
+        rw (keep-zero x xs k e) (record {
+          kept = rw (nonzero-zero x xs e) (r .kept);
+          lowest = rw (nonzero-zero x xs e) (r .lowest);
+          count = rw (nonzero-zero x xs e) (r .count);
+          room = r .room;
+        })
     go ih false e =
         let c : length (nonzero (x ∷ xs)) ≡ suc (length (nonzero xs)) = ap length (nonzero-more x xs e) in
         let i : k .n < length (k .active) = omega arith in

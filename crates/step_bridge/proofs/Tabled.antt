@@ -24,7 +24,8 @@ module _ (w k n : ℕ) (xs : List ℕ) (i v : ℕ) where
   part-update hk h l = rw (part-set w k n xs i v hk h) (field-update w k (part w n xs) i v hk (rw length-take (omega (arith, below w i n k hk h))))
 
   pub part-other : (m : ℕ) → m < w → k < w → m ≢ k → field w m (part w n (setField w k xs i v)) ≡ field w m (part w n xs)
-  part-other m hm hk d = elim (decLt i n) [ yes h ↦ rw (part-set w k n xs i v hk h) (field-kept w k (part w n xs) i v m hm hk d) | no h ↦ rw (part-kept w k n xs i v (omega (arith, h))) ]
+  part-other m hm hk d = elim (decLt i n)
+      [ yes h ↦ rw (part-set w k n xs i v hk h) (field-kept w k (part w n xs) i v m hm hk d) | no h ↦ rw (part-kept w k n xs i v (omega (arith, h))) ]
 
 -- one entry, and then all of a list
 update-all : (f : ℕ → ℕ) (i v : ℕ) (is : List ℕ) → updateAll (update f i v) is v ≡ updateAll f (i ∷ is) v

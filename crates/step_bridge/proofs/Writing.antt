@@ -40,24 +40,35 @@ use Rattle.step_bridge.proofs.Same.{same-store, SameAt, Same, refused-s
 
 -- a record whose lists stay: the counts are as they were
 pub sized-phase : (p : ℕ) (t : Transaction) (ph : _) → SizedTxn p t → SizedTxn p (withPhase t ph)
-sized-phase p t ph z = record { slot = z .slot; active = z .active; seven = z .seven; reads = z .reads; writes = z .writes; records = z .records; candidates = z .candidates }
+sized-phase p t ph z = record {
+  slot = z .slot;
+  active = z .active;
+  seven = z .seven;
+  reads = z .reads;
+  writes = z .writes;
+  records = z .records;
+  candidates = z .candidates;
+}
 
 -- the pending writes as the model has them: as many as the count says, and one more where one is stored
 pub writes-length : (xs : List ℕ) (t : Transaction) → length (writesIn xs t) ≡ t .«writes_n»
-writes-length xs t = length-map (lists.writesOf xs (t .slot) (t .«writes_n»)) writeView ∙ list-length lists.writeOf 4 (lists.startOf lists.writes (t .slot)) xs (t .«writes_n»)
+writes-length xs t = length-map (lists.writesOf xs (t .slot) (t .«writes_n»)) writeView
+    ∙ list-length lists.writeOf 4 (lists.startOf lists.writes (t .slot)) xs (t .«writes_n»)
 
 abbrev pub writeWords : Write → List ℕ
 writeWords x = x .row ∷ x .keyed ∷ x .key ∷ x .payload ∷ []
 
 pub written-view : (xs : List ℕ) (p : ℕ) (t : Transaction) → SizedTxn p t → p < mostLive → listsWords ≤ length xs → t .«writes_n» < mostWrites → (x : Write)
-    → txnView (stored lists.writes xs (t .slot) (t .«writes_n») (writeWords x)) (withWrites t (t .«writes_n» + 1)) ≡ does.writtenTxn (txnView xs t) (writeView x)
+    → txnView (stored lists.writes xs (t .slot) (t .«writes_n») (writeWords x)) (withWrites t (t .«writes_n» + 1))
+    ≡ does.writtenTxn (txnView xs t) (writeView x)
 written-view xs p t z l h i x =
     rw (
       other-list lists.readOf lists.writes lists.reads xs (t .slot) (t .«writes_n») (t .«reads_n») (writeWords x) refl i (z .reads) (inr (omega arith)),
       same-list lists.writeOf lists.writes xs (t .slot) (t .«writes_n») (writeWords x) refl i (omega arith) (omega (arith, z .slot)) h,
       map-append,
       other-list lists.recordOf lists.writes lists.records xs (t .slot) (t .«writes_n») (t .«records_n») (writeWords x) refl i (z .records) (inl (omega arith)),
-      other-list lists.candidateOf lists.writes lists.candidates xs (t .slot) (t .«writes_n») (t .«candidates_n») (writeWords x) refl i (z .candidates) (inl (omega arith)),
+      other-list lists.candidateOf lists.writes lists.candidates xs (t .slot) (t .«writes_n») (t .«candidates_n») (writeWords x) refl i (z .candidates)
+          (inl (omega arith)),
     )
 
 module _ (w : Words) (z : Sized w) (n : ℕ) (l : standing w n < mostLive) where
@@ -68,14 +79,17 @@ module _ (w : Words) (z : Sized w) (n : ℕ) (l : standing w n < mostLive) where
   unfolding carried accepted afterRefusal
   ended-at true = refused-same w z (standing w n) WrongPhase
   ended-at false = record {
-    store = same-store _ _ refl refl refl refl refl (txns-set w z (standing w n) l (w .tables .lists) (withPhase (txnAt w (standing w n)) phase.Ended) (λ j d. refl));
+    store = same-store _ _ refl refl refl refl refl
+        (txns-set w z (standing w n) l (w .tables .lists) (withPhase (txnAt w (standing w n)) phase.Ended) (λ j d. refl));
     answer = refl;
     lent = refl;
-    sized = sized-set w z (standing w n) l _ _ _ _ (sized-phase (standing w n) (txnAt w (standing w n)) phase.Ended (sized-at w z (standing w n))) refl refl refl refl;
+    sized = sized-set w z (standing w n) l _ _ _ _ (sized-phase (standing w n) (txnAt w (standing w n)) phase.Ended (sized-at w z (standing w n))) refl
+        refl refl refl;
   }
 
 -- one pending write more
-module _ (w : Words) (z : Sized w) (p : ℕ) (l : p < mostLive) (x : Write) (a : Asked) (e : accepted (view w) a ≡ gives (does.written (view w) p (writeView x)) machine.Done) where
+module _ (w : Words) (z : Sized w) (p : ℕ) (l : p < mostLive) (x : Write) (a : Asked)
+    (e : accepted (view w) a ≡ gives (does.written (view w) p (writeView x)) machine.Done) where
   written-at : (b m c d : Bool) → leb mostWrites (txnAt w p .«writes_n») ≡ d
       → SameAt w p
       (inLists
@@ -83,7 +97,10 @@ module _ (w : Words) (z : Sized w) (p : ℕ) (l : p < mostLive) (x : Write) (a :
       (cond m (record { reply = refusedOf (txnAt w p) (refusalNumber Marked); lists = w .tables .lists })
       (cond c (record { reply = refusedOf (txnAt w p) (refusalNumber NoRow); lists = w .tables .lists })
       (cond d (record { reply = refusedOf (txnAt w p) (refusalNumber ManyWrites); lists = w .tables .lists })
-      (record { reply = record { answer = tell.Done; txn = withWrites (txnAt w p) (txnAt w p .«writes_n» + 1) }; lists = stored lists.writes (w .tables .lists) (txnAt w p .slot) (txnAt w p .«writes_n») (writeWords x) })))))
+      (record {
+        reply = record { answer = tell.Done; txn = withWrites (txnAt w p) (txnAt w p .«writes_n» + 1) };
+        lists = stored lists.writes (w .tables .lists) (txnAt w p .slot) (txnAt w p .«writes_n») (writeWords x);
+      })))))
       (w .clock) (w .used) (w .tables))
       (carried (view w) a (cond b (some WrongPhase) (cond m (some Marked) (cond c (some NoRow) (cond d (some ManyWrites) none)))))
   unfolding carried afterRefusal
@@ -101,7 +118,16 @@ module _ (w : Words) (z : Sized w) (p : ℕ) (l : p < mostLive) (x : Write) (a :
             ∙ ap (λ (y : model.Txn). update (view w .txns) p y) (written-view (w .tables .lists) p (txnAt w p) s l (z .lists) k x));
         answer = refl;
         lent = refl;
-        sized = sized-set w z p l _ _ _ _ (record { slot = s .slot; active = s .active; seven = s .seven; reads = s .reads; writes = omega arith; records = s .records; candidates = s .candidates }) refl refl refl (length-sets (w .tables .lists) _ (writeWords x));
+        sized = sized-set w z p l _ _ _ _
+            (record {
+              slot = s .slot;
+              active = s .active;
+              seven = s .seven;
+              reads = s .reads;
+              writes = omega arith;
+              records = s .records;
+              candidates = s .candidates;
+            }) refl refl refl (length-sets (w .tables .lists) _ (writeWords x));
       })
 
 -- the number stops being active

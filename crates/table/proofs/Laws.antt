@@ -50,7 +50,8 @@ module _ (w k : ℕ) (xs : List ℕ) (i v : ℕ) where
 
   pub field-other : (m : ℕ) → m ≢ k → (j : ℕ) → m < w → k < w → field w m (setField w k xs i v) j ≡ field w m xs j
   unfolding field setField
-  field-other m d j hm hk = getD-set-other xs (w * i + k) (w * j + m) v 0 (elim (ℕ-discrete j i) [ yes e ↦ (λ q. d (omega (arith, rw e at q))) | no n ↦ apart w j i m k hm hk n ])
+  field-other m d j hm hk =
+      getD-set-other xs (w * i + k) (w * j + m) v 0 (elim (ℕ-discrete j i) [ yes e ↦ (λ q. d (omega (arith, rw e at q))) | no n ↦ apart w j i m k hm hk n ])
 
   pub entry-other : (m j : ℕ) → m < w → k < w → j ≢ i → field w m (setField w k xs i v) j ≡ field w m xs j
   unfolding field setField

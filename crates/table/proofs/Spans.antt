@@ -37,7 +37,12 @@ words-kept w a xs at vs h =
 pub words-stored : (w a : ℕ) (xs vs : List ℕ) → length vs ≡ w → a + w ≤ length xs → words w a (sets xs a vs) ≡ vs
 unfolding words
 words-stored w a xs vs e h =
-    rw (sets-eq vs xs a (omega arith), append-assoc, drop-at (take a xs) (vs ++ drop (a + length vs) xs) a (length-take-le a xs (omega arith)), take-at vs (drop (a + length vs) xs) w e)
+    rw (
+      sets-eq vs xs a (omega arith),
+      append-assoc,
+      drop-at (take a xs) (vs ++ drop (a + length vs) xs) a (length-take-le a xs (omega arith)),
+      take-at vs (drop (a + length vs) xs) w e,
+    )
 
 module _ {A : Type 0} (f : List ℕ → A) (w b : ℕ) (xs : List ℕ) where
   pub list-next : (n : ℕ) → listOf f w b xs (n + 1) ≡ listOf f w b xs n ++ (f (words w (b + w * n) xs) ∷ [])
@@ -59,17 +64,22 @@ module _ {A : Type 0} (f : List ℕ → A) (w b : ℕ) (xs : List ℕ) where
 
   -- one entry of a walk from the front
   pub list-drop : (n i : ℕ) → A → i < n → drop i (listOf f w b xs n) ≡ f (words w (b + w * i) xs) ∷ drop (i + 1) (listOf f w b xs n)
-  list-drop n i d h = let l : i < length (listOf f w b xs n) = omega (arith, list-length n) in rw (add-one) (drop-cons (listOf f w b xs n) i d l ∙ rw (list-at n i d h))
+  list-drop n i d h = let l : i < length (listOf f w b xs n) = omega (arith, list-length n) in
+      rw (add-one) (drop-cons (listOf f w b xs n) i d l ∙ rw (list-at n i d h))
 
   -- a store elsewhere
   pub list-kept : (n at : ℕ) (vs : List ℕ) → Clear b (w * n) at (length vs) → listOf f w b (sets xs at vs) n ≡ listOf f w b xs n
   unfolding listOf
   list-kept zero at vs h = refl
   list-kept (suc n) at vs h =
-      rw (list-kept n at vs (⊎-elim (λ p. inl (omega (arith, mul-suc w n))) (λ p. inr p) h), words-kept w (b + w * n) xs at vs (⊎-elim (λ p. inl (omega (arith, mul-suc w n))) (λ p. inr (omega arith)) h))
+      rw (
+        list-kept n at vs (⊎-elim (λ p. inl (omega (arith, mul-suc w n))) (λ p. inr p) h),
+        words-kept w (b + w * n) xs at vs (⊎-elim (λ p. inl (omega (arith, mul-suc w n))) (λ p. inr (omega arith)) h),
+      )
 
   -- an entry stored behind the last is appended
-  pub list-stored : (n : ℕ) (vs : List ℕ) → length vs ≡ w → b + w * n + w ≤ length xs → listOf f w b (sets xs (b + w * n) vs) (n + 1) ≡ listOf f w b xs n ++ (f vs ∷ [])
+  pub list-stored : (n : ℕ) (vs : List ℕ) → length vs ≡ w → b + w * n + w ≤ length xs
+      → listOf f w b (sets xs (b + w * n) vs) (n + 1) ≡ listOf f w b xs n ++ (f vs ∷ [])
   unfolding listOf
   list-stored n vs e h = rw (add-one, list-kept n (b + w * n) vs (inl (omega arith)), words-stored w (b + w * n) xs vs e h)
 

@@ -38,7 +38,8 @@ module _ {A : Type 0} (f : List ℕ → A) (k l : Kind) (xs : List ℕ) (s i n :
       (elim (decLt t s) [ yes p ↦ inl (omega arith) | no p ↦ let q : s < t = omega (arith, d) in inr (omega arith) ])
 
 -- in a slice with room for every slot, an entry stored behind the last is appended
-pub same-list : {A : Type 0} (f : List ℕ → A) (k : Kind) (xs : List ℕ) (s i : ℕ) (vs : List ℕ) → length vs ≡ k .w → i < k .room → Within k → s < mostLive → listsWords ≤ length xs
+pub same-list : {A : Type 0} (f : List ℕ → A) (k : Kind) (xs : List ℕ) (s i : ℕ) (vs : List ℕ) → length vs ≡ k .w → i < k .room → Within k → s < mostLive
+    → listsWords ≤ length xs
     → listAt f k (stored k xs s i vs) s (i + 1) ≡ listAt f k xs s i ++ (f vs ∷ [])
 same-list f k xs s i vs e hi ik hs h = let a = entry-end (k .w) i (k .room) hi in list-stored f (k .w) (startOf k s) xs i vs e (omega arith)
 

@@ -57,7 +57,8 @@ module _ (input : List ℕ) (bucketCount : ℕ) (old : List ℕ) (r : Canonical)
       → (n ≡ length (bucketsOf input)) × (take n new ≡ bucketsOf input) × (drop n new ≡ drop n old)
   sorted-front n e h = by-case _ front e
     where
-      front : (check : Check) → Case input bucketCount old r new check → (n ≡ length (bucketsOf input)) × (take n new ≡ bucketsOf input) × (drop n new ≡ drop n old)
+      front : (check : Check) → Case input bucketCount old r new check
+          → (n ≡ length (bucketsOf input)) × (take n new ≡ bucketsOf input) × (drop n new ≡ drop n old)
       front (BadBucket bad) k = other-case (Sorted n) (Bad bad) h (ap answer-of (k .1)) (λ z. cc)
       front ShortPlace k = other-case (Sorted n) NoRoom h (ap answer-of (k .1)) (λ z. cc)
       front Fine k =

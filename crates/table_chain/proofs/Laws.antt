@@ -43,7 +43,8 @@ module _ (versions active : List ℕ) (xmax : ℕ) where
   pub walk-step : (p : ℕ) → walkFrom versions active xmax p ≡ stepFrom versions active xmax (walkFrom versions active xmax) p
   unfolding walkFrom walkFor
   walk-step zero = sym (step-zero (λ q. walkFor versions active xmax q q))
-  walk-step (suc k) = step-agrees (walkFor versions active xmax k) (λ q. walkFor versions active xmax q q) (suc k) (λ q l. steps-enough k q q (omega arith) (omega arith))
+  walk-step (suc k) = step-agrees (walkFor versions active xmax k) (λ q. walkFor versions active xmax q q) (suc k)
+      (λ q l. steps-enough k q q (omega arith) (omega arith))
 
 -- none is no pointer
 none-is-none : (q : ℕ) → _≡_ {A = Pointer} Nothing (At q) → ⊥
@@ -53,10 +54,14 @@ none-is-none q e = let z : _≡_ {A = ℕ} 0 1 = cc in omega arith
 module _ (versions : List ℕ) (used : ℕ) (s : Snapshot) where
   known-below : (p q : ℕ) → q < p → known versions used p ≡ true → known versions used q ≡ true
   known-below p q l k =
-      rw (le-leb q used (omega (arith, leb-true p used (and-l (leb p used) _ k))), lt-ltb q (length versions / versionWords) (omega (arith, ltb-true p (length versions / versionWords) (and-r (leb p used) _ k))))
+      rw (
+        le-leb q used (omega (arith, leb-true p used (and-l (leb p used) _ k))),
+        lt-ltb q (length versions / versionWords) (omega (arith, ltb-true p (length versions / versionWords) (and-r (leb p used) _ k))),
+      )
 
   -- one step, by the outcome of each test
-  step-by : (p : ℕ) (k z v f : Bool) → known versions used p ≡ k → eqb p 0 ≡ z → visibleTo (activeOf s) (s .xmax) (xminOf versions p) (xmaxOf versions p) ≡ v → ltb (nextOf versions p) p ≡ f
+  step-by : (p : ℕ) (k z v f : Bool) → known versions used p ≡ k → eqb p 0 ≡ z → visibleTo (activeOf s) (s .xmax) (xminOf versions p) (xmaxOf versions p)
+      ≡ v → ltb (nextOf versions p) p ≡ f
       → firstVisible versions used s p ≡ cond (k && not z) (cond v (At p) (cond f (firstVisible versions used s (nextOf versions p)) Nothing)) Nothing
   unfolding firstVisible stepFrom
   step-by p false z v f ek ez ev ef = rw ek
@@ -78,7 +83,8 @@ module _ (versions : List ℕ) (used : ℕ) (s : Snapshot) where
     pub is-known : known versions used q ≡ true
     pub is-visible : visibleTo (activeOf s) (s .xmax) (xminOf versions q) (xmaxOf versions q) ≡ true
 
-  answered-by : (p q : ℕ) (k z v f : Bool) → known versions used p ≡ k → eqb p 0 ≡ z → visibleTo (activeOf s) (s .xmax) (xminOf versions p) (xmaxOf versions p) ≡ v → ltb (nextOf versions p) p ≡ f
+  answered-by : (p q : ℕ) (k z v f : Bool) → known versions used p ≡ k → eqb p 0 ≡ z
+      → visibleTo (activeOf s) (s .xmax) (xminOf versions p) (xmaxOf versions p) ≡ v → ltb (nextOf versions p) p ≡ f
       → (nextOf versions p < p → firstVisible versions used s (nextOf versions p) ≡ At q → Answered q)
       → cond (k && not z) (cond v (At p) (cond f (firstVisible versions used s (nextOf versions p)) Nothing)) Nothing ≡ At q → Answered q
   answered-by p q false z v f ek ez ev ef rest e = absurd (none-is-none q e)
@@ -89,9 +95,11 @@ module _ (versions : List ℕ) (used : ℕ) (s : Snapshot) where
 
   answered-upto : (n p q : ℕ) → p ≤ n → firstVisible versions used s p ≡ At q → Answered q
   answered-upto zero p q h e =
-      answered-by p q (known versions used p) (eqb p 0) _ (ltb (nextOf versions p) p) refl refl refl refl (λ l r. absurd (omega arith)) (sym (first-visible-step p) ∙ e)
+      answered-by p q (known versions used p) (eqb p 0) _ (ltb (nextOf versions p) p) refl refl refl refl (λ l r. absurd (omega arith))
+      (sym (first-visible-step p) ∙ e)
   answered-upto (suc n) p q h e =
-      answered-by p q (known versions used p) (eqb p 0) _ (ltb (nextOf versions p) p) refl refl refl refl (λ l r. answered-upto n (nextOf versions p) q (omega arith) r) (sym (first-visible-step p) ∙ e)
+      answered-by p q (known versions used p) (eqb p 0) _ (ltb (nextOf versions p) p) refl refl refl refl
+      (λ l r. answered-upto n (nextOf versions p) q (omega arith) r) (sym (first-visible-step p) ∙ e)
 
   pub first-visible-answered : (p q : ℕ) → firstVisible versions used s p ≡ At q → Answered q
   first-visible-answered p q e = answered-upto p p q (omega arith) e

@@ -43,7 +43,12 @@ unknown p = go (known versions 1 (suc (suc p))) refl
 
 pub taken : Taken 5 s
 unfolding member
-taken = record { below = omega arith; apart = refl; least-own = omega arith; least-active = λ n e. ⊎-elim (λ d. omega (arith, eqb-true n 3 d)) (λ d. absurd (false≢true d)) (or-cases (eqb n 3) false e) }
+taken = record {
+  below = omega arith;
+  apart = refl;
+  least-own = omega arith;
+  least-active = λ n e. ⊎-elim (λ d. omega (arith, eqb-true n 3 d)) (λ d. absurd (false≢true d)) (or-cases (eqb n 3) false e);
+}
 
 pub falls : (p : ℕ) → p ≢ 0 → known versions 1 p ≡ true → nextOf versions p < p
 unfolding field

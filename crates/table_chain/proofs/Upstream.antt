@@ -53,27 +53,39 @@ module _ (own : ℕ) (s : Snapshot) (t : Taken own s) where
   ]
 
   -- `visible` is the same of every version but one that the own number made and a seen number ended
-  pub visible-same : (xminᵥ xmaxᵥ : ℕ) → (xminᵥ ≡ own → (xmaxᵥ ≡ 0) ⊎ (seenBy (activeOf s) (s .xmax) xmaxᵥ ≡ false)) → rowVisible own s xminᵥ xmaxᵥ ≡ visibleTo (activeOf s) (s .xmax) xminᵥ xmaxᵥ
+  pub visible-same : (xminᵥ xmaxᵥ : ℕ) → (xminᵥ ≡ own → (xmaxᵥ ≡ 0) ⊎ (seenBy (activeOf s) (s .xmax) xmaxᵥ ≡ false))
+      → rowVisible own s xminᵥ xmaxᵥ ≡ visibleTo (activeOf s) (s .xmax) xminᵥ xmaxᵥ
   visible-same xminᵥ xmaxᵥ h = elim (ℕ-discrete xminᵥ own) [
-    | yes e ↦ ⊎-elim (λ z. rw (e, eq-eqb own own refl, own-seen, eq-eqb xmaxᵥ 0 z)) (λ z. rw (e, eq-eqb own own refl, own-seen) (sym (rw z (or-true (eqb xmaxᵥ 0))))) (h e)
+    | yes e ↦ ⊎-elim (λ z. rw (e, eq-eqb own own refl, own-seen, eq-eqb xmaxᵥ 0 z))
+        (λ z. rw (e, eq-eqb own own refl, own-seen) (sym (rw z (or-true (eqb xmaxᵥ 0))))) (h e)
     | no d ↦ rw (creator-visible-is-seen xminᵥ, not-ended xmaxᵥ, ne-eqb xminᵥ own d)
   ]
 
   -- such a version upstream still sees, and document 01 does not
-  pub visible-differs : (xmaxᵥ : ℕ) → xmaxᵥ ≢ 0 → seenBy (activeOf s) (s .xmax) xmaxᵥ ≡ true → (rowVisible own s own xmaxᵥ ≡ true) × (visibleTo (activeOf s) (s .xmax) own xmaxᵥ ≡ false)
+  pub visible-differs : (xmaxᵥ : ℕ) → xmaxᵥ ≢ 0 → seenBy (activeOf s) (s .xmax) xmaxᵥ ≡ true
+      → (rowVisible own s own xmaxᵥ ≡ true) × (visibleTo (activeOf s) (s .xmax) own xmaxᵥ ≡ false)
   visible-differs xmaxᵥ d e = (rw (eq-eqb own own refl), rw (own-seen, ne-eqb xmaxᵥ 0 d, e))
 
 -- `first_visible`: whatever unrolls as upstream's does, where pointers fall and no version is of the kind that differs, is `firstVisible`
 module _ (own : ℕ) (s : Snapshot) (t : Taken own s) (versions : List ℕ) (used : ℕ)
     (falls : (p : ℕ) → p ≢ 0 → known versions used p ≡ true → nextOf versions p < p)
-    (kept : (p : ℕ) → known versions used p ≡ true → xminOf versions p ≡ own → (xmaxOf versions p ≡ 0) ⊎ (seenBy (activeOf s) (s .xmax) (xmaxOf versions p) ≡ false))
+    (kept : (p : ℕ) → known versions used p ≡ true → xminOf versions p ≡ own
+    → (xmaxOf versions p ≡ 0) ⊎ (seenBy (activeOf s) (s .xmax) (xmaxOf versions p) ≡ false))
     (first : ℕ → Pointer) (unrolls : (p : ℕ) → first p ≡ chainStep own versions used s first p) where
-  step-same : (p : ℕ) (k z : Bool) → known versions used p ≡ k → eqb p 0 ≡ z → ((q : ℕ) → q < p → first q ≡ firstVisible versions used s q) → chainStep own versions used s first p ≡ firstVisible versions used s p
+  step-same : (p : ℕ) (k z : Bool) → known versions used p ≡ k → eqb p 0 ≡ z → ((q : ℕ) → q < p → first q ≡ firstVisible versions used s q)
+      → chainStep own versions used s first p ≡ firstVisible versions used s p
   step-same p k true ek ez rest = rw (first-visible-step versions used s p, ez, and-false)
   step-same p false false ek ez rest = rw (first-visible-step versions used s p, ek, ez)
   step-same p true false ek ez rest =
       let l = falls p (eqb-false p 0 ez) ek in
-      rw (first-visible-step versions used s p, ek, ez, visible-same own s t (xminOf versions p) (xmaxOf versions p) (kept p ek), lt-ltb (nextOf versions p) p l, rest (nextOf versions p) l)
+      rw (
+        first-visible-step versions used s p,
+        ek,
+        ez,
+        visible-same own s t (xminOf versions p) (xmaxOf versions p) (kept p ek),
+        lt-ltb (nextOf versions p) p l,
+        rest (nextOf versions p) l,
+      )
 
   same-upto : (k p : ℕ) → p ≤ k → first p ≡ firstVisible versions used s p
   same-upto zero p h = unrolls p ∙ step-same p (known versions used p) (eqb p 0) refl refl (λ q l. absurd (omega arith))

@@ -27,7 +27,9 @@ pick-last test k (suc n) = rw (pick-last test (suc k) n, ← e) (by (test k))
     e : k + suc n ≡ suc k + n
     e = omega arith
 
-    by : (b : Bool) → cond b (k ∷ (pick test (suc k) n ++ cond (test (k + suc n)) ((k + suc n) ∷ []) [])) (pick test (suc k) n ++ cond (test (k + suc n)) ((k + suc n) ∷ []) []) ≡ cond b (k ∷ pick test (suc k) n) (pick test (suc k) n) ++ cond (test (k + suc n)) ((k + suc n) ∷ []) []
+    by : (b : Bool) → cond b (k ∷ (pick test (suc k) n ++ cond (test (k + suc n)) ((k + suc n) ∷ []) []))
+        (pick test (suc k) n ++ cond (test (k + suc n)) ((k + suc n) ∷ []) []) ≡ cond b (k ∷ pick test (suc k) n) (pick test (suc k) n)
+        ++ cond (test (k + suc n)) ((k + suc n) ∷ []) []
     by true = refl
     by false = refl
 
@@ -57,7 +59,8 @@ module _ (rows : List ℕ) (key slot row : ℕ) (lists₀ : List ℕ) where
       rw (e, length-append, sets-last, at)
   by-test false e = rw (e, append-nil)
 
-  pub keep-turn : keepOne rows key slot row (record { n = length (pick (postedWith rows key) 0 row); lists = keptIn lists₀ slot (pick (postedWith rows key) 0 row) })
+  pub keep-turn : keepOne rows key slot row
+      (record { n = length (pick (postedWith rows key) 0 row); lists = keptIn lists₀ slot (pick (postedWith rows key) 0 row) })
       ≡ record { n = length (pick (postedWith rows key) 0 (row + 1)); lists = keptIn lists₀ slot (pick (postedWith rows key) 0 (row + 1)) }
   unfolding kept up-to
   keep-turn = rw (pick-next) (by-test (postedWith rows key row) refl)

@@ -22,7 +22,8 @@ fn posted_with(rows: &[u64], row: u32, key: u64) -> bool
 
 // Keeps the rows posted with the key, and tells how many they are.
 pub fn keep_posted(rows: &[u64], lists: &mut [u64], slot: u32, row_count: u64, key: u64) -> u32
-    ensures { λ r. ⌜ (r ≡ length (postedUpTo (now (rows .entry)) key «row_count»)) × (now (lists .exit) ≡ keptIn (now (lists .entry)) slot (postedUpTo (now (rows .entry)) key «row_count»)) ⌝ }
+    ensures { λ r. ⌜ (r ≡ length (postedUpTo (now (rows .entry)) key «row_count»))
+        × (now (lists .exit) ≡ keptIn (now (lists .entry)) slot (postedUpTo (now (rows .entry)) key «row_count»)) ⌝ }
 {
     let most = lesser_u64(row_count, MOST_ROWS as u64) as u32;
     let mut n: u32 = 0;

@@ -80,7 +80,8 @@ module _ {A : Type 0} (g : A → ℕ) (f : List ℕ → A) (k : Kind) (xs : List
 
   -- a walk up and a walk down such a list, where v is read at entry i
   module _ (i v x : ℕ) (e : v ≡ g (entryAt f k xs s i)) (h : i < n) where
-    pub fields-first : firstFrom i (drop i (map g (listAt f k xs s n))) x ≡ cond (eqb v x) (At i) (firstFrom (i + 1) (drop (i + 1) (map g (listAt f k xs s n))) x)
+    pub fields-first : firstFrom i (drop i (map g (listAt f k xs s n))) x
+        ≡ cond (eqb v x) (At i) (firstFrom (i + 1) (drop (i + 1) (map g (listAt f k xs s n))) x)
     fields-first = let l : i < length (map g (listAt f k xs s n)) = omega (arith, fields-length) in
         first-next (map g (listAt f k xs s n)) i x l ∙ rw (fields-at i h, e)
 

@@ -47,11 +47,15 @@ absent-cons y ys x n d a (suc j) h = a j (omega arith)
 
 first-cons : (k y : ℕ) (ys : List ℕ) (x i : ℕ) (b : Bool) → eqb y x ≡ b → (firstFrom (suc k) ys x ≡ At i → (j : ℕ) × (i ≡ suc k + j) × First ys x j)
     → cond b (At k) (firstFrom (suc k) ys x) ≡ At i → (j : ℕ) × (i ≡ k + j) × First (y ∷ ys) x j
-first-cons k y ys x i true t rest e = let q : k ≡ i = cc in (0, omega arith, record { below = omega arith; holds = eqb-true y x t; before = λ j h. absurd (omega arith) })
+first-cons k y ys x i true t rest e = let q : k ≡ i = cc in
+    (0, omega arith, record { below = omega arith; holds = eqb-true y x t; before = λ j h. absurd (omega arith) })
 first-cons k y ys x i false t rest e =
     let r = rest e in
-    let f = r .2 in
-    (suc (r .0), omega (arith, r .1), record { below = omega (arith, f .below); holds = f .holds; before = absent-cons y ys x (r .0) (eqb-false y x t) (f .before) })
+    let f = r .2 in (
+      suc (r .0),
+      omega (arith, r .1),
+      record { below = omega (arith, f .below); holds = f .holds; before = absent-cons y ys x (r .0) (eqb-false y x t) (f .before) },
+    )
 
 first-from : (k : ℕ) (l : List ℕ) (x i : ℕ) → firstFrom k l x ≡ At i → (j : ℕ) × (i ≡ k + j) × First l x j
 unfolding firstFrom
@@ -77,20 +81,26 @@ module _ (l : List ℕ) (x : ℕ) where
   first-none = first-none-from 0 l x
 
 -- the last place below n
-last-at-cons : (l : List ℕ) (x n i : ℕ) (b : Bool) → eqb (getD l n 0) x ≡ b → (lastBelow l x n ≡ At i → Last l x n i) → cond b (At n) (lastBelow l x n) ≡ At i → Last l x (suc n) i
+last-at-cons : (l : List ℕ) (x n i : ℕ) (b : Bool) → eqb (getD l n 0) x ≡ b → (lastBelow l x n ≡ At i → Last l x n i)
+    → cond b (At n) (lastBelow l x n) ≡ At i → Last l x (suc n) i
 last-at-cons l x n i true t rest e =
     let q : n ≡ i = cc in
     record { below = omega arith; holds = rw (← q) (eqb-true (getD l n 0) x t); after = λ j h k. absurd (omega arith) }
 last-at-cons l x n i false t rest e =
     let f = rest e in
-    record { below = omega (arith, f .below); holds = f .holds; after = λ j h k. elim (ℕ-discrete j n) [ yes q ↦ rw q (eqb-false (getD l n 0) x t) | no q ↦ f .after j h (omega (arith, q)) ] }
+    record {
+      below = omega (arith, f .below);
+      holds = f .holds;
+      after = λ j h k. elim (ℕ-discrete j n) [ yes q ↦ rw q (eqb-false (getD l n 0) x t) | no q ↦ f .after j h (omega (arith, q)) ];
+    }
 
 pub last-at : (l : List ℕ) (x n i : ℕ) → lastBelow l x n ≡ At i → Last l x n i
 unfolding lastBelow
 last-at l x zero i e = absurd (not-both Nothing i e refl)
 last-at l x (suc n) i e = last-at-cons l x n i (eqb (getD l n 0) x) refl (λ q. last-at l x n i q) e
 
-last-none-cons : (l : List ℕ) (x n : ℕ) (b : Bool) → eqb (getD l n 0) x ≡ b → (lastBelow l x n ≡ Nothing → Absent l x n) → cond b (At n) (lastBelow l x n) ≡ Nothing → Absent l x (suc n)
+last-none-cons : (l : List ℕ) (x n : ℕ) (b : Bool) → eqb (getD l n 0) x ≡ b → (lastBelow l x n ≡ Nothing → Absent l x n)
+    → cond b (At n) (lastBelow l x n) ≡ Nothing → Absent l x (suc n)
 last-none-cons l x n true t rest e = absurd (not-both (At n) n refl e)
 last-none-cons l x n false t rest e = λ j h. elim (ℕ-discrete j n) [ yes q ↦ rw q (eqb-false (getD l n 0) x t) | no q ↦ rest e j (omega (arith, q)) ]
 

@@ -31,7 +31,8 @@ active-contains-ensures active n id = (
 
 -- a field of the entries of a slot's list: its first place, its last, none, and whether it has one
 module _ {A : Type 0} (g : A → ℕ) (f : List ℕ → A) (k : Kind) (xs : List ℕ) (s n x : ℕ) where
-  fields-first-at : (i : ℕ) → firstPlace (map g (listAt f k xs s n)) x ≡ At i → (i < n) × (g (entryAt f k xs s i) ≡ x) × ((j : ℕ) → j < i → g (entryAt f k xs s j) ≢ x)
+  fields-first-at : (i : ℕ) → firstPlace (map g (listAt f k xs s n)) x ≡ At i
+      → (i < n) × (g (entryAt f k xs s i) ≡ x) × ((j : ℕ) → j < i → g (entryAt f k xs s j) ≢ x)
   fields-first-at i e =
       let a = first-at (map g (listAt f k xs s n)) x i e in
       let h : i < n = omega (arith, a .below, fields-length g f k xs s n) in
@@ -40,7 +41,8 @@ module _ {A : Type 0} (g : A → ℕ) (f : List ℕ → A) (k : Kind) (xs : List
   fields-first-none : firstPlace (map g (listAt f k xs s n)) x ≡ Nothing → (j : ℕ) → j < n → g (entryAt f k xs s j) ≢ x
   fields-first-none e j h q = first-none (map g (listAt f k xs s n)) x e j (omega (arith, fields-length g f k xs s n)) (fields-at g f k xs s n j h ∙ q)
 
-  fields-last-at : (i : ℕ) → lastPlace (map g (listAt f k xs s n)) x ≡ At i → (i < n) × (g (entryAt f k xs s i) ≡ x) × ((j : ℕ) → i < j → j < n → g (entryAt f k xs s j) ≢ x)
+  fields-last-at : (i : ℕ) → lastPlace (map g (listAt f k xs s n)) x ≡ At i
+      → (i < n) × (g (entryAt f k xs s i) ≡ x) × ((j : ℕ) → i < j → j < n → g (entryAt f k xs s j) ≢ x)
   fields-last-at i e =
       let a = last-at (map g (listAt f k xs s n)) x n i (rw (fields-length g f k xs s n) at e) in
       (a .below, sym (fields-at g f k xs s n i (a .below)) ∙ a .holds, λ j l h q. a .after j l h (fields-at g f k xs s n j h ∙ q))
@@ -70,7 +72,8 @@ module _ (lists : List ℕ) (slot n : ℕ) where
   latest-pending-none row = fields-last-none (λ w. w .row) writeOf writes lists slot (min n mostWrites) row
 
   -- `read_already_recorded`: found <==> exists|i| 0 <= i < reads.len() && reads[i].row_ptr == ptr
-  pub read-already-recorded-ensures : (ptr : ℕ) → (alreadyRecorded lists slot n ptr ≡ true) ↔ ((i : ℕ) × (i < min n mostRecords) × (recordAt lists slot i .ptr ≡ ptr))
+  pub read-already-recorded-ensures : (ptr : ℕ) → (alreadyRecorded lists slot n ptr ≡ true)
+      ↔ ((i : ℕ) × (i < min n mostRecords) × (recordAt lists slot i .ptr ≡ ptr))
   read-already-recorded-ensures ptr = fields-member (λ r. r .ptr) recordOf records lists slot (min n mostRecords) ptr
 
   -- `find_read_prefix`: r.is_some() ==> exists|i| 0 <= i < prior_len && reads[i] == r.unwrap() && bucket, and forall|j| 0 <= j < i ==> another bucket
@@ -79,7 +82,8 @@ module _ (lists : List ℕ) (slot n : ℕ) where
   find-read-prefix-some bucket i e = fields-first-at (λ r. r .bucket) readOf reads lists slot (min n mostIndexReads) bucket i e
 
   -- r.is_none() ==> forall|i| 0 <= i < prior_len ==> another bucket
-  pub find-read-prefix-none : (bucket : ℕ) → readPrefix lists slot n bucket ≡ Nothing → (j : ℕ) → j < min n mostIndexReads → readAt lists slot j .bucket ≢ bucket
+  pub find-read-prefix-none : (bucket : ℕ) → readPrefix lists slot n bucket ≡ Nothing → (j : ℕ) → j < min n mostIndexReads
+      → readAt lists slot j .bucket ≢ bucket
   find-read-prefix-none bucket e j h = fields-first-none (λ r. r .bucket) readOf reads lists slot (min n mostIndexReads) bucket e j h
 
 -- `latest_pending` is upstream's `last_write` over all the writes: some where it is some, and the same
@@ -88,6 +92,8 @@ unfolding lastBelow lastWrite
 last-write-below ws id zero = refl
 last-write-below ws id (suc n) = rw (List·getD-map (λ w. w .row) ws n noWrite, last-write-below ws id n)
 
-pub latest-pending-last-write : (lists : List ℕ) (slot n row : ℕ) → latestPending lists slot n row ≡ lastWrite (writesOf lists slot (min n mostWrites)) row (min n mostWrites)
+pub latest-pending-last-write : (lists : List ℕ) (slot n row : ℕ)
+    → latestPending lists slot n row ≡ lastWrite (writesOf lists slot (min n mostWrites)) row (min n mostWrites)
 latest-pending-last-write lists slot n row =
-    rw (fields-length (λ w. w .row) writeOf writes lists slot (min n mostWrites)) (last-write-below (writesOf lists slot (min n mostWrites)) row (min n mostWrites))
+    rw (fields-length (λ w. w .row) writeOf writes lists slot (min n mostWrites))
+    (last-write-below (writesOf lists slot (min n mostWrites)) row (min n mostWrites))

@@ -45,7 +45,8 @@ unfolding computes
 canonical-buckets-unsorted = apart (3 ∷ 1 ∷ [], 4, 0 ∷ 0 ∷ []) (λ (m : Made). getD (m .out) 0 0) refl
 
 -- the last bad bucket, not the first
-pub canonical-buckets-last-bad : Excludes canonical (λ (input, count, old). answered (checkOf (counted count) (length old) (reverse input)) (bucketsOf input) old)
+pub canonical-buckets-last-bad : Excludes canonical
+    (λ (input, count, old). answered (checkOf (counted count) (length old) (reverse input)) (bucketsOf input) old)
 unfolding computes
 canonical-buckets-last-bad = apart (1 ∷ 9 ∷ 4 ∷ [], 4, []) (λ (m : Made). numberOf (m .answer)) refl
 

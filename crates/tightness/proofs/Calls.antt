@@ -45,7 +45,8 @@ openedOver rows versions buckets lists z clock = record { answer = tell.Done; wo
 pub open-short-is-one : Excludes opens (λ (rows, versions, buckets, lists, z, clock).
     cond (not (canOpen (sizesView z) clock)) (refusedOpen 1 rows versions buckets lists)
     (cond (not (tablesLent rows versions buckets lists z)) (refusedOpen 1 rows versions buckets lists)
-    (openedOver (cleared (rowWords * z .rows) rows) (cleared (versionWords * suc (z .versions)) versions) (cleared (bucketWords * z .buckets) buckets) lists z clock)))
+    (openedOver (cleared (rowWords * z .rows) rows) (cleared (versionWords * suc (z .versions)) versions) (cleared (bucketWords * z .buckets) buckets)
+    lists z clock)))
 unfolding computes
 open-short-is-one = apart nothing (λ (l : Left). numberIn (l .answer)) refl
 
@@ -67,7 +68,18 @@ unfolding computes callOf shapeOf
 call-shape-untested = apart (([], [], [], []), closedOf, ask.End 1) (λ (l : Left). numberIn (l .answer)) refl
 
 -- the step is taken, and its record does not go back to its place
-pub call-record-lost : Excludes calls (λ (l, m, s). record { answer = calls (l, m, s) .answer; words = record { tables = calls (l, m, s) .words .tables; txns = m .txns; sizes = m .sizes; clock = calls (l, m, s) .words .clock; used = calls (l, m, s) .words .used } })
+pub call-record-lost : Excludes calls
+    (λ (l, m, s). record {
+      answer = calls (l, m, s) .answer;
+      words =
+          record {
+            tables = calls (l, m, s) .words .tables;
+            txns = m .txns;
+            sizes = m .sizes;
+            clock = calls (l, m, s) .words .clock;
+            used = calls (l, m, s) .words .used;
+          };
+    })
 unfolding computes callOf
 call-record-lost = apart (lent, machine phase.Open, ask.Begin) (λ (l : Left). getD (l .words .txns) 1 (idleOf 1) .number) (rw (shape phase.Open refl))
 
@@ -80,6 +92,8 @@ unfolding computes shapeOf
 claimed-shape = refl
 
 -- what carries the number of a transaction that ended is freed only where the transaction lists it
-pub call-unswept : Excludes calls (λ (l, m, s). cond (shapeOf (over l m)) (record { answer = movedBy (over l m) s .stepped .answer; words = wordsAfter (over l m) s }) (record { answer = tell.Refused 16; words = over l m }))
+pub call-unswept : Excludes calls
+    (λ (l, m, s). cond (shapeOf (over l m)) (record { answer = movedBy (over l m) s .stepped .answer; words = wordsAfter (over l m) s })
+    (record { answer = tell.Refused 16; words = over l m }))
 unfolding computes callOf
 call-unswept = apart (claimed, machine phase.Open, ask.Abort 1) (λ (l : Left). getD (l .words .tables .rows) 1 0) (rw claimed-shape)

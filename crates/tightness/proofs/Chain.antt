@@ -71,6 +71,7 @@ unfolding computes
 first-visible-active = apart (versions₂, 2, threeActive 6, 1) pointerIn refl
 
 -- `first_visible`: xmin is trusted, so that no active number below it is looked up
-pub first-visible-xmin-trusted : Excludes first (λ (versions, used, s, p). cond (known versions used p) (pointer (walkFrom versions (fromXmin s) (s .xmax) p)) Nothing)
+pub first-visible-xmin-trusted : Excludes first
+    (λ (versions, used, s, p). cond (known versions used p) (pointer (walkFrom versions (fromXmin s) (s .xmax) p)) Nothing)
 unfolding computes
 first-visible-xmin-trusted = apart (versions₂, 2, threeBelow 6, 1) pointerIn refl

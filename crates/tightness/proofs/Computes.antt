@@ -35,5 +35,11 @@ use Rattle.report_lines.specs.Lines.{writtenAt}
 
 -- all but `shapeOf` and `callOf`: what tests the shape of a whole store is opened where it is spoken of
 unfoldable pub computes : Unit {0}
-unfolding model.computes log.number log.widths log.total log.whole log.readRecord digitsStep digitsFor decimal spaced line writeThen turn replayFor replayFrom replay field setField setFields clearFields words listOf canonicalOf firstFrom lastBelow stepFrom walkFor walkFrom firstVisible holdOf captureAt writeOf collectOf missesOf placeFrom liveFrom versionKey oldKeyOf newKeyOf getsVersionOf headedBy pushOne pushAll bucketsFor writeNeeds writeChanges firstWhere oneMore rowsListed pendingInto kept versionsInto lastWriteOf versionStored pushedRow pushedRows toInstall installOf readsTakenIn validateOf versionsIn reservedIn lacks neededInto prepareWith prepareOf endOf postedOne postedAll stampedIn neededIn freedIn publishOf abortOf keepActive keepAll snapshotOf spent beginOf matchOf only planned recordsFor putRecords recordedOf matchedRows newRecords readingOf rowsOf releaseEvery unclaimEvery publishStep stepOf placeFor movedBy rangesFit headsFit txnFits placeFits tablesFit sweptFor cleared openOf decodedOf writtenAt
+unfolding model.computes log.number log.widths log.total log.whole log.readRecord digitsStep digitsFor decimal spaced line writeThen turn replayFor
+    replayFrom replay field setField setFields clearFields words listOf canonicalOf firstFrom lastBelow stepFrom walkFor walkFrom firstVisible holdOf
+    captureAt writeOf collectOf missesOf placeFrom liveFrom versionKey oldKeyOf newKeyOf getsVersionOf headedBy pushOne pushAll bucketsFor writeNeeds
+    writeChanges firstWhere oneMore rowsListed pendingInto kept versionsInto lastWriteOf versionStored pushedRow pushedRows toInstall installOf
+    readsTakenIn validateOf versionsIn reservedIn lacks neededInto prepareWith prepareOf endOf postedOne postedAll stampedIn neededIn freedIn publishOf
+    abortOf keepActive keepAll snapshotOf spent beginOf matchOf only planned recordsFor putRecords recordedOf matchedRows newRecords readingOf rowsOf
+    releaseEvery unclaimEvery publishStep stepOf placeFor movedBy rangesFit headsFit txnFits placeFits tablesFit sweptFor cleared openOf decodedOf writtenAt
 computes = tt

@@ -22,7 +22,8 @@ use Rattle.tightness.proofs.Computes.{computes}
 use Rattle.tightness.proofs.Small.{live, writer, erases, puts, headed, keyedBy, sizes}
 
 -- `counts_fit`: the pending writes are not counted
-pub counts-fit-writes-untested : Excludes countsFit (λ t. leb (t .«reads_n») mostIndexReads && leb (t .«records_n») mostRecords && leb (t .«candidates_n») mostRows)
+pub counts-fit-writes-untested : Excludes countsFit
+    (λ t. leb (t .«reads_n») mostIndexReads && leb (t .«records_n») mostRecords && leb (t .«candidates_n») mostRows)
 counts-fit-writes-untested = apart (withWrites (live 1 phase.Open) 17) bit refl
 
 -- `counts_fit`: a list may not be full
@@ -59,6 +60,7 @@ unfolding computes
 place-fits-nothing-headed = apart ([], [], erases, sizes, 2, 0, writer phase.Installed) bit refl
 
 -- `place_fits`: an erase may have any head
-pub place-fits-erase-any-head : Excludes fits (rowsTested (λ rows versions lists t r. headedBy rows versions (t .number) r || eqb (newKeyOf lists (t .slot) (t .«writes_n») r .keyed) 0))
+pub place-fits-erase-any-head : Excludes fits
+    (rowsTested (λ rows versions lists t r. headedBy rows versions (t .number) r || eqb (newKeyOf lists (t .slot) (t .«writes_n») r .keyed) 0))
 unfolding computes
 place-fits-erase-any-head = apart (headed, keyedBy 3, erases, sizes, 4, 1, writer phase.Installed) bit refl

@@ -57,7 +57,8 @@ unfolding computes
 key-of-version-0-read = apart (0 ∷ 0 ∷ 0 ∷ 1 ∷ 0 ∷ 0 ∷ [], 0) keyed refl
 
 -- `key_of_version`: the payload for the key
-pub key-of-version-payload : Excludes keyOfVersion (λ (versions, p). cond (eqb p 0) noKey (record { keyed = fields.keyedOf versions p; key = fields.payloadOf versions p }))
+pub key-of-version-payload : Excludes keyOfVersion
+    (λ (versions, p). cond (eqb p 0) noKey (record { keyed = fields.keyedOf versions p; key = fields.payloadOf versions p }))
 unfolding computes
 key-of-version-payload = apart (chain 6, 2) key refl
 
@@ -119,12 +120,14 @@ unfolding computes
 gets-version-puts-only = apart (row, chain 6, erases, 0, 1, 0) bit refl
 
 -- `gets_version`: an erased head is live
-pub gets-version-any-head : Excludes getsVersion (λ (rows, versions, lists, slot, n, r). leb 1 (fields.headOf rows r) || not (eqb (newKeyOf lists slot n r .keyed) 0))
+pub gets-version-any-head : Excludes getsVersion
+    (λ (rows, versions, lists, slot, n, r). leb 1 (fields.headOf rows r) || not (eqb (newKeyOf lists slot n r .keyed) 0))
 unfolding computes
 gets-version-any-head = apart (headed, erasedBy 3, erases, 0, 1, 0) bit refl
 
 -- `gets_version`: a live row is judged by the version under its head
-pub gets-version-under-head : Excludes getsVersion (λ (rows, versions, lists, slot, n, r). not (eqb (oldKeyOf rows versions true r .keyed) 0) || not (eqb (newKeyOf lists slot n r .keyed) 0))
+pub gets-version-under-head : Excludes getsVersion
+    (λ (rows, versions, lists, slot, n, r). not (eqb (oldKeyOf rows versions true r .keyed) 0) || not (eqb (newKeyOf lists slot n r .keyed) 0))
 unfolding computes
 gets-version-under-head = apart (headed, keyedBy 3, erases, 0, 1, 0) bit refl
 
@@ -187,29 +190,37 @@ unfolding computes
 push-reads-last-missed = apart (1 ∷ 4 ∷ [], 0, 1, 0 ∷ [], 0) count refl
 
 -- `push_writes`: the old key's bucket is not needed
-pub push-writes-new-key-only : Excludes pushWrites (λ (rows, versions, lists, buckets, installed, slot, writes, out, n). pushed out n (join (λ r. bucketsFor buckets (newKeyOf lists slot writes r)) (rowsWritten lists slot writes)))
+pub push-writes-new-key-only : Excludes pushWrites
+    (λ (rows, versions, lists, buckets, installed, slot, writes, out, n). pushed out n
+    (join (λ r. bucketsFor buckets (newKeyOf lists slot writes r)) (rowsWritten lists slot writes)))
 unfolding computes
 push-writes-new-key-only = apart (row, chain 6, twice, 4, true, 0, 2, room, 0) count refl
 
 -- `push_writes`: a write that keeps its key needs no bucket
-pub push-writes-changed-only : Excludes pushWrites (λ (rows, versions, lists, buckets, installed, slot, writes, out, n). pushChanges (rows, versions, lists, buckets, 2, slot, writes, out, n))
+pub push-writes-changed-only : Excludes pushWrites
+    (λ (rows, versions, lists, buckets, installed, slot, writes, out, n). pushChanges (rows, versions, lists, buckets, 2, slot, writes, out, n))
 unfolding computes
 push-writes-changed-only = apart (row, chain 7, twice, 4, true, 0, 2, room, 0) count refl
 
 -- `push_changes`: a write that keeps its key changes its bucket
-pub push-changes-kept-key-too : Excludes pushChanges (λ (rows, versions, lists, buckets, number, slot, writes, out, n). pushWrites (rows, versions, lists, buckets, true, slot, writes, out, n))
+pub push-changes-kept-key-too : Excludes pushChanges
+    (λ (rows, versions, lists, buckets, number, slot, writes, out, n). pushWrites (rows, versions, lists, buckets, true, slot, writes, out, n))
 unfolding computes
 push-changes-kept-key-too = apart (row, chain 7, twice, 4, 2, 0, 2, room, 0) count refl
 
 -- `push_changes`: the new key's bucket alone
 pub push-changes-new-key-only : Excludes pushChanges
-    (λ (rows, versions, lists, buckets, number, slot, writes, out, n). pushed out n (join (λ r. cond (sameKey (oldKeyOf rows versions true r, newKeyOf lists slot writes r)) [] (bucketsFor buckets (newKeyOf lists slot writes r))) (rowsWritten lists slot writes)))
+    (λ (rows, versions, lists, buckets, number, slot, writes, out, n). pushed out n
+    (join (λ r. cond (sameKey (oldKeyOf rows versions true r, newKeyOf lists slot writes r)) [] (bucketsFor buckets (newKeyOf lists slot writes r)))
+    (rowsWritten lists slot writes)))
 unfolding computes
 push-changes-new-key-only = apart (row, chain 6, twice, 4, 2, 0, 2, room, 0) count refl
 
 -- `push_changes`: a row that got no version too
 pub push-changes-unmade-too : Excludes pushChanges
-    (λ (rows, versions, lists, buckets, number, slot, writes, out, n). pushed out n (join (λ r. cond (sameKey (oldKeyOf rows versions true r, newKeyOf lists slot writes r)) [] (writeNeeds rows versions lists buckets true slot writes r)) (rowsWritten lists slot writes)))
+    (λ (rows, versions, lists, buckets, number, slot, writes, out, n). pushed out n
+    (join (λ r. cond (sameKey (oldKeyOf rows versions true r, newKeyOf lists slot writes r)) []
+    (writeNeeds rows versions lists buckets true slot writes r)) (rowsWritten lists slot writes)))
 unfolding computes
 push-changes-unmade-too = apart (row, chain 6, erases, 4, 5, 0, 1, room, 0) count refl
 
@@ -258,12 +269,14 @@ abbrev claim₀ : List ℕ → ℕ
 claim₀ xs = getD xs 1 0
 
 -- `any_claimed`: the number's own rows count
-pub any-claimed-own : Excludes anyClaimed (λ (rows, lists, slot, writes, number). some-of (λ r. not (eqb (fields.claimOf rows r) 0)) (rowsWritten lists slot writes))
+pub any-claimed-own : Excludes anyClaimed
+    (λ (rows, lists, slot, writes, number). some-of (λ r. not (eqb (fields.claimOf rows r) 0)) (rowsWritten lists slot writes))
 unfolding computes
 any-claimed-own = apart (row, twice, 0, 1, 6) bit refl
 
 -- `any_claimed`: only if every row is
-pub any-claimed-all : Excludes anyClaimed (λ (rows, lists, slot, writes, number). all-of (λ r. takenBy (fields.claimOf rows r) number) (rowsWritten lists slot writes))
+pub any-claimed-all : Excludes anyClaimed
+    (λ (rows, lists, slot, writes, number). all-of (λ r. takenBy (fields.claimOf rows r) number) (rowsWritten lists slot writes))
 unfolding computes
 any-claimed-all = apart (row, starting pending (0 ∷ 1 ∷ 6 ∷ 9 ∷ 1 ∷ 1 ∷ 7 ∷ 9 ∷ []), 0, 2, 5) bit refl
 

@@ -30,18 +30,24 @@ install-nothing = apart ([], [], twice, 0, withWrites (live 5 phase.Prepared) 2)
 
 -- `install`: a version for each write, not for each row
 pub install-each-write : Excludes install
-    (λ (rows, versions, lists, used, t). installed t (pushedRows lists (t .slot) (t .«writes_n») (t .number) (record { rows = rows; versions = versions; used = used }) (rowsWritten lists (t .slot) (t .«writes_n»))))
+    (λ (rows, versions, lists, used, t). installed t
+    (pushedRows lists (t .slot) (t .«writes_n») (t .number) (record { rows = rows; versions = versions; used = used })
+    (rowsWritten lists (t .slot) (t .«writes_n»))))
 unfolding computes
 install-each-write = apart ([], [], twice, 0, withWrites (live 5 phase.Prepared) 2) usedThen refl
 
 -- `install`: in any phase
 pub install-any-phase : Excludes install
-    (λ (rows, versions, lists, used, t). installed t (pushedRows lists (t .slot) (t .«writes_n») (t .number) (record { rows = rows; versions = versions; used = used }) (front (toInstall lists t (record { rows = rows; versions = versions; used = used })))))
+    (λ (rows, versions, lists, used, t). installed t
+    (pushedRows lists (t .slot) (t .«writes_n») (t .number) (record { rows = rows; versions = versions; used = used })
+    (front (toInstall lists t (record { rows = rows; versions = versions; used = used })))))
 unfolding computes
 install-any-phase = apart ([], [], twice, 0, live 5 phase.Open) (λ (l : Left). numberIn (l .reply .answer)) refl
 
 -- `install`: a version for an erase of nothing
 pub install-of-nothing : Excludes install
-    (λ (rows, versions, lists, used, t). installed t (pushedRows lists (t .slot) (t .«writes_n») (t .number) (record { rows = rows; versions = versions; used = used }) (front (pendingInto lists (t .slot) (t .«writes_n») (replicate mostWrites 0)))))
+    (λ (rows, versions, lists, used, t). installed t
+    (pushedRows lists (t .slot) (t .«writes_n») (t .number) (record { rows = rows; versions = versions; used = used })
+    (front (pendingInto lists (t .slot) (t .«writes_n») (replicate mostWrites 0)))))
 unfolding computes
 install-of-nothing = apart ([], [], erases, 0, withWrites (live 5 phase.Prepared) 1) usedThen refl

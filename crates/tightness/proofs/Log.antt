@@ -60,6 +60,7 @@ unfolding computes
 next-moved-short = apart (oneBegin, 0) (λ (t : Taken). t .reader .at) refl
 
 -- `next`: the reader comes back without the bytes that it has passed
-pub next-log-cut : Excludes next (λ (log, at). record { command = decodedOf log at .command; reader = readerAt (lent (drop (decodedOf log at .next) log)) (decodedOf log at .next) })
+pub next-log-cut : Excludes next
+    (λ (log, at). record { command = decodedOf log at .command; reader = readerAt (lent (drop (decodedOf log at .next) log)) (decodedOf log at .next) })
 unfolding computes
 next-log-cut = apart (oneBegin, 0) (λ (t : Taken). length (t .reader .log .now)) refl

@@ -41,6 +41,7 @@ byKeyWord l r (place.At i) = cond (eqb (writeAt (l .lists) (l .txn .slot) i .key
 byKeyWord l r place.Nothing = matchBy l r place.Nothing
 
 -- `match_of`: an erase matches key 0
-pub match-of-erase : Excludes matches (λ (rows, versions, lists, used, t, key, r). byKeyWord (look rows versions lists used t key) r (latestPending lists (t .slot) (t .«writes_n») r))
+pub match-of-erase : Excludes matches
+    (λ (rows, versions, lists, used, t, key, r). byKeyWord (look rows versions lists used t key) r (latestPending lists (t .slot) (t .«writes_n») r))
 unfolding computes
 match-of-erase = apart (asks erases 0) (λ m. bit (isMatch m)) refl

@@ -14,12 +14,14 @@ use Rattle.tightness.proofs.Apart.{apart, bit}
 use Rattle.tightness.proofs.Computes.{computes}
 
 -- `good_sizes`: the rows are measured by the versions' limit
-pub good-sizes-other-limit : Excludes (λ (z : Sizes). model.goodSizes (sizesView z)) (λ z. model.within (z .rows) mostVersions && model.within (z .versions) mostVersions && model.within (z .buckets) mostBuckets)
+pub good-sizes-other-limit : Excludes (λ (z : Sizes). model.goodSizes (sizesView z))
+    (λ z. model.within (z .rows) mostVersions && model.within (z .versions) mostVersions && model.within (z .buckets) mostBuckets)
 unfolding computes
 good-sizes-other-limit = apart (record { rows = suc mostRows; versions = 1; buckets = 1 }) bit refl
 
 -- `good_sizes`: the buckets are not tested
-pub good-sizes-buckets-untested : Excludes (λ (z : Sizes). model.goodSizes (sizesView z)) (λ z. model.within (z .rows) mostRows && model.within (z .versions) mostVersions)
+pub good-sizes-buckets-untested : Excludes (λ (z : Sizes). model.goodSizes (sizesView z))
+    (λ z. model.within (z .rows) mostRows && model.within (z .versions) mostVersions)
 unfolding computes
 good-sizes-buckets-untested = apart (record { rows = 1; versions = 1; buckets = 0 }) bit refl
 

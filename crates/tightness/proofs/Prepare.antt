@@ -60,35 +60,42 @@ abbrev Given : Type 0
 Given = List ℕ × List ℕ × ℕ × ℕ × ℕ × List ℕ × Transaction × List ℕ × List ℕ
 
 abbrev prepares : Given → Left
-prepares (versions, lists, bucketCount, versionCount, used, prepared, t, rows, buckets) = prepareOf versions lists bucketCount versionCount used prepared t rows buckets
+prepares (versions, lists, bucketCount, versionCount, used, prepared, t, rows, buckets) =
+    prepareOf versions lists bucketCount versionCount used prepared t rows buckets
 
 -- in one bucket, with one version to give
 abbrev given : List ℕ → Transaction → List ℕ → List ℕ → Given
 given lists t rows buckets = ([], lists, 1, 1, 0, replicate mostLive 0, t, rows, buckets)
 
 -- `prepare`: the phase is not tested
-pub prepare-any-phase : Excludes prepares (λ (versions, lists, bucketCount, versionCount, used, prepared, t, rows, buckets). prepareWith versions lists versionCount used prepared t rows buckets (neededInto rows versions lists bucketCount (t .slot) (t .«reads_n») (t .«writes_n») (replicate mostNeeded 0)))
+pub prepare-any-phase : Excludes prepares
+    (λ (versions, lists, bucketCount, versionCount, used, prepared, t, rows, buckets). prepareWith versions lists versionCount used prepared t rows
+    buckets (neededInto rows versions lists bucketCount (t .slot) (t .«reads_n») (t .«writes_n») (replicate mostNeeded 0)))
 unfolding computes
 prepare-any-phase = apart (given [] (live 1 phase.Ended) [] []) (λ (l : Left). numberIn (l .reply .answer)) refl
 
 -- `prepare`: the needed buckets are not taken
-pub prepare-buckets-free : Excludes prepares (λ (versions, lists, bucketCount, versionCount, used, prepared, t, rows, buckets). let l = prepares (versions, lists, bucketCount, versionCount, used, prepared, t, rows, buckets) in left (l .reply) (l .rows) buckets)
+pub prepare-buckets-free : Excludes prepares (λ (versions, lists, bucketCount, versionCount, used, prepared, t, rows, buckets). let l =
+    prepares (versions, lists, bucketCount, versionCount, used, prepared, t, rows, buckets) in left (l .reply) (l .rows) buckets)
 unfolding computes
 prepare-buckets-free = apart (given captured reader [] (heldBy 0)) (λ (l : Left). getD (l .buckets) 1 0) refl
 
 -- `prepare`: the pending rows are not claimed
-pub prepare-rows-unclaimed : Excludes prepares (λ (versions, lists, bucketCount, versionCount, used, prepared, t, rows, buckets). let l = prepares (versions, lists, bucketCount, versionCount, used, prepared, t, rows, buckets) in left (l .reply) rows (l .buckets))
+pub prepare-rows-unclaimed : Excludes prepares (λ (versions, lists, bucketCount, versionCount, used, prepared, t, rows, buckets). let l =
+    prepares (versions, lists, bucketCount, versionCount, used, prepared, t, rows, buckets) in left (l .reply) rows (l .buckets))
 unfolding computes
 prepare-rows-unclaimed = apart (given puts (writer phase.Open) (replicate rowWords 0) []) (λ (l : Left). getD (l .rows) 1 0) refl
 
 -- `prepare`: 13 counts an erase of nothing
 pub prepare-13-of-nothing : Excludes prepares (λ (versions, lists, bucketCount, versionCount, used, prepared, t, rows, buckets).
-    cond (ltb versionCount (used + pendingInto lists (t .slot) (t .«writes_n») (replicate mostWrites 0) .n)) (left (refusedOf t 13) rows buckets) (prepares (versions, lists, bucketCount, versionCount, used, prepared, t, rows, buckets)))
+    cond (ltb versionCount (used + pendingInto lists (t .slot) (t .«writes_n») (replicate mostWrites 0) .n)) (left (refusedOf t 13) rows buckets)
+    (prepares (versions, lists, bucketCount, versionCount, used, prepared, t, rows, buckets)))
 unfolding computes
 prepare-13-of-nothing = apart ([], erases, 1, 0, 0, replicate mostLive 0, writer phase.Open, [], []) (λ (l : Left). numberIn (l .reply .answer)) refl
 
 -- `prepare`: the row of an erase of nothing is not claimed
-pub prepare-nothing-unclaimed : Excludes prepares (λ (versions, lists, bucketCount, versionCount, used, prepared, t, rows, buckets). let l = prepares (versions, lists, bucketCount, versionCount, used, prepared, t, rows, buckets) in
+pub prepare-nothing-unclaimed : Excludes prepares (λ (versions, lists, bucketCount, versionCount, used, prepared, t, rows, buckets). let l =
+    prepares (versions, lists, bucketCount, versionCount, used, prepared, t, rows, buckets) in
     left (l .reply) (setClaims rows (t .number) (front (versionsInto rows versions lists (t .slot) (t .«writes_n») (replicate mostWrites 0)))) (l .buckets))
 unfolding computes
 prepare-nothing-unclaimed = apart (given erases (writer phase.Open) (replicate rowWords 0) []) (λ (l : Left). getD (l .rows) 1 0) refl

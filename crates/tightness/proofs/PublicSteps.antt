@@ -150,7 +150,8 @@ placed : (s : Step) → wantedOf s ≡ 2 → placeFor (store phase.Ended .txns) 
 unfolding computes
 placed s e = rw e
 
-strange-step : (s : Step) → isBegin s ≡ false → wantedOf s ≡ 2 → movedBy (store phase.Ended) s ≡ stays (record { answer = tell.Refused 4; txn = live 1 phase.Ended; clock = 2; used = 0 }) (store phase.Ended .tables)
+strange-step : (s : Step) → isBegin s ≡ false → wantedOf s ≡ 2
+    → movedBy (store phase.Ended) s ≡ stays (record { answer = tell.Refused 4; txn = live 1 phase.Ended; clock = 2; used = 0 }) (store phase.Ended .tables)
 unfolding computes
 strange-step s b e = rw (placed s e, missed s b e)
 

@@ -63,35 +63,43 @@ abbrev aborts : Given → Left
 aborts (versions, lists, count, clock, t, rows, buckets) = abortOf versions lists count t rows buckets
 
 -- `publish`: the place does not become free
-pub publish-record-kept : Excludes publishes (λ (versions, lists, count, clock, t, rows, buckets). let l = publishes (versions, lists, count, clock, t, rows, buckets) in record { reply = record { answer = l .reply .answer; txn = t }; rows = l .rows; buckets = l .buckets })
+pub publish-record-kept : Excludes publishes (λ (versions, lists, count, clock, t, rows, buckets). let l =
+    publishes (versions, lists, count, clock, t, rows, buckets) in
+    record { reply = record { answer = l .reply .answer; txn = t }; rows = l .rows; buckets = l .buckets })
 unfolding computes
 publish-record-kept = apart (given phase.Ended) (λ (l : Left). l .reply .txn .number) refl
 
 -- `publish`: the claims stay
-pub publish-claims-kept : Excludes publishes (λ (versions, lists, count, clock, t, rows, buckets). let l = publishes (versions, lists, count, clock, t, rows, buckets) in record { reply = l .reply; rows = rows; buckets = l .buckets })
+pub publish-claims-kept : Excludes publishes (λ (versions, lists, count, clock, t, rows, buckets). let l =
+    publishes (versions, lists, count, clock, t, rows, buckets) in record { reply = l .reply; rows = rows; buckets = l .buckets })
 unfolding computes
 publish-claims-kept = apart (given phase.Ended) claim refl
 
 -- `publish`: the buckets of changed keys are not stamped
-pub publish-unstamped : Excludes publishes (λ (versions, lists, count, clock, t, rows, buckets). let l = publishes (versions, lists, count, clock, t, rows, buckets) in record {
-  reply = l .reply;
-  rows = l .rows;
-  buckets = freedIn rows versions lists count true (bucketIn (phaseView (t .phase))) (t .slot) (t .«reads_n») (t .«writes_n») (t .number) buckets;
-})
+pub publish-unstamped : Excludes publishes (λ (versions, lists, count, clock, t, rows, buckets). let l =
+    publishes (versions, lists, count, clock, t, rows, buckets) in record {
+      reply = l .reply;
+      rows = l .rows;
+      buckets = freedIn rows versions lists count true (bucketIn (phaseView (t .phase))) (t .slot) (t .«reads_n») (t .«writes_n») (t .number) buckets;
+    })
 unfolding computes
 publish-unstamped = apart (given phase.Ended) stamp refl
 
 -- `abort`: the place does not become free
-pub abort-record-kept : Excludes aborts (λ (versions, lists, count, clock, t, rows, buckets). let l = aborts (versions, lists, count, clock, t, rows, buckets) in record { reply = record { answer = l .reply .answer; txn = t }; rows = l .rows; buckets = l .buckets })
+pub abort-record-kept : Excludes aborts (λ (versions, lists, count, clock, t, rows, buckets). let l =
+    aborts (versions, lists, count, clock, t, rows, buckets) in
+    record { reply = record { answer = l .reply .answer; txn = t }; rows = l .rows; buckets = l .buckets })
 unfolding computes
 abort-record-kept = apart (given phase.Open) (λ (l : Left). l .reply .txn .number) refl
 
 -- `abort`: the claims stay
-pub abort-claims-kept : Excludes aborts (λ (versions, lists, count, clock, t, rows, buckets). let l = aborts (versions, lists, count, clock, t, rows, buckets) in record { reply = l .reply; rows = rows; buckets = l .buckets })
+pub abort-claims-kept : Excludes aborts (λ (versions, lists, count, clock, t, rows, buckets). let l =
+    aborts (versions, lists, count, clock, t, rows, buckets) in record { reply = l .reply; rows = rows; buckets = l .buckets })
 unfolding computes
 abort-claims-kept = apart (given phase.Prepared) claim refl
 
 -- `abort`: the buckets stay held
-pub abort-buckets-held : Excludes aborts (λ (versions, lists, count, clock, t, rows, buckets). let l = aborts (versions, lists, count, clock, t, rows, buckets) in record { reply = l .reply; rows = l .rows; buckets = buckets })
+pub abort-buckets-held : Excludes aborts (λ (versions, lists, count, clock, t, rows, buckets). let l =
+    aborts (versions, lists, count, clock, t, rows, buckets) in record { reply = l .reply; rows = l .rows; buckets = buckets })
 unfolding computes
 abort-buckets-held = apart (given phase.Prepared) holder refl

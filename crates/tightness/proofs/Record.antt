@@ -109,12 +109,14 @@ abbrev capturing : ℕ × Transaction × ℕ × List ℕ × List ℕ
 capturing = (1, live 5 phase.Open, 7, 1 ∷ 0 ∷ [], 0 ∷ 0 ∷ [])
 
 -- `capture`: the bucket is not taken
-pub capture-bucket-free : Excludes capture (λ (count, t, key, buckets, lists). left (capture (count, t, key, buckets, lists) .reply) buckets (capture (count, t, key, buckets, lists) .lists))
+pub capture-bucket-free : Excludes capture
+    (λ (count, t, key, buckets, lists). left (capture (count, t, key, buckets, lists) .reply) buckets (capture (count, t, key, buckets, lists) .lists))
 unfolding computes
 capture-bucket-free = apart capturing (λ (l : Left). getD (l .buckets) 1 0) refl
 
 -- `capture`: no index read is added
-pub capture-no-index-read : Excludes capture (λ (count, t, key, buckets, lists). left (capture (count, t, key, buckets, lists) .reply) (capture (count, t, key, buckets, lists) .buckets) lists)
+pub capture-no-index-read : Excludes capture
+    (λ (count, t, key, buckets, lists). left (capture (count, t, key, buckets, lists) .reply) (capture (count, t, key, buckets, lists) .buckets) lists)
 unfolding computes
 capture-no-index-read = apart capturing (λ (l : Left). getD (l .lists) 1 0) refl
 
@@ -140,7 +142,17 @@ put-keyless = apart (1, live 5 phase.Open, 0, 7, 9, roomFor writes) (λ (l : Lef
 
 -- the same transaction without its mark
 abbrev unmarked : Transaction → Transaction
-unmarked t = record { number = t .number; snapshot = t .snapshot; marked = false; phase = t .phase; slot = t .slot; «reads_n» = t .«reads_n»; «writes_n» = t .«writes_n»; «records_n» = t .«records_n»; «candidates_n» = t .«candidates_n» }
+unmarked t = record {
+  number = t .number;
+  snapshot = t .snapshot;
+  marked = false;
+  phase = t .phase;
+  slot = t .slot;
+  «reads_n» = t .«reads_n»;
+  «writes_n» = t .«writes_n»;
+  «records_n» = t .«records_n»;
+  «candidates_n» = t .«candidates_n»;
+}
 
 -- `put`: a marked transaction goes on writing
 pub put-mark-forgotten : Excludes put (λ (rows, t, row, key, payload, lists). put (rows, unmarked t, row, key, payload, lists))
@@ -148,12 +160,14 @@ unfolding computes
 put-mark-forgotten = apart (1, withMark (live 5 phase.Open), 0, 7, 9, roomFor writes) (λ (l : LeftLists). numberIn (l .reply .answer)) refl
 
 -- `put`: 8 after 6
-pub put-row-before-mark : Excludes put (λ (rows, t, row, key, payload, lists). cond (leb rows row) (put (rows, unmarked t, row, key, payload, lists)) (put (rows, t, row, key, payload, lists)))
+pub put-row-before-mark : Excludes put
+    (λ (rows, t, row, key, payload, lists). cond (leb rows row) (put (rows, unmarked t, row, key, payload, lists)) (put (rows, t, row, key, payload, lists)))
 unfolding computes
 put-row-before-mark = apart (1, withMark (live 5 phase.Open), 1, 7, 9, roomFor writes) (λ (l : LeftLists). numberIn (l .reply .answer)) refl
 
 -- `put`: 8 before 5
-pub put-mark-before-phase : Excludes put (λ (rows, t, row, key, payload, lists). cond (t .marked) (record { reply = refusedOf t 8; lists = lists }) (put (rows, t, row, key, payload, lists)))
+pub put-mark-before-phase : Excludes put
+    (λ (rows, t, row, key, payload, lists). cond (t .marked) (record { reply = refusedOf t 8; lists = lists }) (put (rows, t, row, key, payload, lists)))
 unfolding computes
 put-mark-before-phase = apart (1, withMark (live 5 phase.Prepared), 0, 7, 9, roomFor writes) (λ (l : LeftLists). numberIn (l .reply .answer)) refl
 
@@ -177,7 +191,8 @@ abbrev collecting : List ℕ × ℕ × Transaction × List ℕ × List ℕ
 collecting = (0 ∷ 0 ∷ 1 ∷ 7 ∷ [], 1, live 5 (phase.Holding 0 7), 0 ∷ 5 ∷ [], [])
 
 -- `collect`: the bucket stays held
-pub collect-bucket-held : Excludes collect (λ (rows, n, t, buckets, lists). left (collect (rows, n, t, buckets, lists) .reply) buckets (collect (rows, n, t, buckets, lists) .lists))
+pub collect-bucket-held : Excludes collect
+    (λ (rows, n, t, buckets, lists). left (collect (rows, n, t, buckets, lists) .reply) buckets (collect (rows, n, t, buckets, lists) .lists))
 unfolding computes
 collect-bucket-held = apart collecting (λ (l : Left). getD (l .buckets) 1 0) refl
 

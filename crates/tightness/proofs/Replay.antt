@@ -22,7 +22,11 @@ abbrev malformed : List ℕ × List ℕ
 malformed = (0 ∷ [], blank)
 
 -- `toruxeng_replay`: the length stands above, the status below
-pub replay-halves-swapped : Excludes replays (λ (log, report). (length (replay log (length report) .text) * 4294967296 + replay log (length report) .status, reported (replay log (length report)) report))
+pub replay-halves-swapped : Excludes replays
+    (λ (log, report). (
+      length (replay log (length report) .text) * 4294967296 + replay log (length report) .status,
+      reported (replay log (length report)) report,
+    ))
 unfolding computes
 replay-halves-swapped = apart malformed (λ (r : Told). r .0) refl
 

@@ -29,17 +29,20 @@ unfolding computes
 open-line-zero = apart (blank, 0, 1) (byte 5) refl
 
 -- `open_line`: another word
-pub open-line-bad : Excludes {A = List ℕ × ℕ × ℕ} (λ (report, at, n). writtenAt report at (openLine n)) (λ (report, at, n). writtenAt report at (line badWord (n ∷ [])))
+pub open-line-bad : Excludes {A = List ℕ × ℕ × ℕ} (λ (report, at, n). writtenAt report at (openLine n))
+    (λ (report, at, n). writtenAt report at (line badWord (n ∷ [])))
 unfolding computes
 open-line-bad = apart (blank, 0, 1) (byte 0) refl
 
 -- `bad_line`: the number of a wrong shape
-pub bad-line-shape : Excludes {A = List ℕ × ℕ} (λ (report, at). writtenAt report at badLine) (λ (report, at). writtenAt report at (line badWord (refusalNumber WrongShape ∷ [])))
+pub bad-line-shape : Excludes {A = List ℕ × ℕ} (λ (report, at). writtenAt report at badLine)
+    (λ (report, at). writtenAt report at (line badWord (refusalNumber WrongShape ∷ [])))
 unfolding computes
 bad-line-shape = apart (blank, 0) (byte 5) refl
 
 -- `bad_line`: another word
-pub bad-line-open : Excludes {A = List ℕ × ℕ} (λ (report, at). writtenAt report at badLine) (λ (report, at). writtenAt report at (line openWord (refusalNumber Malformed ∷ [])))
+pub bad-line-open : Excludes {A = List ℕ × ℕ} (λ (report, at). writtenAt report at badLine)
+    (λ (report, at). writtenAt report at (line openWord (refusalNumber Malformed ∷ [])))
 unfolding computes
 bad-line-open = apart (blank, 0) (byte 0) refl
 

@@ -27,12 +27,14 @@ abbrev reads : Given → LeftRows
 reads (rows, versions, lists, found, rowCount, used, room, t) = rowsOf rows versions lists found rowCount used room t
 
 -- `rows`: the phase is not tested
-pub rows-any-phase : Excludes reads (λ (rows, versions, lists, found, rowCount, used, room, t). readingOf (look rows versions lists used t (keyIn (phaseView (t .phase)))) rowCount room found)
+pub rows-any-phase : Excludes reads
+    (λ (rows, versions, lists, found, rowCount, used, room, t). readingOf (look rows versions lists used t (keyIn (phaseView (t .phase)))) rowCount room found)
 unfolding computes
 rows-any-phase = apart ([], [], [], [], 1, 0, 0, live 1 phase.Open) (λ (l : LeftRows). numberIn (l .reply .answer)) refl
 
 -- `rows`: the found rows do not go to the lent list
-pub rows-not-lent : Excludes reads (λ (rows, versions, lists, found, rowCount, used, room, t). let l = reads (rows, versions, lists, found, rowCount, used, room, t) in record { reply = l .reply; lists = l .lists; found = found })
+pub rows-not-lent : Excludes reads (λ (rows, versions, lists, found, rowCount, used, room, t). let l =
+    reads (rows, versions, lists, found, rowCount, used, room, t) in record { reply = l .reply; lists = l .lists; found = found })
 unfolding computes
 rows-not-lent = apart ([], [], puts, 9 ∷ [], 1, 0, 1, writer (phase.Collected 5)) (λ (l : LeftRows). getD (l .found) 0 0) refl
 

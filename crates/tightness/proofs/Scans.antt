@@ -66,7 +66,8 @@ abbrev recorded : List ℕ
 recorded = starting records (1 ∷ 2 ∷ 3 ∷ [])
 
 -- `read_already_recorded`: the row for the pointer
-pub read-already-recorded-row : Excludes readAlreadyRecorded (λ (lists, slot, n, ptr). member ptr (map (λ r. r .row) (recordsOf lists slot (min n mostRecords))))
+pub read-already-recorded-row : Excludes readAlreadyRecorded
+    (λ (lists, slot, n, ptr). member ptr (map (λ r. r .row) (recordsOf lists slot (min n mostRecords))))
 unfolding computes
 read-already-recorded-row = apart (recorded, 0, 1, 2) bit refl
 
@@ -80,11 +81,13 @@ abbrev captured : List ℕ
 captured = 1 ∷ 4 ∷ 1 ∷ 5 ∷ []
 
 -- `find_read_prefix`: the last index read of the bucket
-pub find-read-prefix-last : Excludes findReadPrefix (λ (lists, slot, n, bucket). spec.lastPlace (spec.bucketsRead (readsOf lists slot (min n mostIndexReads))) bucket)
+pub find-read-prefix-last : Excludes findReadPrefix
+    (λ (lists, slot, n, bucket). spec.lastPlace (spec.bucketsRead (readsOf lists slot (min n mostIndexReads))) bucket)
 unfolding computes
 find-read-prefix-last = apart (captured, 0, 2, 1) placeFound refl
 
 -- `find_read_prefix`: the stamp for the bucket
-pub find-read-prefix-stamp : Excludes findReadPrefix (λ (lists, slot, n, bucket). spec.firstPlace (map (λ r. r .stamp) (readsOf lists slot (min n mostIndexReads))) bucket)
+pub find-read-prefix-stamp : Excludes findReadPrefix
+    (λ (lists, slot, n, bucket). spec.firstPlace (map (λ r. r .stamp) (readsOf lists slot (min n mostIndexReads))) bucket)
 unfolding computes
 find-read-prefix-stamp = apart (captured, 0, 2, 1) placeFound refl

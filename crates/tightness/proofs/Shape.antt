@@ -32,7 +32,8 @@ right (l, m) = shapeOf (over l m)
 
 -- `tables_lent`: no entry for pointer 0
 pub tables-lent-no-entry-more : Excludes fits (λ (l, z).
-    leb (rowWords * z .rows) (length (l .0)) && leb (versionWords * z .versions) (length (l .1)) && leb (bucketWords * z .buckets) (length (l .2)) && leb listsWords (length (l .3)))
+    leb (rowWords * z .rows) (length (l .0)) && leb (versionWords * z .versions) (length (l .1)) && leb (bucketWords * z .buckets) (length (l .2))
+    && leb listsWords (length (l .3)))
 tables-lent-no-entry-more = apart ((lent .0, replicate versionWords 0, lent .2, lent .3), sizes) bit refl
 
 -- `tables_lent`: the lists are not tested
@@ -41,11 +42,13 @@ pub tables-lent-lists-untested : Excludes fits (λ (l, z).
 tables-lent-lists-untested = apart ((lent .0, lent .1, lent .2, []), sizes) bit refl
 
 -- `others_of`: an Ended transaction is active
-pub others-of-ended-active : Excludes othersIn (λ ts. record { numbers = othersIn ts .numbers; active = othersIn ts .numbers; prepared = othersIn ts .prepared })
+pub others-of-ended-active : Excludes othersIn
+    (λ ts. record { numbers = othersIn ts .numbers; active = othersIn ts .numbers; prepared = othersIn ts .prepared })
 others-of-ended-active = apart (set freePlaces 0 (live 1 phase.Ended)) (λ (o : Others). getD (o .active) 0 0) refl
 
 -- `others_of`: every pending write has a version reserved
-pub others-of-writes-reserved : Excludes othersIn (λ ts. record { numbers = othersIn ts .numbers; active = othersIn ts .active; prepared = map (λ (t : Transaction). t .«writes_n») ts })
+pub others-of-writes-reserved : Excludes othersIn
+    (λ ts. record { numbers = othersIn ts .numbers; active = othersIn ts .active; prepared = map (λ (t : Transaction). t .«writes_n») ts })
 others-of-writes-reserved = apart (set freePlaces 0 (writer phase.Open)) (λ (o : Others). getD (o .prepared) 0 0) refl
 
 -- `right_shape`: only the words' own tests are made

@@ -73,7 +73,8 @@ pub set-word-next : Excludes {A = List ℕ × ℕ × ℕ} (λ (xs, at, v). set x
 set-word-next = record { input = (only 0, 0, 0); differ = stores-differ 0 1 (omega arith) }
 
 -- Field k of a table of w words an entry:
--- `head_at`, `claim_at`, `posted_at`, `posted_key_at` (w 4, k 0 to 3), `xmin_at`, `xmax_at`, `next_at`, `keyed_at`, `key_at`, `payload_at` (w 6, k 0 to 5), `stamp_at`, `holder_at` (w 2, k 0 and 1), and the setter of each.
+-- `head_at`, `claim_at`, `posted_at`, `posted_key_at` (w 4, k 0 to 3), `xmin_at`, `xmax_at`, `next_at`, `keyed_at`, `key_at`, `payload_at` (w 6, k 0 to 5),
+-- `stamp_at`, `holder_at` (w 2, k 0 and 1), and the setter of each.
 module _ (w k : ℕ) where
   -- an accessor reads another field
   pub field-other-field : (m : ℕ) → k ≢ m → Excludes {A = List ℕ × ℕ} (λ (xs, i). field w k xs i) (λ (xs, i). field w m xs i)
@@ -101,14 +102,18 @@ module _ (w k : ℕ) where
   set-field-nothing = record { input = (only (w * 0 + k), 0, 0); differ = store-is-something (w * 0 + k) }
 
 -- Word j of an entry of a slot's list:
--- `read_bucket_at`, `read_stamp_at` (`reads`, j 0 and 1), `write_row_at`, `write_keyed_at`, `write_key_at`, `write_payload_at` (`writes`, j 0 to 3), `record_row_at`, `record_ptr_at`, `record_xmin_at` (`records`, j 0 to 2), `candidate_at` (`candidates`, j 0).
+-- `read_bucket_at`, `read_stamp_at` (`reads`, j 0 and 1), `write_row_at`, `write_keyed_at`, `write_key_at`, `write_payload_at` (`writes`, j 0 to 3),
+-- `record_row_at`, `record_ptr_at`, `record_xmin_at` (`records`, j 0 to 2), `candidate_at` (`candidates`, j 0).
 module _ (k : Kind) (j : ℕ) (h : j < k .w) where
   abbrev wordOf : List ℕ × ℕ × ℕ → ℕ
   wordOf = λ (xs, s, i). getD (words (k .w) (placeOf k s i) xs) j 0
 
   -- the words at two places differ on these lists
-  words-differ : (w a m : ℕ) → m < w → placeOf k 0 0 + j ≢ a + m → getD (words (k .w) (placeOf k 0 0) (only (placeOf k 0 0 + j))) j 0 ≢ getD (words w a (only (placeOf k 0 0 + j))) m 0
-  words-differ w a m l d = rw (words-at (k .w) (placeOf k 0 0) (only (placeOf k 0 0 + j)) j h, words-at w a (only (placeOf k 0 0 + j)) m l) (places-differ (placeOf k 0 0 + j) (a + m) d)
+  words-differ : (w a m : ℕ) → m < w → placeOf k 0 0 + j ≢ a + m
+      → getD (words (k .w) (placeOf k 0 0) (only (placeOf k 0 0 + j))) j 0 ≢ getD (words w a (only (placeOf k 0 0 + j))) m 0
+  words-differ w a m l d =
+      rw (words-at (k .w) (placeOf k 0 0) (only (placeOf k 0 0 + j)) j h, words-at w a (only (placeOf k 0 0 + j)) m l)
+      (places-differ (placeOf k 0 0 + j) (a + m) d)
 
   -- another word of the entry
   pub entry-other-word : (m : ℕ) → m < k .w → j ≢ m → Excludes wordOf (λ (xs, s, i). getD (words (k .w) (placeOf k s i) xs) m 0)
@@ -140,12 +145,14 @@ abbrev firstWord : Kind → List ℕ → ℕ
 firstWord k xs = getD xs (k .off) 0
 
 -- `read_at`: bucket and stamp change places
-pub read-at-swapped : Excludes {A = List ℕ × ℕ × ℕ} (λ (xs, s, i). readAt xs s i) (λ (xs, s, i). record { bucket = readAt xs s i .stamp; stamp = readAt xs s i .bucket })
+pub read-at-swapped : Excludes {A = List ℕ × ℕ × ℕ} (λ (xs, s, i). readAt xs s i)
+    (λ (xs, s, i). record { bucket = readAt xs s i .stamp; stamp = readAt xs s i .bucket })
 unfolding computes
 read-at-swapped = apart (1 ∷ 2 ∷ [], 0, 0) (λ (r : IndexRead). r .bucket) refl
 
 -- `read_at`: the stamp of the next entry
-pub read-at-mixed : Excludes {A = List ℕ × ℕ × ℕ} (λ (xs, s, i). readAt xs s i) (λ (xs, s, i). record { bucket = readAt xs s i .bucket; stamp = readAt xs s (i + 1) .stamp })
+pub read-at-mixed : Excludes {A = List ℕ × ℕ × ℕ} (λ (xs, s, i). readAt xs s i)
+    (λ (xs, s, i). record { bucket = readAt xs s i .bucket; stamp = readAt xs s (i + 1) .stamp })
 unfolding computes
 read-at-mixed = apart (1 ∷ 2 ∷ [], 0, 0) (λ (r : IndexRead). r .stamp) refl
 
@@ -178,12 +185,14 @@ pub put-write-other-list : Excludes putWrite (λ (xs, s, i, row, keyed, key, pay
 put-write-other-list = apart (roomFor writes, 0, 0, 1, 1, 2, 3) (firstWord writes) refl
 
 -- `record_at`: row and pointer change places
-pub record-at-swapped : Excludes {A = List ℕ × ℕ × ℕ} (λ (xs, s, i). recordAt xs s i) (λ (xs, s, i). record { row = recordAt xs s i .ptr; ptr = recordAt xs s i .row; xmin = recordAt xs s i .xmin })
+pub record-at-swapped : Excludes {A = List ℕ × ℕ × ℕ} (λ (xs, s, i). recordAt xs s i)
+    (λ (xs, s, i). record { row = recordAt xs s i .ptr; ptr = recordAt xs s i .row; xmin = recordAt xs s i .xmin })
 unfolding computes
 record-at-swapped = apart (starting records (1 ∷ 2 ∷ 3 ∷ []), 0, 0) (λ (r : ReadRecord). r .row) refl
 
 -- `record_at`: the pointer for the xmin
-pub record-at-other-xmin : Excludes {A = List ℕ × ℕ × ℕ} (λ (xs, s, i). recordAt xs s i) (λ (xs, s, i). record { row = recordAt xs s i .row; ptr = recordAt xs s i .ptr; xmin = recordAt xs s i .ptr })
+pub record-at-other-xmin : Excludes {A = List ℕ × ℕ × ℕ} (λ (xs, s, i). recordAt xs s i)
+    (λ (xs, s, i). record { row = recordAt xs s i .row; ptr = recordAt xs s i .ptr; xmin = recordAt xs s i .ptr })
 unfolding computes
 record-at-other-xmin = apart (starting records (1 ∷ 2 ∷ 3 ∷ []), 0, 0) (λ (r : ReadRecord). r .xmin) refl
 

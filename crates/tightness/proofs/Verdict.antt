@@ -54,17 +54,23 @@ abbrev endedBy : ℕ → List ℕ
 endedBy n = 0 ∷ 0 ∷ 0 ∷ 0 ∷ 0 ∷ 0 ∷ 2 ∷ n ∷ 0 ∷ 1 ∷ 7 ∷ 9 ∷ []
 
 -- `has_serialization_conflict`: a version that the own number ended has changed
-pub has-serialization-conflict-own-number : Excludes conflict (λ (versions, lists, t). firstWhere (judged.badRecord (versionsView versions) 0 (snapshotView (t .snapshot))) 0 (recordsIn lists t))
+pub has-serialization-conflict-own-number : Excludes conflict
+    (λ (versions, lists, t). firstWhere (judged.badRecord (versionsView versions) 0 (snapshotView (t .snapshot))) 0 (recordsIn lists t))
 unfolding computes
 has-serialization-conflict-own-number = apart (endedBy 5, read, reader 5) placeFound refl
 
 -- `has_serialization_conflict`: the active numbers are not looked at
-pub has-serialization-conflict-active-ignored : Excludes conflict (λ (versions, lists, t). firstWhere (judged.badRecord (versionsView versions) (t .number) (record { xmin = t .snapshot .xmin; xmax = t .snapshot .xmax; active = [] })) 0 (recordsIn lists t))
+pub has-serialization-conflict-active-ignored : Excludes conflict
+    (λ (versions, lists, t). firstWhere
+    (judged.badRecord (versionsView versions) (t .number) (record { xmin = t .snapshot .xmin; xmax = t .snapshot .xmax; active = [] })) 0 (recordsIn lists t))
 unfolding computes
 has-serialization-conflict-active-ignored = apart (endedBy 3, read, reader 6) placeFound refl
 
 -- `has_serialization_conflict`: xmin is trusted, so that no active number below it is looked up
-pub has-serialization-conflict-xmin-trusted : Excludes conflict (λ (versions, lists, t). firstWhere (judged.badRecord (versionsView versions) (t .number) (record { xmin = t .snapshot .xmin; xmax = t .snapshot .xmax; active = fromXmin (t .snapshot) })) 0 (recordsIn lists t))
+pub has-serialization-conflict-xmin-trusted : Excludes conflict
+    (λ (versions, lists, t). firstWhere
+    (judged.badRecord (versionsView versions) (t .number)
+    (record { xmin = t .snapshot .xmin; xmax = t .snapshot .xmax; active = fromXmin (t .snapshot) })) 0 (recordsIn lists t))
 unfolding computes
 has-serialization-conflict-xmin-trusted = apart (endedBy 3, read, readerIn (threeBelow 6)) placeFound refl
 

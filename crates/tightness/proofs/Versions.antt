@@ -37,7 +37,8 @@ unfolding computes
 version-rows-all-pending = apart ([], [], erases, 0, 1, 0 ∷ 0 ∷ []) count refl
 
 -- `version_rows`: a row for each write, as they stand
-pub version-rows-repeated : Excludes versionRows (λ (rows, versions, lists, slot, n, out). pushAll (record { out = out; n = 0 }) (join (kept rows versions lists slot n) (rowsWritten lists slot n)))
+pub version-rows-repeated : Excludes versionRows
+    (λ (rows, versions, lists, slot, n, out). pushAll (record { out = out; n = 0 }) (join (kept rows versions lists slot n) (rowsWritten lists slot n)))
 unfolding computes
 version-rows-repeated = apart ([], [], twice, 0, 2, 0 ∷ 0 ∷ []) count refl
 

@@ -1,4 +1,5 @@
-// The store for a program that holds it: open, a function for each step, and all that they need. Each step tests the shape first and answers 16 where it is wrong.
+// The store for a program that holds it: open, a function for each step, and all that they need. Each step tests the shape first and answers 16 where it is
+// wrong.
 pub use base_limits::MOST_BUCKETS;
 pub use base_limits::MOST_LIVE;
 pub use base_limits::MOST_ROWS;
@@ -96,7 +97,8 @@ pub fn rows(
     number: u64,
 ) -> Called
     ensures { λ r. ⌜ left r (now (rows .exit)) (now (versions .exit)) (now (buckets .exit)) (now (lists .exit)) (now (found .exit))
-        ≡ callOf (wordsOf (now (rows .entry)) (now (versions .entry)) (now (buckets .entry)) (now (lists .entry)) (now (found .entry)) m) (ask.Rows number (length (now (found .entry)))) ⌝ }
+        ≡ callOf (wordsOf (now (rows .entry)) (now (versions .entry)) (now (buckets .entry)) (now (lists .entry)) (now (found .entry)) m)
+        (ask.Rows number (length (now (found .entry)))) ⌝ }
 {
     let room = found.len() as u64;
     call(

@@ -38,19 +38,69 @@ idleOf slot = record {
 
 -- one part of the record anew
 abbrev pub withPhase : Transaction → Phase → Transaction
-withPhase t ph = record { number = t .number; snapshot = t .snapshot; marked = t .marked; phase = ph; slot = t .slot; «reads_n» = t .«reads_n»; «writes_n» = t .«writes_n»; «records_n» = t .«records_n»; «candidates_n» = t .«candidates_n» }
+withPhase t ph = record {
+  number = t .number;
+  snapshot = t .snapshot;
+  marked = t .marked;
+  phase = ph;
+  slot = t .slot;
+  «reads_n» = t .«reads_n»;
+  «writes_n» = t .«writes_n»;
+  «records_n» = t .«records_n»;
+  «candidates_n» = t .«candidates_n»;
+}
 
 abbrev pub withMark : Transaction → Transaction
-withMark t = record { number = t .number; snapshot = t .snapshot; marked = true; phase = t .phase; slot = t .slot; «reads_n» = t .«reads_n»; «writes_n» = t .«writes_n»; «records_n» = t .«records_n»; «candidates_n» = t .«candidates_n» }
+withMark t = record {
+  number = t .number;
+  snapshot = t .snapshot;
+  marked = true;
+  phase = t .phase;
+  slot = t .slot;
+  «reads_n» = t .«reads_n»;
+  «writes_n» = t .«writes_n»;
+  «records_n» = t .«records_n»;
+  «candidates_n» = t .«candidates_n»;
+}
 
 abbrev pub withReads : Transaction → ℕ → Transaction
-withReads t n = record { number = t .number; snapshot = t .snapshot; marked = t .marked; phase = t .phase; slot = t .slot; «reads_n» = n; «writes_n» = t .«writes_n»; «records_n» = t .«records_n»; «candidates_n» = t .«candidates_n» }
+withReads t n = record {
+  number = t .number;
+  snapshot = t .snapshot;
+  marked = t .marked;
+  phase = t .phase;
+  slot = t .slot;
+  «reads_n» = n;
+  «writes_n» = t .«writes_n»;
+  «records_n» = t .«records_n»;
+  «candidates_n» = t .«candidates_n»;
+}
 
 abbrev pub withWrites : Transaction → ℕ → Transaction
-withWrites t n = record { number = t .number; snapshot = t .snapshot; marked = t .marked; phase = t .phase; slot = t .slot; «reads_n» = t .«reads_n»; «writes_n» = n; «records_n» = t .«records_n»; «candidates_n» = t .«candidates_n» }
+withWrites t n = record {
+  number = t .number;
+  snapshot = t .snapshot;
+  marked = t .marked;
+  phase = t .phase;
+  slot = t .slot;
+  «reads_n» = t .«reads_n»;
+  «writes_n» = n;
+  «records_n» = t .«records_n»;
+  «candidates_n» = t .«candidates_n»;
+}
 
 abbrev pub withCandidates : Transaction → ℕ → Transaction
-withCandidates t n = record { number = t .number; snapshot = t .snapshot; marked = t .marked; phase = t .phase; slot = t .slot; «reads_n» = t .«reads_n»; «writes_n» = t .«writes_n»; «records_n» = t .«records_n»; «candidates_n» = n }
+withCandidates t n = record {
+  number = t .number;
+  snapshot = t .snapshot;
+  marked = t .marked;
+  phase = t .phase;
+  slot = t .slot;
+  «reads_n» = t .«reads_n»;
+  «writes_n» = t .«writes_n»;
+  «records_n» = t .«records_n»;
+  «candidates_n» = n;
+}
 
 -- taken by another: neither free nor the own number's
 abbrev pub takenBy : ℕ → ℕ → Bool
@@ -89,7 +139,8 @@ tooMany Nothing n = leb mostIndexReads n
 -- the first capture of a bucket adds one index read (bucket, stamp), a later one adds none; becomes Holding
 unfoldable pub holdOf : Transaction → Found → ℕ → ℕ → ℕ → List ℕ → WithLists
 holdOf t (At i) b k stamp lists = record { txn = withPhase t (phase.Holding b k); lists = lists }
-holdOf t Nothing b k stamp lists = record { txn = withReads (withPhase t (phase.Holding b k)) (t .«reads_n» + 1); lists = stored reads lists (t .slot) (t .«reads_n») (b ∷ stamp ∷ []) }
+holdOf t Nothing b k stamp lists =
+    record { txn = withReads (withPhase t (phase.Holding b k)) (t .«reads_n» + 1); lists = stored reads lists (t .slot) (t .«reads_n») (b ∷ stamp ∷ []) }
 
 abbrev pub heldLeft : ℕ → WithLists → List ℕ → Left
 heldLeft stamp h buckets = left (record { answer = tell.Stamp stamp; txn = h .txn }) buckets (h .lists)
@@ -124,7 +175,8 @@ writeOf rowCount t w lists =
 -- the posted rows are kept, and the bucket is free
 abbrev pub collectedLeft : Transaction → ℕ → ℕ → List ℕ → List ℕ → List ℕ → Left
 collectedLeft t b k rs buckets lists =
-    left (record { answer = tell.Count (length rs); txn = withCandidates (withPhase t (phase.Collected k)) (length rs) }) (setHolder buckets b 0) (keptIn lists (t .slot) rs)
+    left (record { answer = tell.Count (length rs); txn = withCandidates (withPhase t (phase.Collected k)) (length rs) }) (setHolder buckets b 0)
+    (keptIn lists (t .slot) rs)
 
 -- wrong phase; else the posted rows are kept and the bucket is free
 unfoldable pub collectOf : List ℕ → ℕ → Transaction → List ℕ → List ℕ → Left

@@ -6,7 +6,8 @@ use mathlib.Core.List.{List, map}
 use lib.Dec.{eqb}
 use lib.ListN.{take}
 use Rattle.model.specs.Store as model
-use Rattle.table.specs.Fields.{rowWords, versionWords, bucketWords, headOf, claimOf, postedOf, postedKeyOf, xminOf, xmaxOf, nextOf, keyedOf, keyOf, payloadOf, stampOf, holderOf}
+use Rattle.table.specs.Fields.{rowWords, versionWords, bucketWords, headOf, claimOf, postedOf, postedKeyOf, xminOf, xmaxOf, nextOf, keyedOf, keyOf, payloadOf}
+use Rattle.table.specs.Fields.{stampOf, holderOf}
 use Rattle.table.specs.Lists.{readsOf, writesOf, recordsOf, candidatesOf}
 use Rattle.table.specs.declared.lists.IndexRead.{IndexRead}
 use Rattle.table.specs.declared.lists.Write.{Write}

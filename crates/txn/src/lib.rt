@@ -218,7 +218,8 @@ impl Transaction {
         bucket_count: u64,
         key: u64,
     ) -> Answered
-        ensures { λ r. ⌜ record { reply = r; buckets = now (buckets .exit); lists = now (lists .exit) } ≡ captureOf «bucket_count» self key (now (buckets .entry)) (now (lists .entry)) ⌝ }
+        ensures { λ r. ⌜ record { reply = r; buckets = now (buckets .exit); lists = now (lists .exit) }
+            ≡ captureOf «bucket_count» self key (now (buckets .entry)) (now (lists .entry)) ⌝ }
     {
         let phase = self.phase;
         let n = self.reads_n;
@@ -258,7 +259,8 @@ impl Transaction {
         key: u64,
         payload: u64,
     ) -> Answered
-        ensures { λ r. ⌜ record { reply = r; lists = now (lists .exit) } ≡ writeOf «row_count» self (record { row = row; keyed = keyed; key = key; payload = payload }) (now (lists .entry)) ⌝ }
+        ensures { λ r. ⌜ record { reply = r; lists = now (lists .exit) }
+            ≡ writeOf «row_count» self (record { row = row; keyed = keyed; key = key; payload = payload }) (now (lists .entry)) ⌝ }
     {
         let phase = self.phase;
         let n = self.writes_n;
@@ -291,13 +293,15 @@ impl Transaction {
         key: u64,
         payload: u64,
     ) -> Answered
-        ensures { λ r. ⌜ record { reply = r; lists = now (lists .exit) } ≡ writeOf «row_count» self (record { row = row; keyed = 1; key = key; payload = payload }) (now (lists .entry)) ⌝ }
+        ensures { λ r. ⌜ record { reply = r; lists = now (lists .exit) }
+            ≡ writeOf «row_count» self (record { row = row; keyed = 1; key = key; payload = payload }) (now (lists .entry)) ⌝ }
     {
         self.write(lists, row_count, row, 1, key, payload)
     }
 
     pub fn erase(self, lists: &mut [u64], row_count: u64, row: u64) -> Answered
-        ensures { λ r. ⌜ record { reply = r; lists = now (lists .exit) } ≡ writeOf «row_count» self (record { row = row; keyed = 0; key = 0; payload = 0 }) (now (lists .entry)) ⌝ }
+        ensures { λ r. ⌜ record { reply = r; lists = now (lists .exit) }
+            ≡ writeOf «row_count» self (record { row = row; keyed = 0; key = 0; payload = 0 }) (now (lists .entry)) ⌝ }
     {
         self.write(lists, row_count, row, 0, 0, 0)
     }
@@ -310,7 +314,8 @@ impl Transaction {
         lists: &mut [u64],
         row_count: u64,
     ) -> Answered
-        ensures { λ r. ⌜ record { reply = r; buckets = now (buckets .exit); lists = now (lists .exit) } ≡ collectOf (now (rows .entry)) «row_count» self (now (buckets .entry)) (now (lists .entry)) ⌝ }
+        ensures { λ r. ⌜ record { reply = r; buckets = now (buckets .exit); lists = now (lists .exit) } ≡ collectOf (now (rows .entry)) «row_count» self
+            (now (buckets .entry)) (now (lists .entry)) ⌝ }
     {
         let phase = self.phase;
         if phase_rank(phase) != HOLDING {

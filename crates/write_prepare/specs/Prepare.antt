@@ -75,4 +75,5 @@ prepareWith versions lists limit used prepared t rows buckets needed =
 unfoldable pub prepareOf : List ℕ → List ℕ → ℕ → ℕ → ℕ → List ℕ → Transaction → List ℕ → List ℕ → Left
 prepareOf versions lists count limit used prepared t rows buckets =
     cond (not (eqb (rank (phaseView (t .phase))) phaseOpen)) (left (refusedOf t (refusalNumber WrongPhase)) rows buckets)
-    (prepareWith versions lists limit used prepared t rows buckets (neededInto rows versions lists count (t .slot) (t .«reads_n») (t .«writes_n») (replicate mostNeeded 0)))
+    (prepareWith versions lists limit used prepared t rows buckets
+    (neededInto rows versions lists count (t .slot) (t .«reads_n») (t .«writes_n») (replicate mostNeeded 0)))

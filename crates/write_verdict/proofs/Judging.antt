@@ -21,7 +21,8 @@ use Rattle.write_verdict.proofs.Laws.{entries-length, entries-at}
 -- a scan that answers with its first entry where the test holds, by the place of that entry
 module _ {A D : Type 0} (test : A → Bool) (says : A → D) (otherwise : D) (judge : List A → D) (none : judge [] ≡ otherwise)
     (next : (x : A) (xs : List A) → judge (x ∷ xs) ≡ cond (test x) (says x) (judge xs)) where
-  at-by : (k : ℕ) (x : A) (xs : List A) (i : ℕ) (d : A) (b : Bool) → test x ≡ b → (firstWhere test (suc k) xs ≡ At i → (j : ℕ) × (i ≡ suc k + j) × (j < length xs) × (judge xs ≡ says (getD xs j d)))
+  at-by : (k : ℕ) (x : A) (xs : List A) (i : ℕ) (d : A) (b : Bool) → test x ≡ b
+      → (firstWhere test (suc k) xs ≡ At i → (j : ℕ) × (i ≡ suc k + j) × (j < length xs) × (judge xs ≡ says (getD xs j d)))
       → cond b (At k) (firstWhere test (suc k) xs) ≡ At i → (j : ℕ) × (i ≡ k + j) × (j < suc (length xs)) × (judge (x ∷ xs) ≡ says (getD (x ∷ xs) j d))
   at-by k x xs i d true e rest f = let q : k ≡ i = cc in (0, omega arith, omega arith, rw (next x xs, e))
   at-by k x xs i d false e rest f = let r = rest f in (suc (r .0), omega (arith, r .1), omega (arith, r .2), rw (next x xs, e) (r .3))
@@ -31,7 +32,8 @@ module _ {A D : Type 0} (test : A → Bool) (says : A → D) (otherwise : D) (ju
   judge-at k [] i d e = absurd (not-both Nothing i e refl)
   judge-at k (x ∷ xs) i d e = at-by k x xs i d (test x) refl (λ f. judge-at (suc k) xs i d f) e
 
-  none-by : (k : ℕ) (x : A) (xs : List A) (b : Bool) → test x ≡ b → (firstWhere test (suc k) xs ≡ Nothing → judge xs ≡ otherwise) → cond b (At k) (firstWhere test (suc k) xs) ≡ Nothing → judge (x ∷ xs) ≡ otherwise
+  none-by : (k : ℕ) (x : A) (xs : List A) (b : Bool) → test x ≡ b → (firstWhere test (suc k) xs ≡ Nothing → judge xs ≡ otherwise)
+      → cond b (At k) (firstWhere test (suc k) xs) ≡ Nothing → judge (x ∷ xs) ≡ otherwise
   none-by k x xs true e rest f = absurd (not-both (At k) k refl f)
   none-by k x xs false e rest f = rw (next x xs, e) (rest f)
 
@@ -58,7 +60,8 @@ module _ (versions buckets lists : List ℕ) (t : Transaction) where
   unfolding verdict
   verdict-mark m = rw m
 
-  pub verdict-bucket : t .marked ≡ false → (i : ℕ) → changedRead buckets lists t ≡ At i → verdictOf versions buckets lists t ≡ bucketTold buckets lists (t .slot) i
+  pub verdict-bucket : t .marked ≡ false → (i : ℕ) → changedRead buckets lists t ≡ At i
+      → verdictOf versions buckets lists t ≡ bucketTold buckets lists (t .slot) i
   unfolding verdict judgeReads
   verdict-bucket m i e =
       let rest = judgeRecords (versionsView versions) (t .number) (snapshotView (t .snapshot)) (recordsIn lists t) in
@@ -68,14 +71,19 @@ module _ (versions buckets lists : List ℕ) (t : Transaction) where
             (λ rs. judgeReads (stampsView buckets) (t .number) rs rest) refl (λ x xs. refl) readView readOf reads lists (t .slot) (t .«reads_n») i e,
       )
 
-  rows-told : (f : Found) → changedRecord versions lists t ≡ f → verdictTold (judgeRecords (versionsView versions) (t .number) (snapshotView (t .snapshot)) (recordsIn lists t)) ≡ rowTold lists (t .slot) f
+  rows-told : (f : Found) → changedRecord versions lists t ≡ f
+      → verdictTold (judgeRecords (versionsView versions) (t .number) (snapshotView (t .snapshot)) (recordsIn lists t)) ≡ rowTold lists (t .slot) f
   unfolding judgeRecords
   rows-told (At i) e =
-      rw (judge-entry (badIn versions t) (λ r. judged.Row (r .row) (r .ptr)) Clear (judgeRecords (versionsView versions) (t .number) (snapshotView (t .snapshot))) refl (λ x xs. refl) recordView recordOf records lists (t .slot) (t .«records_n») i e)
+      rw (judge-entry (badIn versions t) (λ r. judged.Row (r .row) (r .ptr)) Clear
+      (judgeRecords (versionsView versions) (t .number) (snapshotView (t .snapshot))) refl (λ x xs. refl) recordView recordOf records lists (t .slot)
+      (t .«records_n») i e)
   rows-told Nothing e =
-      rw (judge-nothing (badIn versions t) (λ r. judged.Row (r .row) (r .ptr)) Clear (judgeRecords (versionsView versions) (t .number) (snapshotView (t .snapshot))) refl (λ x xs. refl) (recordsIn lists t) e)
+      rw (judge-nothing (badIn versions t) (λ r. judged.Row (r .row) (r .ptr)) Clear
+      (judgeRecords (versionsView versions) (t .number) (snapshotView (t .snapshot))) refl (λ x xs. refl) (recordsIn lists t) e)
 
-  pub verdict-row : t .marked ≡ false → changedRead buckets lists t ≡ Nothing → verdictOf versions buckets lists t ≡ rowTold lists (t .slot) (changedRecord versions lists t)
+  pub verdict-row : t .marked ≡ false → changedRead buckets lists t ≡ Nothing
+      → verdictOf versions buckets lists t ≡ rowTold lists (t .slot) (changedRecord versions lists t)
   unfolding verdict judgeReads
   verdict-row m e =
       let rest = judgeRecords (versionsView versions) (t .number) (snapshotView (t .snapshot)) (recordsIn lists t) in

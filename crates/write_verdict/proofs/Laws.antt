@@ -38,7 +38,8 @@ module _ {A B : Type 0} (view : A → B) (f : List ℕ → A) (k : Kind) (xs : L
 -- a test on the entries of a slot's list, each seen through `view`, where x is read at entry i
 module _ {A B : Type 0} (test : B → Bool) (view : A → B) (f : List ℕ → A) (k : Kind) (xs : List ℕ) (s n i : ℕ) where
   pub where-next : (x : A) → x ≡ entryAt f k xs s i → i < n
-      → firstWhere test i (drop i (map view (listAt f k xs s n))) ≡ cond (test (view x)) (At i) (firstWhere test (i + 1) (drop (i + 1) (map view (listAt f k xs s n))))
+      → firstWhere test i (drop i (map view (listAt f k xs s n)))
+      ≡ cond (test (view x)) (At i) (firstWhere test (i + 1) (drop (i + 1) (map view (listAt f k xs s n))))
   unfolding firstWhere
   where-next x e h = rw (e, list-map view f (k .w) (startOf k s) xs n, list-drop (λ ws. view (f ws)) (k .w) (startOf k s) xs n i (view x) h, add-one)
 
@@ -56,7 +57,8 @@ looked-same active n x e = elim (decLt n mostActive) [
 ]
 
 pub looked-few : (e : ℕ) (s : Snapshot) → lookedFor e s ≤ mostActive
-looked-few e s = cond-elim (λ m. m ≤ mostActive) (eqb e 0 || ltb e (least (s .xmin) (activeOf s))) 0 (min (s .«active_n») mostActive) (λ t. omega arith) (λ t. omega arith)
+looked-few e s = cond-elim (λ m. m ≤ mostActive) (eqb e 0 || ltb e (least (s .xmin) (activeOf s))) 0 (min (s .«active_n») mostActive) (λ t. omega arith)
+    (λ t. omega arith)
 
 -- a read record is bad where it has changed outright, or where who ended it is active; a number below the least of xmin and the active numbers is not
 module _ (versions : List ℕ) (n : ℕ) (s : Snapshot) (r : ReadRecord) (long : length (s .active) ≡ mostActive) where
@@ -66,11 +68,14 @@ module _ (versions : List ℕ) (n : ℕ) (s : Snapshot) (r : ReadRecord) (long :
   unfolding member
   bad-by x true none low eo ez el d = rw (eo, and-false) (sym (or-false (d || false)))
   bad-by x false true low eo ez el d = rw (ez) (sym (or-false (d || false)))
-  bad-by x false false true eo ez el d = rw (eo, ez, el, below-least (s .xmin) (activeOf s) x (ltb-true _ _ el), or-false (leb (s .xmax) x)) (sym (or-false (d || leb (s .xmax) x)))
-  bad-by x false false false eo ez el d = rw (eo, ez, el, looked-same (s .active) (s .«active_n») x long) (sym (or-assoc d (leb (s .xmax) x) (member x (activeOf s))))
+  bad-by x false false true eo ez el d =
+      rw (eo, ez, el, below-least (s .xmin) (activeOf s) x (ltb-true _ _ el), or-false (leb (s .xmax) x)) (sym (or-false (d || leb (s .xmax) x)))
+  bad-by x false false false eo ez el d =
+      rw (eo, ez, el, looked-same (s .active) (s .«active_n») x long) (sym (or-assoc d (leb (s .xmax) x) (member x (activeOf s))))
 
   pub bad-split : badRecord (versionsView versions) n (snapshotView s) (recordView r)
-      ≡ (outright versions r (endedBy versions (r .ptr) n) (s .xmax) || member (endedBy versions (r .ptr) n) (take (lookedFor (endedBy versions (r .ptr) n) s) (s .active)))
+      ≡ (outright versions r (endedBy versions (r .ptr) n) (s .xmax)
+      || member (endedBy versions (r .ptr) n) (take (lookedFor (endedBy versions (r .ptr) n) s) (s .active)))
   unfolding badRecord
   bad-split = bad-by (xmaxOf versions (r .ptr)) _ _ _ refl refl refl (not (eqb (xminOf versions (r .ptr)) (r .xmin)))
 

@@ -22,13 +22,15 @@ pub record Agrees (c : Chains) (x : Index) (versions buckets : List ℕ) (t : Tx
   pub stamp-same : (r : IndexRead) → Among r (t .reads) → x .stamp (r .bucket) ≡ stampOf buckets (r .bucket)
 
 records-same : (c : Chains) (versions : List ℕ) (n : ℕ) (s : Snapshot) (rs : List ReadRecord)
-    → ((r : ReadRecord) → Among r rs → c .xmin (r .ptr) ≡ xminOf versions (r .ptr)) → ((r : ReadRecord) → Among r rs → c .xmax (r .ptr) ≡ xmaxOf versions (r .ptr))
+    → ((r : ReadRecord) → Among r rs → c .xmin (r .ptr) ≡ xminOf versions (r .ptr))
+    → ((r : ReadRecord) → Among r rs → c .xmax (r .ptr) ≡ xmaxOf versions (r .ptr))
     → judgeRecords c n s rs ≡ judgeRecords (versionsView versions) n s rs
 unfolding judgeRecords badRecord
 records-same c versions n s [] p q = refl
 records-same c versions n s (r ∷ rs) p q = rw (p r (inl refl), q r (inl refl), records-same c versions n s rs (λ r m. p r (inr m)) (λ r m. q r (inr m)))
 
-reads-same : (x : Index) (buckets : List ℕ) (n : ℕ) (rs : List IndexRead) (otherwise : Verdict) → ((r : IndexRead) → Among r rs → x .stamp (r .bucket) ≡ stampOf buckets (r .bucket))
+reads-same : (x : Index) (buckets : List ℕ) (n : ℕ) (rs : List IndexRead) (otherwise : Verdict)
+    → ((r : IndexRead) → Among r rs → x .stamp (r .bucket) ≡ stampOf buckets (r .bucket))
     → judgeReads x n rs otherwise ≡ judgeReads (stampsView buckets) n rs otherwise
 unfolding judgeReads badRead
 reads-same x buckets n [] otherwise p = refl
@@ -38,10 +40,15 @@ pub verdict-model : (c : Chains) (x : Index) (versions buckets lists : List ℕ)
     → verdictOf versions buckets lists t ≡ verdictTold (verdict c x (txnView lists t))
 unfolding verdict
 verdict-model c x versions buckets lists t a =
-    rw (reads-same x buckets (t .number) (txnView lists t .reads) (judgeRecords c (t .number) (txnView lists t .snapshot) (txnView lists t .records)) (a .stamp-same), records-same c versions (t .number) (txnView lists t .snapshot) (txnView lists t .records) (a .xmin-same) (a .xmax-same))
+    rw (
+      reads-same x buckets (t .number) (txnView lists t .reads) (judgeRecords c (t .number) (txnView lists t .snapshot) (txnView lists t .records))
+          (a .stamp-same),
+      records-same c versions (t .number) (txnView lists t .snapshot) (txnView lists t .records) (a .xmin-same) (a .xmax-same),
+    )
 
 -- the parts of the tables that a store's sizes name agree with the whole tables, where the lists name what is in the store
-pub agrees-parts : (z : Sizes) (used : ℕ) (rows versions buckets : List ℕ) (t : Txn) → ((r : ReadRecord) → Among r (t .records) → r .ptr ≤ z .versions) → ((r : IndexRead) → Among r (t .reads) → r .bucket < z .buckets)
+pub agrees-parts : (z : Sizes) (used : ℕ) (rows versions buckets : List ℕ) (t : Txn) → ((r : ReadRecord) → Among r (t .records) → r .ptr ≤ z .versions)
+    → ((r : IndexRead) → Among r (t .reads) → r .bucket < z .buckets)
     → Agrees (chainsView (rowsPart z rows) (versionsPart z versions) used) (indexView (rowsPart z rows) (bucketsPart z buckets)) versions buckets t
 agrees-parts z used rows versions buckets t ptrs bs = record {
   xmin-same = λ r m. part-field versionWords 0 (suc (z .versions)) versions (r .ptr) (omega arith) (omega (arith, ptrs r m));

@@ -40,7 +40,8 @@ module _ {A : Type 0} (test : A → Bool) (d : A) where
   fails-cons x xs n e h zero l = e
   fails-cons x xs n e h (suc j) l = h j (omega arith)
 
-  first-by : (k : ℕ) (x : A) (xs : List A) (i : ℕ) (b : Bool) → test x ≡ b → (firstWhere test (suc k) xs ≡ At i → (j : ℕ) × (i ≡ suc k + j) × FirstAt test xs d j)
+  first-by : (k : ℕ) (x : A) (xs : List A) (i : ℕ) (b : Bool) → test x ≡ b
+      → (firstWhere test (suc k) xs ≡ At i → (j : ℕ) × (i ≡ suc k + j) × FirstAt test xs d j)
       → cond b (At k) (firstWhere test (suc k) xs) ≡ At i → (j : ℕ) × (i ≡ k + j) × FirstAt test (x ∷ xs) d j
   first-by k x xs i true e rest f = let q : k ≡ i = cc in (0, omega arith, record { below = omega arith; holds = e; before = λ j h. absurd (omega arith) })
   first-by k x xs i false e rest f =
@@ -56,7 +57,8 @@ module _ {A : Type 0} (test : A → Bool) (d : A) where
   pub where-at : (xs : List A) (i : ℕ) → firstWhere test 0 xs ≡ At i → FirstAt test xs d i
   where-at xs i e = let r = first-from 0 xs i e in let q : i ≡ r .0 = omega (arith, r .1) in rw q (r .2)
 
-  none-by : (k : ℕ) (x : A) (xs : List A) (b : Bool) → test x ≡ b → (firstWhere test (suc k) xs ≡ Nothing → Fails xs (length xs)) → cond b (At k) (firstWhere test (suc k) xs) ≡ Nothing → Fails (x ∷ xs) (suc (length xs))
+  none-by : (k : ℕ) (x : A) (xs : List A) (b : Bool) → test x ≡ b → (firstWhere test (suc k) xs ≡ Nothing → Fails xs (length xs))
+      → cond b (At k) (firstWhere test (suc k) xs) ≡ Nothing → Fails (x ∷ xs) (suc (length xs))
   none-by k x xs true e rest f = absurd (not-both (At k) k refl f)
   none-by k x xs false e rest f = fails-cons x xs (length xs) e (rest f)
 
@@ -93,7 +95,8 @@ module _ {A B : Type 0} (test : B → Bool) (view : A → B) (f : List ℕ → A
 
 module _ (versions lists : List ℕ) (t : Transaction) where
   -- `read_conflict` is the model's bad record
-  pub read-conflict-is-bad : (r : ReadRecord) → badRecord (versionsView versions) (t .number) (snapshotView (t .snapshot)) (recordView r) ≡ readConflict (xminOf versions (r .ptr)) (xmaxOf versions (r .ptr)) r (t .number) (t .snapshot)
+  pub read-conflict-is-bad : (r : ReadRecord) → badRecord (versionsView versions) (t .number) (snapshotView (t .snapshot)) (recordView r)
+      ≡ readConflict (xminOf versions (r .ptr)) (xmaxOf versions (r .ptr)) r (t .number) (t .snapshot)
   unfolding badRecord
   read-conflict-is-bad r = refl
 
@@ -105,7 +108,8 @@ module _ (versions lists : List ℕ) (t : Transaction) where
       (λ e c. true≢false (sym (c .2) ∙ all .0 e (c .0) (c .1)), λ no. all .1 (λ j h. is-false _ (λ c. no (j, h, c))))
 
   -- and the place answered is that of the first record in conflict
-  pub has-serialization-conflict-first : (i : ℕ) → changedRecord versions lists t ≡ At i → (i < t .«records_n») × (conflictAt versions lists t i ≡ true) × ((j : ℕ) → j < i → conflictAt versions lists t j ≡ false)
+  pub has-serialization-conflict-first : (i : ℕ) → changedRecord versions lists t ≡ At i
+      → (i < t .«records_n») × (conflictAt versions lists t i ≡ true) × ((j : ℕ) → j < i → conflictAt versions lists t j ≡ false)
   unfolding badRecord
   has-serialization-conflict-first i e = entries-first (badIn versions t) recordView recordOf records lists (t .slot) (t .«records_n») i e
 
@@ -131,18 +135,23 @@ module _ (buckets lists : List ℕ) (t : Transaction) where
       not-false true e = refl
       not-false false e = absurd (true≢false e)
 
--- conflict == (predicate_conflict || reads_conflict), where `index_read_conflict` is the mark, or not `reads_good`: the verdict is clear exactly where none holds
+-- conflict == (predicate_conflict || reads_conflict), where `index_read_conflict` is the mark, or not `reads_good`: the verdict is clear exactly where none
+-- holds
 module _ (versions buckets lists : List ℕ) (t : Transaction) where
-  pub verdict-clear : (verdictOf versions buckets lists t ≡ told.Clear) ↔ ((t .marked ≡ false) × ReadsGood buckets lists t × (ReadsConflict versions lists t → ⊥))
+  pub verdict-clear : (verdictOf versions buckets lists t ≡ told.Clear)
+      ↔ ((t .marked ≡ false) × ReadsGood buckets lists t × (ReadsConflict versions lists t → ⊥))
   verdict-clear = (
     λ e. clear (t .marked) refl (changedRead buckets lists t) refl (changedRecord versions lists t) refl e,
     λ g.
-        verdict-row versions buckets lists t (g .0) (reads-good-ensures buckets lists t .1 (g .1)) ∙ rw (has-serialization-conflict-ensures versions lists t .1 (g .2)),
+        verdict-row versions buckets lists t (g .0) (reads-good-ensures buckets lists t .1 (g .1))
+        ∙ rw (has-serialization-conflict-ensures versions lists t .1 (g .2)),
   )
     where
-      clear : (m : Bool) → t .marked ≡ m → (f : Found) → changedRead buckets lists t ≡ f → (g : Found) → changedRecord versions lists t ≡ g → verdictOf versions buckets lists t ≡ told.Clear
+      clear : (m : Bool) → t .marked ≡ m → (f : Found) → changedRead buckets lists t ≡ f → (g : Found) → changedRecord versions lists t ≡ g
+          → verdictOf versions buckets lists t ≡ told.Clear
           → (t .marked ≡ false) × ReadsGood buckets lists t × (ReadsConflict versions lists t → ⊥)
       clear true em f ef g eg e = let z : _≡_ {A = ℕ} 0 1 = cc (verdict-mark versions buckets lists t em) in absurd (omega arith)
       clear false em (At i) ef g eg e = let z : _≡_ {A = ℕ} 0 1 = cc (verdict-bucket versions buckets lists t em i ef) in absurd (omega arith)
-      clear false em Nothing ef (At i) eg e = let q = rw eg at (verdict-row versions buckets lists t em ef) in let z : _≡_ {A = ℕ} 0 1 = cc in absurd (omega arith)
+      clear false em Nothing ef (At i) eg e = let q = rw eg at (verdict-row versions buckets lists t em ef) in let z : _≡_ {A = ℕ} 0 1 = cc in
+          absurd (omega arith)
       clear false em Nothing ef Nothing eg e = (em, reads-good-ensures buckets lists t .0 ef, has-serialization-conflict-ensures versions lists t .0 eg)

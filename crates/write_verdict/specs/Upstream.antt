@@ -23,7 +23,8 @@ readConflict xminᵥ xmaxᵥ entry own s =
 -- whether read record i is in conflict with the version it was read at
 abbrev pub conflictAt : List ℕ → List ℕ → Transaction → ℕ → Bool
 conflictAt versions lists t i =
-    readConflict (xminOf versions (recordAt lists (t .slot) i .ptr)) (xmaxOf versions (recordAt lists (t .slot) i .ptr)) (recordAt lists (t .slot) i) (t .number) (t .snapshot)
+    readConflict (xminOf versions (recordAt lists (t .slot) i .ptr)) (xmaxOf versions (recordAt lists (t .slot) i .ptr)) (recordAt lists (t .slot) i)
+    (t .number) (t .snapshot)
 
 -- some record of the read set is
 abbrev pub ReadsConflict : List ℕ → List ℕ → Transaction → Type 0
@@ -34,4 +35,5 @@ abbrev pub readGood : ℕ → IndexRead → ℕ → Bool
 readGood stamp r own = eqb stamp (r .stamp) && ltb stamp own
 
 abbrev pub ReadsGood : List ℕ → List ℕ → Transaction → Type 0
-ReadsGood buckets lists t = (i : ℕ) → i < t .«reads_n» → readGood (stampOf buckets (readAt lists (t .slot) i .bucket)) (readAt lists (t .slot) i) (t .number) ≡ true
+ReadsGood buckets lists t =
+    (i : ℕ) → i < t .«reads_n» → readGood (stampOf buckets (readAt lists (t .slot) i .bucket)) (readAt lists (t .slot) i) (t .number) ≡ true

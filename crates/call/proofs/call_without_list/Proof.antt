@@ -24,7 +24,8 @@ same-length-4 : tie.Need-same-length-4
 same-length-4 c = c .before .before .before .before .before .before .before .before .before .call .kept .1 .1 .1 .0
 
 returns : tie.Need-returns
-returns c = lent-none _ _ _ _ _ _ _ (c .before .before .before .before .before .before .before .before .before .call .kept .1 .1 .1 .1 .0) (c .before .before .before .before .before .before .before .before .before .call .ensures)
+returns c = lent-none _ _ _ _ _ _ _ (c .before .before .before .before .before .before .before .before .before .call .kept .1 .1 .1 .1 .0)
+    (c .before .before .before .before .before .before .before .before .before .call .ensures)
 
 pub call-without-list-spec : {M : Type 1} → statement M
 call-without-list-spec =

@@ -33,7 +33,8 @@ loop-less : tie.Need-loop-less Inv-loop μ-loop
 loop-less c = search needs
 
 loop-again : tie.Need-loop-again Inv-loop μ-loop
-loop-again c = let a = c .before .before .args in let l = c .before .loop in (omega arith, simp length-set (l .inv .1), clear-next (a .xs .now) (l .xs) (l .i) (omega arith) (l .inv .2))
+loop-again c = let a = c .before .before .args in let l = c .before .loop in
+    (omega arith, simp length-set (l .inv .1), clear-next (a .xs .now) (l .xs) (l .i) (omega arith) (l .inv .2))
 
 same-length : tie.Need-same-length Inv-loop μ-loop
 same-length c = c .before .loop .inv .1

@@ -31,10 +31,12 @@ unopenable : (c : tie.Then1) → let a = entered (c .before) .args in canOpen (s
 unopenable c = sym (c .before .can-open .ensures) ∙ not-true _ (c .if1 .taken)
 
 -- every table has the words that its size names, or one has not
-lent : (c : tie.Else2) → let a = entered (tested (c .before)) .args in tablesLent (a .rows .now) (a .versions .now) (a .buckets .now) (a .lists .now) (a .sizes) ≡ true
+lent : (c : tie.Else2) → let a = entered (tested (c .before)) .args in
+    tablesLent (a .rows .now) (a .versions .now) (a .buckets .now) (a .lists .now) (a .sizes) ≡ true
 lent c = sym (c .before .tables-lent .ensures) ∙ not-false _ (c .if2 .left)
 
-unlent : (c : tie.Then2) → let a = entered (tested (c .before)) .args in tablesLent (a .rows .now) (a .versions .now) (a .buckets .now) (a .lists .now) (a .sizes) ≡ false
+unlent : (c : tie.Then2) → let a = entered (tested (c .before)) .args in
+    tablesLent (a .rows .now) (a .versions .now) (a .buckets .now) (a .lists .now) (a .sizes) ≡ false
 unlent c = sym (c .before .tables-lent .ensures) ∙ not-true _ (c .if2 .taken)
 
 -- so each has room to be cleared

@@ -28,7 +28,12 @@ same-length-2 c = search needs
 
 returns-3 : tie.Need-returns-3
 unfolding sweptFor
-returns-3 c = rw (ne-eqb _ _ (c .before .before .before .before .before .before .before .before .before .if1 .left), eq-eqb _ _ (c .before .before .before .before .before .before .before .before .if2 .left), c .before .before .before .before .before .before .unclaim-every .ensures, c .before .before .release-every .ensures)
+returns-3 c = rw (
+  ne-eqb _ _ (c .before .before .before .before .before .before .before .before .before .if1 .left),
+  eq-eqb _ _ (c .before .before .before .before .before .before .before .before .if2 .left),
+  c .before .before .before .before .before .before .unclaim-every .ensures,
+  c .before .before .release-every .ensures,
+)
 
 pub sweep-spec : {M : Type 1} → statement M
 sweep-spec =

@@ -37,7 +37,14 @@ same-length-2 c = search needs
 
 returns-2 : tie.Need-returns-2
 unfolding abortOf
-returns-2 c = rw (← c .before .before .before .before .before .before .before .before .before .before .before .before .phase-rank .ensures, lt-leb _ _ (c .before .before .before .before .before .before .before .before .before .before .before .if1 .left), ← c .before .before .before .before .before .before .before .before .bucket-in .ensures, ← c .before .before .before .before .before .before .before .free-needed .ensures, ← c .before .before .before .unclaim-all .ensures, c .idle .ensures)
+returns-2 c = rw (
+  ← c .before .before .before .before .before .before .before .before .before .before .before .before .phase-rank .ensures,
+  lt-leb _ _ (c .before .before .before .before .before .before .before .before .before .before .before .if1 .left),
+  ← c .before .before .before .before .before .before .before .before .bucket-in .ensures,
+  ← c .before .before .before .before .before .before .before .free-needed .ensures,
+  ← c .before .before .before .unclaim-all .ensures,
+  c .idle .ensures,
+)
 
 pub abort-spec : {M : Type 1} → statement M
 abort-spec =

@@ -35,7 +35,8 @@ same-length : tie.Need-same-length
 same-length c = search needs
 
 returns : tie.Need-returns
-returns c = let a = c .before .before .before .before .before .before .before .before .before .before .before .before .before .before .before .before .before .before .args in c .before .before .release-all .ensures ∙ freed-made (a .rows .now) (a .versions .now) (a .lists .now) (a .bucket-count) (a .installed) (a .bucket) (a .slot) (a .reads-n) (a .writes-n) (a .number) (a .buckets .now) _ _ _ (c .before .before .before .before .before .before .before .before .before .before .before .before .push .ensures) (c .before .before .before .before .before .before .before .before .before .push-reads .ensures) (c .before .before .before .before .before .before .push-writes .ensures)
+returns c = let a =
+    c .before .before .before .before .before .before .before .before .before .before .before .before .before .before .before .before .before .before .args in c .before .before .release-all .ensures ∙ freed-made (a .rows .now) (a .versions .now) (a .lists .now) (a .bucket-count) (a .installed) (a .bucket) (a .slot) (a .reads-n) (a .writes-n) (a .number) (a .buckets .now) _ _ _ (c .before .before .before .before .before .before .before .before .before .before .before .before .push .ensures) (c .before .before .before .before .before .before .before .before .before .push-reads .ensures) (c .before .before .before .before .before .before .push-writes .ensures)
 
 pub free-needed-spec : {M : Type 1} → statement M
 free-needed-spec =

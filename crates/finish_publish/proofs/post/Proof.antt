@@ -20,7 +20,10 @@ same-length c = search needs
 
 returns : tie.Need-returns
 unfolding postedOne
-returns c = rw (← c .before .before .before .before .before .before .before .before .new-key .ensures, ← c .before .before .before .before .before .before .set-posted .ensures) (c .before .before .set-posted-key .ensures)
+returns c = rw (
+  ← c .before .before .before .before .before .before .before .before .new-key .ensures,
+  ← c .before .before .before .before .before .before .set-posted .ensures,
+) (c .before .before .set-posted-key .ensures)
 
 pub post-spec : {M : Type 1} → statement M
 post-spec =

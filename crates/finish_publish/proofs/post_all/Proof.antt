@@ -15,7 +15,8 @@ use Rattle.finish_publish.proofs.post_all.Tie as tie
 
 abbrev Inv-loop : tie.InvT-loop
 Inv-loop rows₀ lists slot count i₀ rows i =
-    (i ≤ count) × (length rows ≡ length rows₀) × (postedAll lists slot count rows₀ (rowsWritten lists slot count) ≡ postedAll lists slot count rows (drop i (rowsWritten lists slot count)))
+    (i ≤ count) × (length rows ≡ length rows₀)
+    × (postedAll lists slot count rows₀ (rowsWritten lists slot count) ≡ postedAll lists slot count rows (drop i (rowsWritten lists slot count)))
 
 abbrev μ-loop : tie.MeasureT-loop
 μ-loop rows₀ lists slot count i₀ rows i = count - i
@@ -37,14 +38,30 @@ loop-less c = search needs
 
 loop-again : tie.Need-loop-again Inv-loop μ-loop
 unfolding postedAll
-loop-again c = let l = c .before .before .before .before .before .before .loop in (omega arith, c .before .before .post .kept .0 ∙ l .inv .1, l .inv .2 ∙ rw (fields-next (λ (w : Write). w .row) writeOf writes (c .before .before .before .before .before .before .before .before .before .args .lists .now) (c .before .before .before .before .before .before .before .before .before .args .slot) (c .before .before .before .before .before .before .before .before .before .args .count) (l .i) (c .before .before .before .write-row-at .result) (omega arith) (c .before .before .before .write-row-at .ensures), c .before .before .post .ensures))
+loop-again c = let l = c .before .before .before .before .before .before .loop in (
+  omega arith,
+  c .before .before .post .kept .0 ∙ l .inv .1,
+  l .inv .2
+      ∙ rw (
+        fields-next (λ (w : Write). w .row) writeOf writes (c .before .before .before .before .before .before .before .before .before .args .lists .now)
+            (c .before .before .before .before .before .before .before .before .before .args .slot)
+            (c .before .before .before .before .before .before .before .before .before .args .count) (l .i) (c .before .before .before .write-row-at .result)
+            (omega arith) (c .before .before .before .write-row-at .ensures),
+        c .before .before .post .ensures,
+      ),
+)
 
 same-length : tie.Need-same-length Inv-loop μ-loop
 same-length c = c .before .loop .inv .1
 
 returns : tie.Need-returns Inv-loop μ-loop
 unfolding postedAll
-returns c = let l = c .before .loop in sym (rw (l .inv .2, fields-done (λ (w : Write). w .row) writeOf writes (c .before .before .before .before .args .lists .now) (c .before .before .before .before .args .slot) (c .before .before .before .before .args .count) (l .i) (omega arith)))
+returns c = let l = c .before .loop in
+    sym (rw (
+      l .inv .2,
+      fields-done (λ (w : Write). w .row) writeOf writes (c .before .before .before .before .args .lists .now)
+          (c .before .before .before .before .args .slot) (c .before .before .before .before .args .count) (l .i) (omega arith),
+    ))
 
 pub post-all-spec : {M : Type 1} → statement M
 post-all-spec =

@@ -42,7 +42,8 @@ same-length-2 c = search needs
 
 returns-2 : tie.Need-returns-2
 unfolding publishOf
-returns-2 c = rw (← c .before .before .before .before .before .before .before .before .before .before .before .before .before .before .before .before .before .before .before .before .before .phase-rank .ensures, eq-eqb _ _ (c .before .before .before .before .before .before .before .before .before .before .before .before .before .before .before .before .before .before .before .before .if1 .left), ← c .before .before .before .before .before .before .before .before .before .before .before .before .bucket-in .ensures, ← c .before .before .before .before .before .before .before .before .before .before .before .before .before .before .before .before .before .stamp-changes .ensures, ← c .before .before .before .before .before .before .before .before .before .before .before .free-needed .ensures, ← c .before .before .before .before .before .before .before .post-all .ensures, ← c .before .before .before .unclaim-all .ensures, c .idle .ensures)
+returns-2 c =
+    rw (← c .before .before .before .before .before .before .before .before .before .before .before .before .before .before .before .before .before .before .before .before .before .phase-rank .ensures, eq-eqb _ _ (c .before .before .before .before .before .before .before .before .before .before .before .before .before .before .before .before .before .before .before .before .if1 .left), ← c .before .before .before .before .before .before .before .before .before .before .before .before .bucket-in .ensures, ← c .before .before .before .before .before .before .before .before .before .before .before .before .before .before .before .before .before .stamp-changes .ensures, ← c .before .before .before .before .before .before .before .before .before .before .before .free-needed .ensures, ← c .before .before .before .before .before .before .before .post-all .ensures, ← c .before .before .before .unclaim-all .ensures, c .idle .ensures)
 
 pub publish-spec : {M : Type 1} → statement M
 publish-spec =

@@ -12,7 +12,9 @@ use Rattle.read_record.proofs.add_records.Statement.{statement}
 use Rattle.read_record.proofs.add_records.Tie as tie
 
 abbrev Inv-loop : tie.InvT-loop
-Inv-loop versions lists₀ matched through slot from at₀ i₀ lists at i = (i ≤ length through) × (length lists ≡ length lists₀) × (at + countOf (drop i through) ≡ from + countOf through) × (putRecords lists₀ slot from (recordsFor versions matched through) ≡ putRecords lists slot at (recordsFor versions (drop i matched) (drop i through)))
+Inv-loop versions lists₀ matched through slot from at₀ i₀ lists at i =
+    (i ≤ length through) × (length lists ≡ length lists₀) × (at + countOf (drop i through) ≡ from + countOf through)
+    × (putRecords lists₀ slot from (recordsFor versions matched through) ≡ putRecords lists slot at (recordsFor versions (drop i matched) (drop i through)))
 
 abbrev μ-loop : tie.MeasureT-loop
 μ-loop versions lists₀ matched through slot from at₀ i₀ lists at i = length through - i
@@ -36,13 +38,23 @@ loop-less : tie.Need-loop-less Inv-loop μ-loop
 loop-less c = search needs
 
 loop-again : tie.Need-loop-again Inv-loop μ-loop
-loop-again c = let a = c .before .before .before .before .before .before .before .before .before .before .before .before .args in let l = c .before .before .before .before .before .before .before .loop in let r = c .before .before .add-record in
+loop-again c = let a = c .before .before .before .before .before .before .before .before .before .before .before .before .args in
+    let l = c .before .before .before .before .before .before .before .loop in let r = c .before .before .add-record in
     let rs = a .matched .now in
     let ps = a .through .now in
     let st : Behind = record { at = l .at; lists = l .lists } in
     let here : l .i < length ps = omega arith in
-    let done : _≡_ {A = Behind} (record { at = r .result; lists = r .last .1 .0 }) (addRecord (a .versions .now) (a .slot) (getD rs (l .i) 0) (getD ps (l .i) 0) st) = rw (c .before .before .before .before .word .ensures, c .before .before .before .word2 .ensures) at (r .ensures) in
-    (omega arith, r .kept .1 .0 ∙ l .inv .1, ap (λ (k : Behind). k .at + countOf (drop (l .i + 1) ps)) done ∙ (add-next (a .versions .now) ps (a .slot) (getD rs (l .i) 0) (l .i) st here ∙ l .inv .2), l .inv .3 ∙ (put-next (a .versions .now) rs ps (a .slot) (l .i) st here ∙ ap (λ (k : Behind). putRecords (k .lists) (a .slot) (k .at) (recordsFor (a .versions .now) (drop (l .i + 1) rs) (drop (l .i + 1) ps))) (sym done)))
+    let done : _≡_ {A = Behind} (record { at = r .result; lists = r .last .1 .0 })
+    (addRecord (a .versions .now) (a .slot) (getD rs (l .i) 0) (getD ps (l .i) 0) st) =
+    rw (c .before .before .before .before .word .ensures, c .before .before .before .word2 .ensures) at (r .ensures) in (
+      omega arith,
+      r .kept .1 .0 ∙ l .inv .1,
+      ap (λ (k : Behind). k .at + countOf (drop (l .i + 1) ps)) done
+          ∙ (add-next (a .versions .now) ps (a .slot) (getD rs (l .i) 0) (l .i) st here ∙ l .inv .2),
+      l .inv .3
+          ∙ (put-next (a .versions .now) rs ps (a .slot) (l .i) st here
+          ∙ ap (λ (k : Behind). putRecords (k .lists) (a .slot) (k .at) (recordsFor (a .versions .now) (drop (l .i + 1) rs) (drop (l .i + 1) ps))) (sym done)),
+    )
 
 same-length : tie.Need-same-length Inv-loop μ-loop
 same-length c = c .before .loop .inv .1

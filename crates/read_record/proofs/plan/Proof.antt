@@ -16,7 +16,10 @@ use Rattle.read_record.proofs.plan.Statement.{statement}
 use Rattle.read_record.proofs.plan.Tie as tie
 
 abbrev Inv-loop : tie.InvT-loop
-Inv-loop lists through₀ slot records-n added₀ i₀ through added i = (i ≤ length through₀) × (length through ≡ length through₀) × (added ≤ i) × (through ≡ sets through₀ 0 (take i (planned (knownPointers lists slot records-n) through₀))) × (added + countOf (drop i (planned (knownPointers lists slot records-n) through₀)) ≡ countOf (planned (knownPointers lists slot records-n) through₀))
+Inv-loop lists through₀ slot records-n added₀ i₀ through added i =
+    (i ≤ length through₀) × (length through ≡ length through₀) × (added ≤ i)
+    × (through ≡ sets through₀ 0 (take i (planned (knownPointers lists slot records-n) through₀)))
+    × (added + countOf (drop i (planned (knownPointers lists slot records-n) through₀)) ≡ countOf (planned (knownPointers lists slot records-n) through₀))
 
 abbrev μ-loop : tie.MeasureT-loop
 μ-loop lists through₀ slot records-n added₀ i₀ through added i = length through₀ - i
@@ -40,9 +43,20 @@ loop-less : tie.Need-loop-less Inv-loop μ-loop
 loop-less c = search needs
 
 loop-again : tie.Need-loop-again Inv-loop μ-loop
-loop-again c = let a = c .before .before .before .before .before .before .before .before .before .before .before .args in let l = c .before .before .before .before .before .before .before .before .loop in let k = knownPointers (a .lists .now) (a .slot) (a .records-n) in
-    let p = c .before .before .before .before .before .new-pointer .result in
-    (omega arith, c .before .before .before .set-word .kept .0 ∙ l .inv .1, rw (c .one-more .ensures) (cond-elim (λ m. m ≤ l .i + 1) (eqb p 0) (l .added) (l .added + 1) (λ t. omega arith) (λ t. omega arith)), c .before .before .before .set-word .ensures ∙ plan-turn k (a .through .now) (l .through) (l .i) (l .added) p (omega arith) (l .inv .3) (c .before .before .before .before .before .new-pointer .ensures), rw (c .one-more .ensures) (plan-count k (a .through .now) (l .through) (l .i) (l .added) p (omega arith) (l .inv .3) (c .before .before .before .before .before .new-pointer .ensures) (l .inv .4)))
+loop-again c = let a = c .before .before .before .before .before .before .before .before .before .before .before .args in
+    let l = c .before .before .before .before .before .before .before .before .loop in let k = knownPointers (a .lists .now) (a .slot) (a .records-n) in
+    let p = c .before .before .before .before .before .new-pointer .result in (
+      omega arith,
+      c .before .before .before .set-word .kept .0
+          ∙ l .inv .1,
+      rw (c .one-more .ensures) (cond-elim (λ m. m ≤ l .i + 1) (eqb p 0) (l .added) (l .added + 1) (λ t. omega arith) (λ t. omega arith)),
+      c .before .before .before .set-word .ensures
+          ∙ plan-turn k (a .through .now) (l .through) (l .i) (l .added) p (omega arith) (l .inv .3)
+          (c .before .before .before .before .before .new-pointer .ensures),
+      rw (c .one-more .ensures)
+          (plan-count k (a .through .now) (l .through) (l .i) (l .added) p (omega arith) (l .inv .3)
+          (c .before .before .before .before .before .new-pointer .ensures) (l .inv .4)),
+    )
 
 same-length : tie.Need-same-length Inv-loop μ-loop
 same-length c = c .before .loop .inv .1

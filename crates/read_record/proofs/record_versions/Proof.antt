@@ -15,8 +15,16 @@ plan-requires : tie.Need-plan-requires
 plan-requires c κs = search needs
 
 add-after : tie.Need-add-after
-add-after c = let s = c .before .before .before .before .before .before .before .before .before in let a = s .args in let known = knownPointers (a .lists .now) (a .slot) (a .records-n) in
-    omega (arith, s .good, s .fits .records-n, c .before .before .plan .ensures .0, count-few (planned known (a .through .now)), planned-length known (a .through .now))
+add-after c = let s = c .before .before .before .before .before .before .before .before .before in let a = s .args in
+    let known = knownPointers (a .lists .now) (a .slot) (a .records-n) in
+    omega (
+      arith,
+      s .good,
+      s .fits .records-n,
+      c .before .before .plan .ensures .0,
+      count-few (planned known (a .through .now)),
+      planned-length known (a .through .now),
+    )
 
 cast-if1 : tie.Need-cast-if1
 cast-if1 c = search needs
@@ -28,7 +36,8 @@ same-length-2 : tie.Need-same-length-2
 same-length-2 c = search needs
 
 returns : tie.Need-returns
-returns c = let a = c .before .before .before .before .before .before .before .before .before .before .args in let p = c .before .before .before .plan in let ps = planned (knownPointers (a .lists .now) (a .slot) (a .records-n)) (a .through .now) in
+returns c = let a = c .before .before .before .before .before .before .before .before .before .before .args in let p = c .before .before .before .plan in
+    let ps = planned (knownPointers (a .lists .now) (a .slot) (a .records-n)) (a .through .now) in
     let h : mostRecords < a .records-n + countOf ps = omega (arith, p .ensures .0, c .if1 .taken) in
     rw (p .ensures .1) (sym (too-many (a .versions .now) (a .lists .now) (a .slot) (a .records-n) (a .matched .now) (a .through .now) h))
 
@@ -45,9 +54,12 @@ same-length-4 : tie.Need-same-length-4
 same-length-4 c = search needs
 
 returns-2 : tie.Need-returns-2
-returns-2 c = let a = c .before .before .before .before .before .before .before .before .before .before .before .before .before .before .before .args in let p = c .before .before .before .before .before .before .before .before .plan in let ps = planned (knownPointers (a .lists .now) (a .slot) (a .records-n)) (a .through .now) in
+returns-2 c = let a = c .before .before .before .before .before .before .before .before .before .before .before .before .before .before .before .args in
+    let p = c .before .before .before .before .before .before .before .before .plan in
+    let ps = planned (knownPointers (a .lists .now) (a .slot) (a .records-n)) (a .through .now) in
     let h : a .records-n + countOf ps ≤ mostRecords = omega (arith, p .ensures .0) in
-    rw (c .before .before .add-records .ensures, p .ensures .1, p .ensures .0) (sym (kept (a .versions .now) (a .lists .now) (a .slot) (a .records-n) (a .matched .now) (a .through .now) h))
+    rw (c .before .before .add-records .ensures, p .ensures .1, p .ensures .0)
+    (sym (kept (a .versions .now) (a .lists .now) (a .slot) (a .records-n) (a .matched .now) (a .through .now) h))
 
 pub record-versions-spec : {M : Type 1} → statement M
 record-versions-spec =

@@ -76,7 +76,8 @@ returns c =
     let n = k .before .before .numbers-of in
     call .write-line .ensures
     ∙ ap (writtenAt (a .report .now) (a .at))
-    (line-said (a .step) (a .answer) (a .rows .now) _ (n .result) (k .lesser-usize .result) (worded k .word-of .ensures .0) (n .ensures .0) (k .lesser-usize .ensures))
+    (line-said (a .step) (a .answer) (a .rows .now) _ (n .result) (k .lesser-usize .result) (worded k .word-of .ensures .0) (n .ensures .0)
+    (k .lesser-usize .ensures))
 
 pub answer-line-spec : {M : Type 1} → statement M
 answer-line-spec =

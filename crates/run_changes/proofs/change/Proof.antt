@@ -20,7 +20,12 @@ same-length c = search needs
 
 returns : tie.Need-returns
 unfolding wordChanged
-returns c = rw (← c .before .before .before .before .before .before .word-named .ensures, lt-ltb _ _ (c .before .before .before .before .before .if1 .taken), c .before .before .set-word .ensures, c .before .before .before .before .entry-place .ensures)
+returns c = rw (
+  ← c .before .before .before .before .before .before .word-named .ensures,
+  lt-ltb _ _ (c .before .before .before .before .before .if1 .taken),
+  c .before .before .set-word .ensures,
+  c .before .before .before .before .entry-place .ensures,
+)
 
 entry-place-requires-2 : tie.Need-entry-place-requires-2
 entry-place-requires-2 c κs = search needs
@@ -33,7 +38,13 @@ same-length-2 c = search needs
 
 returns-2 : tie.Need-returns-2
 unfolding wordChanged
-returns-2 c = rw (← c .before .before .before .before .before .before .before .word-named .ensures, le-ltb _ _ (c .before .before .before .before .before .before .if1 .left), lt-ltb _ _ (c .before .before .before .before .before .if2 .taken), c .before .before .set-word2 .ensures, c .before .before .before .before .entry-place2 .ensures)
+returns-2 c = rw (
+  ← c .before .before .before .before .before .before .before .word-named .ensures,
+  le-ltb _ _ (c .before .before .before .before .before .before .if1 .left),
+  lt-ltb _ _ (c .before .before .before .before .before .if2 .taken),
+  c .before .before .set-word2 .ensures,
+  c .before .before .before .before .entry-place2 .ensures,
+)
 
 entry-place-requires-3 : tie.Need-entry-place-requires-3
 entry-place-requires-3 c κs = search needs
@@ -46,7 +57,14 @@ same-length-3 c = search needs
 
 returns-3 : tie.Need-returns-3
 unfolding wordChanged
-returns-3 c = rw (← c .before .before .before .before .before .before .before .before .word-named .ensures, le-ltb _ _ (c .before .before .before .before .before .before .before .if1 .left), le-ltb _ _ (c .before .before .before .before .before .before .if2 .left), lt-ltb _ _ (c .before .before .before .before .before .if3 .taken), c .before .before .set-word3 .ensures, c .before .before .before .before .entry-place3 .ensures)
+returns-3 c = rw (
+  ← c .before .before .before .before .before .before .before .before .word-named .ensures,
+  le-ltb _ _ (c .before .before .before .before .before .before .before .if1 .left),
+  le-ltb _ _ (c .before .before .before .before .before .before .if2 .left),
+  lt-ltb _ _ (c .before .before .before .before .before .if3 .taken),
+  c .before .before .set-word3 .ensures,
+  c .before .before .before .before .entry-place3 .ensures,
+)
 
 lists-place-requires : tie.Need-lists-place-requires
 lists-place-requires c κs = tt
@@ -59,14 +77,29 @@ same-length-4 c = search needs
 
 returns-4 : tie.Need-returns-4
 unfolding wordChanged
-returns-4 c = rw (← c .before .before .before .before .before .before .before .before .before .word-named .ensures, le-ltb _ _ (c .before .before .before .before .before .before .before .before .if1 .left), le-ltb _ _ (c .before .before .before .before .before .before .before .if2 .left), le-ltb _ _ (c .before .before .before .before .before .before .if3 .left), lt-ltb _ _ (c .before .before .before .before .before .if4 .taken), c .before .before .set-word4 .ensures, c .before .before .before .lists-place .ensures)
+returns-4 c = rw (
+  ← c .before .before .before .before .before .before .before .before .before .word-named .ensures,
+  le-ltb _ _ (c .before .before .before .before .before .before .before .before .if1 .left),
+  le-ltb _ _ (c .before .before .before .before .before .before .before .if2 .left),
+  le-ltb _ _ (c .before .before .before .before .before .before .if3 .left),
+  lt-ltb _ _ (c .before .before .before .before .before .if4 .taken),
+  c .before .before .set-word4 .ensures,
+  c .before .before .before .lists-place .ensures,
+)
 
 machine-changed-requires : tie.Need-machine-changed-requires
 machine-changed-requires c κs = tt
 
 returns-5 : tie.Need-returns-5
 unfolding wordChanged
-returns-5 c = rw (← c .before .before .before .before .before .word-named .ensures, le-ltb _ _ (c .before .before .before .before .if1 .left), le-ltb _ _ (c .before .before .before .if2 .left), le-ltb _ _ (c .before .before .if3 .left), le-ltb _ _ (c .before .if4 .left), c .machine-changed .ensures)
+returns-5 c = rw (
+  ← c .before .before .before .before .before .word-named .ensures,
+  le-ltb _ _ (c .before .before .before .before .if1 .left),
+  le-ltb _ _ (c .before .before .before .if2 .left),
+  le-ltb _ _ (c .before .before .if3 .left),
+  le-ltb _ _ (c .before .if4 .left),
+  c .machine-changed .ensures,
+)
 
 pub change-spec : {M : Type 1} → statement M
 change-spec =

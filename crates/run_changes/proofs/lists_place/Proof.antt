@@ -25,7 +25,12 @@ list-place-requires-3 c κs = search needs
 
 returns-3 : tie.Need-returns-3
 unfolding listsPlace
-returns-3 c = rw (le-ltb _ _ (c .before .before .before .if1 .left), le-ltb _ _ (c .before .before .if2 .left), lt-ltb _ _ (c .before .if3 .taken), c .list-place3 .ensures)
+returns-3 c = rw (
+  le-ltb _ _ (c .before .before .before .if1 .left),
+  le-ltb _ _ (c .before .before .if2 .left),
+  lt-ltb _ _ (c .before .if3 .taken),
+  c .list-place3 .ensures,
+)
 
 cast-list-place : tie.Need-cast-list-place
 cast-list-place c = search needs
@@ -35,7 +40,12 @@ list-place-requires-4 c κs = search needs
 
 returns-4 : tie.Need-returns-4
 unfolding listsPlace
-returns-4 c = rw (le-ltb _ _ (c .before .before .before .if1 .left), le-ltb _ _ (c .before .before .if2 .left), le-ltb _ _ (c .before .if3 .left), c .list-place4 .ensures)
+returns-4 c = rw (
+  le-ltb _ _ (c .before .before .before .if1 .left),
+  le-ltb _ _ (c .before .before .if2 .left),
+  le-ltb _ _ (c .before .if3 .left),
+  c .list-place4 .ensures,
+)
 
 pub lists-place-spec : {M : Type 1} → statement M
 lists-place-spec =

@@ -35,7 +35,12 @@ own-of-requires c κs = tt
 
 returns : tie.Need-returns
 unfolding machineChanged
-returns c = rw (le-ltb _ _ (c .before .before .before .before .before .if1 .taken), ← c .before .before .before .before .own-words .ensures, ← c .before .before .set-word .ensures, c .own-of .ensures)
+returns c = rw (
+  le-ltb _ _ (c .before .before .before .before .before .if1 .taken),
+  ← c .before .before .before .before .own-words .ensures,
+  ← c .before .before .set-word .ensures,
+  c .own-of .ensures,
+)
 
 returns-2 : tie.Need-returns-2
 unfolding machineChanged
@@ -72,9 +77,18 @@ returns-3 : tie.Need-returns-3
 unfolding machineChanged
 returns-3 c =
     let a = c .before .before .before .before .before .before .before .before .before .before .args in
-    let n : length (a .m .txns) ≡ 8 = simp length-map at (c .before .before .before .before .before .before .before .before .before .before .good .0 .1 .1 .1 .1 .1 .0 .1 .0 .1) in
+    let n : length (a .m .txns) ≡ 8 =
+    simp length-map at (c .before .before .before .before .before .before .before .before .before .before .good .0 .1 .1 .1 .1 .1 .0 .1 .0 .1) in
     let h : a .place < length (a .m .txns) = omega arith in
-    rw (lt-ltb _ _ (c .before .before .before .before .before .before .before .before .if1 .left), lt-ltb _ _ (c .before .before .before .before .before .before .before .if2 .left), c .record-of .ensures, c .before .before .set-word2 .ensures, c .before .before .before .record-place .ensures, c .before .before .before .before .before .record-words .ensures, default-any (a .m .txns) (a .place) _ (idleOf (a .place)) h)
+    rw (
+      lt-ltb _ _ (c .before .before .before .before .before .before .before .before .if1 .left),
+      lt-ltb _ _ (c .before .before .before .before .before .before .before .if2 .left),
+      c .record-of .ensures,
+      c .before .before .set-word2 .ensures,
+      c .before .before .before .record-place .ensures,
+      c .before .before .before .before .before .record-words .ensures,
+      default-any (a .m .txns) (a .place) _ (idleOf (a .place)) h,
+    )
 
 pub machine-changed-spec : {M : Type 1} → statement M
 machine-changed-spec =

@@ -60,9 +60,17 @@ returns-3 : tie.Need-returns-3
 unfolding machineSeen
 returns-3 c =
     let a = c .before .before .before .before .before .before .before .before .args in
-    let n : length (a .m .txns) ≡ 8 = simp length-map at (c .before .before .before .before .before .before .before .before .good .0 .1 .1 .1 .1 .1 .0 .1 .0 .1) in
+    let n : length (a .m .txns) ≡ 8 =
+    simp length-map at (c .before .before .before .before .before .before .before .before .good .0 .1 .1 .1 .1 .1 .0 .1 .0 .1) in
     let h : a .place < length (a .m .txns) = omega arith in
-    rw (lt-ltb _ _ (c .before .before .before .before .before .before .if1 .left), lt-ltb _ _ (c .before .before .before .before .before .if2 .left), c .seen-at2 .ensures, c .before .record-place .ensures, c .before .before .before .record-words .ensures, default-any (a .m .txns) (a .place) _ (idleOf (a .place)) h)
+    rw (
+      lt-ltb _ _ (c .before .before .before .before .before .before .if1 .left),
+      lt-ltb _ _ (c .before .before .before .before .before .if2 .left),
+      c .seen-at2 .ensures,
+      c .before .record-place .ensures,
+      c .before .before .before .record-words .ensures,
+      default-any (a .m .txns) (a .place) _ (idleOf (a .place)) h,
+    )
 
 pub machine-seen-spec : {M : Type 1} → statement M
 machine-seen-spec =

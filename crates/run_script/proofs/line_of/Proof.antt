@@ -34,10 +34,15 @@ loop-less : tie.Need-loop-less Inv-loop μ-loop
 loop-less c = search needs
 
 loop-again : tie.Need-loop-again Inv-loop μ-loop
-loop-again c = (search needs, let a = c .before .before .before .before .before .before .args in let l = c .before .before .before .loop in l .inv .1 ∙ (bytes-next (a .text .now) (l .at) (a .to) (l .line) (c .before .before .loop-test .taken) ∙ rw (← c .before .byte .ensures, c .with .ensures)))
+loop-again c = (
+  search needs,
+  let a = c .before .before .before .before .before .before .args in let l = c .before .before .before .loop in
+      l .inv .1 ∙ (bytes-next (a .text .now) (l .at) (a .to) (l .line) (c .before .before .loop-test .taken) ∙ rw (← c .before .byte .ensures, c .with .ensures)),
+)
 
 returns : tie.Need-returns Inv-loop μ-loop
-returns c = let a = c .before .before .before .before .args in let l = c .before .loop in sym (l .inv .1 ∙ bytes-end (a .text .now) (l .at) (a .to) (l .line) (c .loop-test .left))
+returns c = let a = c .before .before .before .before .args in let l = c .before .loop in
+    sym (l .inv .1 ∙ bytes-end (a .text .now) (l .at) (a .to) (l .line) (c .loop-test .left))
 
 pub line-of-spec : {M : Type 1} → statement M
 line-of-spec =

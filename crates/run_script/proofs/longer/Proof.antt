@@ -21,7 +21,10 @@ wrapping-add-u64-requires-5 : tie.Need-wrapping-add-u64-requires-5
 wrapping-add-u64-requires-5 c κs = search needs
 
 returns : tie.Need-returns
-returns c = let a = c .before .before .before .before .before .args in ten-times (a .value) (a .digit) _ _ _ _ _ _ (c .before .before .before .before .wrapping-add-u64 .ensures) (c .before .before .before .wrapping-add-u642 .ensures) (c .before .before .wrapping-add-u643 .ensures) (c .before .wrapping-add-u644 .ensures) (c .wrapping-add-u645 .ensures)
+returns c = let a = c .before .before .before .before .before .args in
+    ten-times (a .value) (a .digit) _ _ _ _ _ _ (c .before .before .before .before .wrapping-add-u64 .ensures)
+    (c .before .before .before .wrapping-add-u642 .ensures) (c .before .before .wrapping-add-u643 .ensures) (c .before .wrapping-add-u644 .ensures)
+    (c .wrapping-add-u645 .ensures)
 
 pub longer-spec : {M : Type 1} → statement M
 longer-spec =

@@ -27,7 +27,11 @@ add-result : tie.Need-add-result Inv-loop μ-loop
 add-result c = search needs
 
 returns : tie.Need-returns Inv-loop μ-loop
-returns c = rw (c .before .before .before .loop .inv .1, end-next (c .before .before .before .before .args .text .now) (c .before .before .before .loop .at) (c .before .before .loop-test .taken), eq-eqb _ _ (c .if1 .taken))
+returns c = rw (
+  c .before .before .before .loop .inv .1,
+  end-next (c .before .before .before .before .args .text .now) (c .before .before .before .loop .at) (c .before .before .loop-test .taken),
+  eq-eqb _ _ (c .if1 .taken),
+)
 
 add-at : tie.Need-add-at Inv-loop μ-loop
 add-at c = search needs
@@ -36,7 +40,14 @@ loop-less : tie.Need-loop-less Inv-loop μ-loop
 loop-less c = search needs
 
 loop-again : tie.Need-loop-again Inv-loop μ-loop
-loop-again c = (search needs, c .before .before .before .loop .inv .1 ∙ rw (end-next (c .before .before .before .before .args .text .now) (c .before .before .before .loop .at) (c .before .before .loop-test .taken), ne-eqb _ _ (c .if1 .left)))
+loop-again c = (
+  search needs,
+  c .before .before .before .loop .inv .1
+      ∙ rw (
+        end-next (c .before .before .before .before .args .text .now) (c .before .before .before .loop .at) (c .before .before .loop-test .taken),
+        ne-eqb _ _ (c .if1 .left),
+      ),
+)
 
 returns-2 : tie.Need-returns-2 Inv-loop μ-loop
 returns-2 c = rw (c .before .loop .inv .1, end-past (c .before .before .args .text .now) (c .before .loop .at) (c .loop-test .left))

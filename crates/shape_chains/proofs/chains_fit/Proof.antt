@@ -18,7 +18,12 @@ nexts-fall-requires : tie.Need-nexts-fall-requires
 nexts-fall-requires c κs = search needs
 
 returns-3 : tie.Need-returns-3
-returns-3 c = rw (le-leb _ _ (c .before .before .before .if1 .left), ← c .before .before .heads-in .ensures, not-false (c .before .before .heads-in .result) (c .before .if2 .left), ← c .nexts-fall .ensures)
+returns-3 c = rw (
+  le-leb _ _ (c .before .before .before .if1 .left),
+  ← c .before .before .heads-in .ensures,
+  not-false (c .before .before .heads-in .result) (c .before .if2 .left),
+  ← c .nexts-fall .ensures,
+)
 
 pub chains-fit-spec : {M : Type 1} → statement M
 chains-fit-spec =

@@ -18,14 +18,25 @@ within-requires-2 c κs = search needs
 
 returns-2 : tie.Need-returns-2
 unfolding goodSizes
-returns-2 c = rw (← c .before .before .before .within .ensures, not-false (c .before .before .before .within .result) (c .before .before .if1 .left), ← c .before .within2 .ensures, not-true (c .before .within2 .result) (c .if2 .taken))
+returns-2 c = rw (
+  ← c .before .before .before .within .ensures,
+  not-false (c .before .before .before .within .result) (c .before .before .if1 .left),
+  ← c .before .within2 .ensures,
+  not-true (c .before .within2 .result) (c .if2 .taken),
+)
 
 within-requires-3 : tie.Need-within-requires-3
 within-requires-3 c κs = search needs
 
 returns-3 : tie.Need-returns-3
 unfolding goodSizes
-returns-3 c = rw (← c .before .before .before .before .within .ensures, not-false (c .before .before .before .before .within .result) (c .before .before .before .if1 .left), ← c .before .before .within2 .ensures, not-false (c .before .before .within2 .result) (c .before .if2 .left), ← c .within3 .ensures)
+returns-3 c = rw (
+  ← c .before .before .before .before .within .ensures,
+  not-false (c .before .before .before .before .within .result) (c .before .before .before .if1 .left),
+  ← c .before .before .within2 .ensures,
+  not-false (c .before .before .within2 .result) (c .before .if2 .left),
+  ← c .within3 .ensures,
+)
 
 pub good-sizes-spec : {M : Type 1} → statement M
 good-sizes-spec =

@@ -27,7 +27,9 @@ candidate-at-requires : tie.Need-candidate-at-requires Inv-loop μ-loop
 candidate-at-requires c κs = search needs
 
 returns : tie.Need-returns Inv-loop μ-loop
-returns c = let a = c .before .before .before .before .before .args in let l = c .before .before .before .loop in every-fails (λ j. ltb (candidateAt (a .lists .now) (a .slot) j) (a .«row-count»)) (l .i) (a .count) (omega arith) (rw (← c .before .candidate-at .ensures) (le-ltb _ _ (c .if1 .taken)))
+returns c = let a = c .before .before .before .before .before .args in let l = c .before .before .before .loop in
+    every-fails (λ j. ltb (candidateAt (a .lists .now) (a .slot) j) (a .«row-count»)) (l .i) (a .count) (omega arith)
+    (rw (← c .before .candidate-at .ensures) (le-ltb _ _ (c .if1 .taken)))
 
 add-i : tie.Need-add-i Inv-loop μ-loop
 add-i c = search needs
@@ -36,10 +38,15 @@ loop-less : tie.Need-loop-less Inv-loop μ-loop
 loop-less c = search needs
 
 loop-again : tie.Need-loop-again Inv-loop μ-loop
-loop-again c = let a = c .before .before .before .before .before .args in let l = c .before .before .before .loop in (omega arith, every-next (λ j. ltb (candidateAt (a .lists .now) (a .slot) j) (a .«row-count»)) (l .i) (l .inv .1) (rw (← c .before .candidate-at .ensures) (lt-ltb _ _ (c .if1 .left))))
+loop-again c = let a = c .before .before .before .before .before .args in let l = c .before .before .before .loop in (
+  omega arith,
+  every-next (λ j. ltb (candidateAt (a .lists .now) (a .slot) j) (a .«row-count»)) (l .i) (l .inv .1)
+      (rw (← c .before .candidate-at .ensures) (lt-ltb _ _ (c .if1 .left))),
+)
 
 returns-2 : tie.Need-returns-2 Inv-loop μ-loop
-returns-2 c = let a = c .before .before .before .args in let l = c .before .loop in every-done (λ j. ltb (candidateAt (a .lists .now) (a .slot) j) (a .«row-count»)) (l .i) (a .count) (omega arith) (omega arith) (l .inv .1)
+returns-2 c = let a = c .before .before .before .args in let l = c .before .loop in
+    every-done (λ j. ltb (candidateAt (a .lists .now) (a .slot) j) (a .«row-count»)) (l .i) (a .count) (omega arith) (omega arith) (l .inv .1)
 
 pub candidates-in-spec : {M : Type 1} → statement M
 candidates-in-spec =

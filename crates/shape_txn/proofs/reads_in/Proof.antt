@@ -27,7 +27,9 @@ read-bucket-at-requires : tie.Need-read-bucket-at-requires Inv-loop μ-loop
 read-bucket-at-requires c κs = search needs
 
 returns : tie.Need-returns Inv-loop μ-loop
-returns c = let a = c .before .before .before .before .before .args in let l = c .before .before .before .loop in every-fails (λ j. ltb (readAt (a .lists .now) (a .slot) j .bucket) (a .«bucket-count»)) (l .i) (a .count) (omega arith) (rw (← c .before .read-bucket-at .ensures) (le-ltb _ _ (c .if1 .taken)))
+returns c = let a = c .before .before .before .before .before .args in let l = c .before .before .before .loop in
+    every-fails (λ j. ltb (readAt (a .lists .now) (a .slot) j .bucket) (a .«bucket-count»)) (l .i) (a .count) (omega arith)
+    (rw (← c .before .read-bucket-at .ensures) (le-ltb _ _ (c .if1 .taken)))
 
 add-i : tie.Need-add-i Inv-loop μ-loop
 add-i c = search needs
@@ -36,10 +38,15 @@ loop-less : tie.Need-loop-less Inv-loop μ-loop
 loop-less c = search needs
 
 loop-again : tie.Need-loop-again Inv-loop μ-loop
-loop-again c = let a = c .before .before .before .before .before .args in let l = c .before .before .before .loop in (omega arith, every-next (λ j. ltb (readAt (a .lists .now) (a .slot) j .bucket) (a .«bucket-count»)) (l .i) (l .inv .1) (rw (← c .before .read-bucket-at .ensures) (lt-ltb _ _ (c .if1 .left))))
+loop-again c = let a = c .before .before .before .before .before .args in let l = c .before .before .before .loop in (
+  omega arith,
+  every-next (λ j. ltb (readAt (a .lists .now) (a .slot) j .bucket) (a .«bucket-count»)) (l .i) (l .inv .1)
+      (rw (← c .before .read-bucket-at .ensures) (lt-ltb _ _ (c .if1 .left))),
+)
 
 returns-2 : tie.Need-returns-2 Inv-loop μ-loop
-returns-2 c = let a = c .before .before .before .args in let l = c .before .loop in every-done (λ j. ltb (readAt (a .lists .now) (a .slot) j .bucket) (a .«bucket-count»)) (l .i) (a .count) (omega arith) (omega arith) (l .inv .1)
+returns-2 c = let a = c .before .before .before .args in let l = c .before .loop in
+    every-done (λ j. ltb (readAt (a .lists .now) (a .slot) j .bucket) (a .«bucket-count»)) (l .i) (a .count) (omega arith) (omega arith) (l .inv .1)
 
 pub reads-in-spec : {M : Type 1} → statement M
 reads-in-spec =

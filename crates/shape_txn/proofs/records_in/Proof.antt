@@ -32,7 +32,11 @@ record-in-requires : tie.Need-record-in-requires Inv-loop μ-loop
 record-in-requires c κs = search needs
 
 returns : tie.Need-returns Inv-loop μ-loop
-returns c = let a = c .before .before .before .before .before .before .before .args in let l = c .before .before .before .before .before .loop in every-fails (λ j. recordIn (a .row-count) (a .used) (recordAt (a .lists .now) (a .slot) j .row) (recordAt (a .lists .now) (a .slot) j .ptr)) (l .i) (a .count) (omega arith) (rw (← c .before .before .before .record-row-at .ensures, ← c .before .before .record-ptr-at .ensures, ← c .before .record-in .ensures) (not-true (c .before .record-in .result) (c .if1 .taken)))
+returns c = let a = c .before .before .before .before .before .before .before .args in let l = c .before .before .before .before .before .loop in
+    every-fails (λ j. recordIn (a .row-count) (a .used) (recordAt (a .lists .now) (a .slot) j .row) (recordAt (a .lists .now) (a .slot) j .ptr)) (l .i)
+    (a .count) (omega arith)
+    (rw (← c .before .before .before .record-row-at .ensures, ← c .before .before .record-ptr-at .ensures, ← c .before .record-in .ensures)
+    (not-true (c .before .record-in .result) (c .if1 .taken)))
 
 add-i : tie.Need-add-i Inv-loop μ-loop
 add-i c = search needs
@@ -41,10 +45,18 @@ loop-less : tie.Need-loop-less Inv-loop μ-loop
 loop-less c = search needs
 
 loop-again : tie.Need-loop-again Inv-loop μ-loop
-loop-again c = let a = c .before .before .before .before .before .before .before .args in let l = c .before .before .before .before .before .loop in (omega arith, every-next (λ j. recordIn (a .row-count) (a .used) (recordAt (a .lists .now) (a .slot) j .row) (recordAt (a .lists .now) (a .slot) j .ptr)) (l .i) (l .inv .1) (rw (← c .before .before .before .record-row-at .ensures, ← c .before .before .record-ptr-at .ensures, ← c .before .record-in .ensures) (not-false (c .before .record-in .result) (c .if1 .left))))
+loop-again c = let a = c .before .before .before .before .before .before .before .args in let l = c .before .before .before .before .before .loop in (
+  omega arith,
+  every-next
+      (λ j. recordIn (a .row-count) (a .used) (recordAt (a .lists .now) (a .slot) j .row) (recordAt (a .lists .now) (a .slot) j .ptr)) (l .i) (l .inv .1)
+      (rw (← c .before .before .before .record-row-at .ensures, ← c .before .before .record-ptr-at .ensures, ← c .before .record-in .ensures)
+      (not-false (c .before .record-in .result) (c .if1 .left))),
+)
 
 returns-2 : tie.Need-returns-2 Inv-loop μ-loop
-returns-2 c = let a = c .before .before .before .args in let l = c .before .loop in every-done (λ j. recordIn (a .row-count) (a .used) (recordAt (a .lists .now) (a .slot) j .row) (recordAt (a .lists .now) (a .slot) j .ptr)) (l .i) (a .count) (omega arith) (omega arith) (l .inv .1)
+returns-2 c = let a = c .before .before .before .args in let l = c .before .loop in
+    every-done (λ j. recordIn (a .row-count) (a .used) (recordAt (a .lists .now) (a .slot) j .row) (recordAt (a .lists .now) (a .slot) j .ptr)) (l .i)
+    (a .count) (omega arith) (omega arith) (l .inv .1)
 
 pub records-in-spec : {M : Type 1} → statement M
 records-in-spec =

@@ -29,7 +29,10 @@ row-fits-requires : tie.Need-row-fits-requires Inv-loop μ-loop
 row-fits-requires c κs = search needs
 
 returns : tie.Need-returns Inv-loop μ-loop
-returns c = let a = c .before .before .before .before .before .before .before .before .args in let l = c .before .before .before .before .loop in every-fails (λ j. rowFits (a .rows-table .now) (a .versions .now) (a .lists .now) (a .slot) (a .count) (a .number) (writeAt (a .lists .now) (a .slot) j .row)) (l .i) (a .count) (omega arith) (rw (← c .before .before .write-row-at .ensures, ← c .before .row-fits .ensures) (not-true (c .before .row-fits .result) (c .if1 .taken)))
+returns c = let a = c .before .before .before .before .before .before .before .before .args in let l = c .before .before .before .before .loop in
+    every-fails (λ j. rowFits (a .rows-table .now) (a .versions .now) (a .lists .now) (a .slot) (a .count) (a .number)
+    (writeAt (a .lists .now) (a .slot) j .row)) (l .i) (a .count) (omega arith)
+    (rw (← c .before .before .write-row-at .ensures, ← c .before .row-fits .ensures) (not-true (c .before .row-fits .result) (c .if1 .taken)))
 
 add-i : tie.Need-add-i Inv-loop μ-loop
 add-i c = search needs
@@ -38,10 +41,18 @@ loop-less : tie.Need-loop-less Inv-loop μ-loop
 loop-less c = search needs
 
 loop-again : tie.Need-loop-again Inv-loop μ-loop
-loop-again c = let a = c .before .before .before .before .before .before .before .before .args in let l = c .before .before .before .before .loop in (omega arith, every-next (λ j. rowFits (a .rows-table .now) (a .versions .now) (a .lists .now) (a .slot) (a .count) (a .number) (writeAt (a .lists .now) (a .slot) j .row)) (l .i) (l .inv .1) (rw (← c .before .before .write-row-at .ensures, ← c .before .row-fits .ensures) (not-false (c .before .row-fits .result) (c .if1 .left))))
+loop-again c = let a = c .before .before .before .before .before .before .before .before .args in let l = c .before .before .before .before .loop in (
+  omega arith,
+  every-next
+      (λ j. rowFits (a .rows-table .now) (a .versions .now) (a .lists .now) (a .slot) (a .count) (a .number) (writeAt (a .lists .now) (a .slot) j .row))
+      (l .i) (l .inv .1) (rw (← c .before .before .write-row-at .ensures, ← c .before .row-fits .ensures)
+      (not-false (c .before .row-fits .result) (c .if1 .left))),
+)
 
 returns-2 : tie.Need-returns-2 Inv-loop μ-loop
-returns-2 c = let a = c .before .before .before .before .before .args in let l = c .before .loop in every-done (λ j. rowFits (a .rows-table .now) (a .versions .now) (a .lists .now) (a .slot) (a .count) (a .number) (writeAt (a .lists .now) (a .slot) j .row)) (l .i) (a .count) (omega arith) (omega arith) (l .inv .1)
+returns-2 c = let a = c .before .before .before .before .before .args in let l = c .before .loop in
+    every-done (λ j. rowFits (a .rows-table .now) (a .versions .now) (a .lists .now) (a .slot) (a .count) (a .number)
+    (writeAt (a .lists .now) (a .slot) j .row)) (l .i) (a .count) (omega arith) (omega arith) (l .inv .1)
 
 pub rows-headed-spec : {M : Type 1} → statement M
 rows-headed-spec =

@@ -27,7 +27,9 @@ write-row-at-requires : tie.Need-write-row-at-requires Inv-loop μ-loop
 write-row-at-requires c κs = search needs
 
 returns : tie.Need-returns Inv-loop μ-loop
-returns c = let a = c .before .before .before .before .before .args in let l = c .before .before .before .loop in every-fails (λ j. ltb (writeAt (a .lists .now) (a .slot) j .row) (a .«row-count»)) (l .i) (a .count) (omega arith) (rw (← c .before .write-row-at .ensures) (le-ltb _ _ (c .if1 .taken)))
+returns c = let a = c .before .before .before .before .before .args in let l = c .before .before .before .loop in
+    every-fails (λ j. ltb (writeAt (a .lists .now) (a .slot) j .row) (a .«row-count»)) (l .i) (a .count) (omega arith)
+    (rw (← c .before .write-row-at .ensures) (le-ltb _ _ (c .if1 .taken)))
 
 add-i : tie.Need-add-i Inv-loop μ-loop
 add-i c = search needs
@@ -36,10 +38,15 @@ loop-less : tie.Need-loop-less Inv-loop μ-loop
 loop-less c = search needs
 
 loop-again : tie.Need-loop-again Inv-loop μ-loop
-loop-again c = let a = c .before .before .before .before .before .args in let l = c .before .before .before .loop in (omega arith, every-next (λ j. ltb (writeAt (a .lists .now) (a .slot) j .row) (a .«row-count»)) (l .i) (l .inv .1) (rw (← c .before .write-row-at .ensures) (lt-ltb _ _ (c .if1 .left))))
+loop-again c = let a = c .before .before .before .before .before .args in let l = c .before .before .before .loop in (
+  omega arith,
+  every-next (λ j. ltb (writeAt (a .lists .now) (a .slot) j .row) (a .«row-count»)) (l .i) (l .inv .1)
+      (rw (← c .before .write-row-at .ensures) (lt-ltb _ _ (c .if1 .left))),
+)
 
 returns-2 : tie.Need-returns-2 Inv-loop μ-loop
-returns-2 c = let a = c .before .before .before .args in let l = c .before .loop in every-done (λ j. ltb (writeAt (a .lists .now) (a .slot) j .row) (a .«row-count»)) (l .i) (a .count) (omega arith) (omega arith) (l .inv .1)
+returns-2 c = let a = c .before .before .before .args in let l = c .before .loop in
+    every-done (λ j. ltb (writeAt (a .lists .now) (a .slot) j .row) (a .«row-count»)) (l .i) (a .count) (omega arith) (omega arith) (l .inv .1)
 
 pub writes-in-spec : {M : Type 1} → statement M
 writes-in-spec =

@@ -88,7 +88,14 @@ walk-returns-3 : (t : ℕ) → walk-lts.Need-returns-3 (
 ) (walk-at t) walk.Post
 unfolding stepFrom
 walk-returns-3 t c =
-    c .walk .ensures ∙ sym (rw (walk-step, ne-eqb _ _ (c .before .before .before .before .before .before .before .before .if1 .left), ← c .before .before .before .before .before .visible-at .ensures, c .before .before .before .before .if2 .left, ← c .before .before .next-at .ensures, lt-ltb _ _ (c .before .if3 .taken)))
+    c .walk .ensures ∙ sym (rw (
+      walk-step,
+      ne-eqb _ _ (c .before .before .before .before .before .before .before .before .if1 .left),
+      ← c .before .before .before .before .before .visible-at .ensures,
+      c .before .before .before .before .if2 .left,
+      ← c .before .before .next-at .ensures,
+      lt-ltb _ _ (c .before .if3 .taken),
+    ))
 
 walk-returns-4 : (t : ℕ) → walk-lts.Need-returns-4 (
   visible-at-reads.Asked,
@@ -99,7 +106,14 @@ walk-returns-4 : (t : ℕ) → walk-lts.Need-returns-4 (
   walk.Post,
 ) (walk-at t) walk.Post
 unfolding stepFrom
-walk-returns-4 t c = rw (walk-step, ne-eqb _ _ (c .before .before .before .before .before .before .before .if1 .left), ← c .before .before .before .before .visible-at .ensures, c .before .before .before .if2 .left, ← c .before .next-at .ensures, le-ltb _ _ (c .if3 .left))
+walk-returns-4 t c = rw (
+  walk-step,
+  ne-eqb _ _ (c .before .before .before .before .before .before .before .if1 .left),
+  ← c .before .before .before .before .visible-at .ensures,
+  c .before .before .before .if2 .left,
+  ← c .before .next-at .ensures,
+  le-ltb _ _ (c .if3 .left),
+)
 
 pub +walk-spec : {M : Type 1} → statement M
 +walk-spec = close μ-walk λ t. walk-lts.spec (

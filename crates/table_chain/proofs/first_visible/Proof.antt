@@ -24,11 +24,21 @@ walk-requires c κs = λ n l. below-least _ _ n (rw (c .before .before .least-of
 
 returns-3 : tie.Need-returns-3
 unfolding firstVisible
-returns-3 c = rw (le-leb _ _ (c .before .before .before .before .before .before .before .if1 .left), lt-ltb _ _ (c .before .before .before .before .before .before .if2 .left), ← c .before .walk .ensures, eq-eqb _ _ (c .if3 .taken))
+returns-3 c = rw (
+  le-leb _ _ (c .before .before .before .before .before .before .before .if1 .left),
+  lt-ltb _ _ (c .before .before .before .before .before .before .if2 .left),
+  ← c .before .walk .ensures,
+  eq-eqb _ _ (c .if3 .taken),
+)
 
 returns-4 : tie.Need-returns-4
 unfolding firstVisible
-returns-4 c = rw (le-leb _ _ (c .before .before .before .before .before .before .before .if1 .left), lt-ltb _ _ (c .before .before .before .before .before .before .if2 .left), ← c .before .walk .ensures, ne-eqb _ _ (c .if3 .left))
+returns-4 c = rw (
+  le-leb _ _ (c .before .before .before .before .before .before .before .if1 .left),
+  lt-ltb _ _ (c .before .before .before .before .before .before .if2 .left),
+  ← c .before .walk .ensures,
+  ne-eqb _ _ (c .if3 .left),
+)
 
 pub first-visible-spec : {M : Type 1} → statement M
 first-visible-spec = tie.close (tie.spec returns returns-2 least-of-requires walk-requires returns-3 returns-4)

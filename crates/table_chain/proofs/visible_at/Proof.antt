@@ -17,7 +17,13 @@ not-ended-requires : tie.Need-not-ended-requires
 not-ended-requires c κs = c .before .before .before .before .before .before .pre
 
 returns : tie.Need-returns
-returns c = rw (← c .before .before .before .before .xmin-at .ensures, ← c .before .before .before .seen-above .ensures, c .before .before .if1 .taken, ← c .before .xmax-at .ensures, ← c .not-ended .ensures)
+returns c = rw (
+  ← c .before .before .before .before .xmin-at .ensures,
+  ← c .before .before .before .seen-above .ensures,
+  c .before .before .if1 .taken,
+  ← c .before .xmax-at .ensures,
+  ← c .not-ended .ensures,
+)
 
 returns-2 : tie.Need-returns-2
 returns-2 c = rw (← c .before .before .xmin-at .ensures, ← c .before .seen-above .ensures, c .if1 .left)

@@ -33,7 +33,12 @@ shared-slice-read-if2 c = search needs
 
 returns-2 : tie.Need-returns-2 Inv-loop μ-loop
 returns-2 c = let a = c .before .before .before .before .before .args in
-    rw (c .before .before .before .before .loop .inv .1, active-next (a .active .now) (a .count) (c .before .before .before .before .loop .i) (a .id) (omega arith) (omega arith), eq-eqb _ _ (c .if2 .taken))
+    rw (
+      c .before .before .before .before .loop .inv .1,
+      active-next (a .active .now) (a .count) (c .before .before .before .before .loop .i) (a .id)
+          (omega arith) (omega arith),
+      eq-eqb _ _ (c .if2 .taken),
+    )
 
 add-i : tie.Need-add-i Inv-loop μ-loop
 add-i c = search needs
@@ -42,8 +47,14 @@ loop-less : tie.Need-loop-less Inv-loop μ-loop
 loop-less c = search needs
 
 loop-again : tie.Need-loop-again Inv-loop μ-loop
-loop-again c = let a = c .before .before .before .before .before .args in
-    (omega arith, c .before .before .before .before .loop .inv .1 ∙ rw (active-next (a .active .now) (a .count) (c .before .before .before .before .loop .i) (a .id) (omega arith) (omega arith), ne-eqb _ _ (c .if2 .left)))
+loop-again c = let a = c .before .before .before .before .before .args in (
+  omega arith,
+  c .before .before .before .before .loop .inv .1
+      ∙ rw (
+        active-next (a .active .now) (a .count) (c .before .before .before .before .loop .i) (a .id) (omega arith) (omega arith),
+        ne-eqb _ _ (c .if2 .left),
+      ),
+)
 
 returns-3 : tie.Need-returns-3 Inv-loop μ-loop
 returns-3 c = let a = c .before .before .args in

@@ -13,7 +13,8 @@ use Rattle.table_scans.proofs.find_read_prefix.Statement.{statement}
 use Rattle.table_scans.proofs.find_read_prefix.Tie as tie
 
 abbrev Inv-loop : tie.InvT-loop
-Inv-loop lists slot count bucket n i₀ i = (i ≤ n) × (firstPlace (bucketsRead (readsOf lists slot n)) bucket ≡ firstFrom i (drop i (bucketsRead (readsOf lists slot n))) bucket)
+Inv-loop lists slot count bucket n i₀ i =
+    (i ≤ n) × (firstPlace (bucketsRead (readsOf lists slot n)) bucket ≡ firstFrom i (drop i (bucketsRead (readsOf lists slot n))) bucket)
 
 abbrev μ-loop : tie.MeasureT-loop
 μ-loop lists slot count bucket n i₀ i = n - i

@@ -13,7 +13,8 @@ use Rattle.table_scans.proofs.record_place.Statement.{statement}
 use Rattle.table_scans.proofs.record_place.Tie as tie
 
 abbrev Inv-loop : tie.InvT-loop
-Inv-loop lists slot count ptr n i₀ i = (i ≤ n) × (firstPlace (pointers (recordsOf lists slot n)) ptr ≡ firstFrom i (drop i (pointers (recordsOf lists slot n))) ptr)
+Inv-loop lists slot count ptr n i₀ i =
+    (i ≤ n) × (firstPlace (pointers (recordsOf lists slot n)) ptr ≡ firstFrom i (drop i (pointers (recordsOf lists slot n))) ptr)
 
 abbrev μ-loop : tie.MeasureT-loop
 μ-loop lists slot count ptr n i₀ i = n - i

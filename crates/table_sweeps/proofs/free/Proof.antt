@@ -15,7 +15,11 @@ same-length : tie.Need-same-length
 same-length c = search needs
 
 returns : tie.Need-returns
-returns c = rw (← c .before .before .before .before .before .holder-at .ensures, eq-eqb _ _ (c .before .before .before .before .if1 .taken), c .before .before .set-holder .ensures)
+returns c = rw (
+  ← c .before .before .before .before .before .holder-at .ensures,
+  eq-eqb _ _ (c .before .before .before .before .if1 .taken),
+  c .before .before .set-holder .ensures,
+)
 
 same-length-2 : tie.Need-same-length-2
 same-length-2 c = search needs

@@ -24,7 +24,9 @@ abbrev μ-loop : tie.MeasureT-loop
 μ-loop versions lists t snapshot active i ended most j₀ j = most - j
 
 abbrev Inv-records : tie.InvT-records
-Inv-records versions lists t snapshot active i₀ i = (i ≤ t .«records_n») × (length (t .snapshot .active) ≡ mostActive) × (changedRecord versions lists t ≡ firstWhere (badIn versions t) i (drop i (recordsIn lists t)))
+Inv-records versions lists t snapshot active i₀ i =
+    (i ≤ t .«records_n») × (length (t .snapshot .active) ≡ mostActive)
+    × (changedRecord versions lists t ≡ firstWhere (badIn versions t) i (drop i (recordsIn lists t)))
 
 abbrev μ-records : tie.MeasureT-records
 μ-records versions lists t snapshot active i₀ i = t .«records_n» - i
@@ -49,10 +51,20 @@ loop-holds : tie.Need-loop-holds Inv-loop μ-loop Inv-records μ-records
 loop-holds c = (omega arith, refl)
 
 mul-if3 : tie.Need-mul-if3 Inv-loop μ-loop Inv-records μ-records
-mul-if3 c = let m = c .before .before .looked-for .ensures in omega (arith, looked-few (c .before .before .before .before .before .ended-by .result) (c .before .before .before .before .before .before .before .before .before .before .before .before .before .before .args .t .snapshot))
+mul-if3 c = let m = c .before .before .looked-for .ensures in
+    omega (
+      arith,
+      looked-few (c .before .before .before .before .before .ended-by .result)
+          (c .before .before .before .before .before .before .before .before .before .before .before .before .before .before .args .t .snapshot),
+    )
 
 array-read-if3 : tie.Need-array-read-if3 Inv-loop μ-loop Inv-records μ-records
-array-read-if3 c = let m = c .before .before .looked-for .ensures in omega (arith, looked-few (c .before .before .before .before .before .ended-by .result) (c .before .before .before .before .before .before .before .before .before .before .before .before .before .before .args .t .snapshot))
+array-read-if3 c = let m = c .before .before .looked-for .ensures in
+    omega (
+      arith,
+      looked-few (c .before .before .before .before .before .ended-by .result)
+          (c .before .before .before .before .before .before .before .before .before .before .before .before .before .before .args .t .snapshot),
+    )
 
 add-j : tie.Need-add-j Inv-loop μ-loop Inv-records μ-records
 add-j c = search needs
@@ -64,8 +76,15 @@ loop-again : tie.Need-loop-again Inv-loop μ-loop Inv-records μ-records
 loop-again c = let a = c .before .before .before .before .before .before .before .before .before .before .before .before .before .before .before .args in
     let l = c .before .before .loop in
     let m = c .before .before .before .looked-for .ensures in
-    let o = c .before .before .before .before .before .before .before .before .before .before .records .inv in
-    (omega arith, l .inv .1 ∙ rw (active-next (a .t .snapshot .active) (c .before .before .before .looked-for .result) (l .j) (c .before .before .before .before .before .before .ended-by .result) (omega arith) (omega (arith, o .1, looked-few (c .before .before .before .before .before .before .ended-by .result) (a .t .snapshot))), ne-eqb _ _ (c .if3 .left)))
+    let o = c .before .before .before .before .before .before .before .before .before .before .records .inv in (
+      omega arith,
+      l .inv .1 ∙ rw (
+        active-next (a .t .snapshot .active) (c .before .before .before .looked-for .result) (l .j)
+            (c .before .before .before .before .before .before .ended-by .result) (omega arith)
+            (omega (arith, o .1, looked-few (c .before .before .before .before .before .before .ended-by .result) (a .t .snapshot))),
+        ne-eqb _ _ (c .if3 .left),
+      ),
+    )
 
 add-i : tie.Need-add-i Inv-loop μ-loop Inv-records μ-records
 add-i c = search needs
@@ -76,8 +95,23 @@ records-less c = search needs
 records-again : tie.Need-records-again Inv-loop μ-loop Inv-records μ-records
 records-again c = let a = c .before .before .before .before .before .before .before .before .before .before .before .before .before .before .args in
     let o = c .before .before .before .before .before .before .before .before .before .records in
-    let gone = active-end (a .t .snapshot .active) (c .before .before .looked-for .result) (c .before .loop .j) (c .before .before .before .before .before .ended-by .result) (omega arith) in
-    (omega arith, o .inv .1, o .inv .2 ∙ rw (records-next (a .versions .now) (a .lists .now) (a .t) (o .inv .1) (o .i) (c .before .before .before .before .before .before .record-at .result) (c .before .before .before .before .before .ended-by .result) (c .before .before .before .before .before .before .record-at .ensures) (c .before .before .before .before .before .ended-by .ensures) (omega arith), ← c .before .before .before .before .changed-outright .ensures, c .before .before .before .if2 .left, ← c .before .before .looked-for .ensures, c .before .loop .inv .1, gone))
+    let gone = active-end (a .t .snapshot .active) (c .before .before .looked-for .result) (c .before .loop .j)
+    (c .before .before .before .before .before .ended-by .result) (omega arith) in (
+      omega arith,
+      o .inv .1,
+      o .inv .2
+          ∙ rw (
+            records-next (a .versions .now) (a .lists .now) (a .t) (o .inv .1) (o .i)
+                (c .before .before .before .before .before .before .record-at .result) (c .before .before .before .before .before .ended-by .result)
+                (c .before .before .before .before .before .before .record-at .ensures) (c .before .before .before .before .before .ended-by .ensures)
+                (omega arith),
+            ← c .before .before .before .before .changed-outright .ensures,
+            c .before .before .before .if2 .left,
+            ← c .before .before .looked-for .ensures,
+            c .before .loop .inv .1,
+            gone,
+          ),
+    )
 
 returns : tie.Need-returns Inv-loop μ-loop Inv-records μ-records
 returns c = let a = c .before .before .before .before .before .before .before .before .before .args in
@@ -85,13 +119,34 @@ returns c = let a = c .before .before .before .before .before .before .before .b
     let h : o .i < a .t .«records_n» = omega arith in
     ⊎-elim (λ w. absurd (omega arith))
     (⊎-elim
-    (λ w. rw (o .inv .2, records-next (a .versions .now) (a .lists .now) (a .t) (o .inv .1) (o .i) (w .1 .result) (w .2 .result) (w .1 .ensures) (w .2 .ensures) h, ← w .3 .ensures, w .4 .taken))
-    (λ w. rw (o .inv .2, records-next (a .versions .now) (a .lists .now) (a .t) (o .inv .1) (o .i) (w .1 .result) (w .2 .result) (w .1 .ensures) (w .2 .ensures) h, ← w .3 .ensures, w .4 .left, ← w .5 .ensures, w .6 .inv .1, active-next (a .t .snapshot .active) (w .5 .result) (w .6 .j) (w .2 .result) (w .7 .taken) (omega (arith, w .5 .ensures, o .inv .1, w .7 .taken, looked-few (w .2 .result) (a .t .snapshot))), eq-eqb _ _ (w .8 .taken))))
+    (λ w. rw (
+      o .inv .2,
+      records-next (a .versions .now) (a .lists .now) (a .t) (o .inv .1) (o .i) (w .1 .result) (w .2 .result) (w .1 .ensures)
+          (w .2 .ensures) h,
+      ← w .3 .ensures,
+      w .4 .taken,
+    ))
+    (λ w. rw (
+      o .inv .2,
+      records-next (a .versions .now) (a .lists .now) (a .t) (o .inv .1) (o .i) (w .1 .result) (w .2 .result) (w .1 .ensures)
+          (w .2 .ensures) h,
+      ← w .3 .ensures,
+      w .4 .left,
+      ← w .5 .ensures,
+      w .6 .inv .1,
+      active-next (a .t .snapshot .active) (w .5 .result) (w .6 .j) (w .2 .result) (w .7 .taken)
+          (omega (arith, w .5 .ensures, o .inv .1, w .7 .taken, looked-few (w .2 .result) (a .t .snapshot))),
+      eq-eqb _ _ (w .8 .taken),
+    )))
     (c .before .before .if1 .came)
 
 returns-2 : tie.Need-returns-2 Inv-loop μ-loop Inv-records μ-records
 returns-2 c = let a = c .before .before .before .before .before .before .before .before .before .args in
-    rw (c .before .before .before .before .records .inv .2, where-end (badIn (a .versions .now) (a .t)) recordView recordOf records (a .lists .now) (a .t .slot) (a .t .«records_n») (c .before .before .before .before .records .i) (omega arith))
+    rw (
+      c .before .before .before .before .records .inv .2,
+      where-end (badIn (a .versions .now) (a .t)) recordView recordOf records (a .lists .now)
+          (a .t .slot) (a .t .«records_n») (c .before .before .before .before .records .i) (omega arith),
+    )
 
 pub has-serialization-conflict-spec : {M : Type 1} → statement M
 has-serialization-conflict-spec =

@@ -22,13 +22,21 @@ returns-3 : tie.Need-returns-3
 returns-3 c =
     let n = c .before .before .before .before .before .before .args .s .«active_n» in
     let h : n ≡ min n mostActive = omega arith in
-    rw (ne-eqb _ _ (c .before .before .before .before .before .if1 .left), ← c .before .before .before .least-of .ensures, le-ltb _ _ (c .before .before .if2 .left)) h
+    rw (
+      ne-eqb _ _ (c .before .before .before .before .before .if1 .left),
+      ← c .before .before .before .least-of .ensures,
+      le-ltb _ _ (c .before .before .if2 .left),
+    ) h
 
 returns-4 : tie.Need-returns-4
 returns-4 c =
     let n = c .before .before .before .before .before .before .args .s .«active_n» in
     let h : mostActive ≡ min n mostActive = omega arith in
-    rw (ne-eqb _ _ (c .before .before .before .before .before .if1 .left), ← c .before .before .before .least-of .ensures, le-ltb _ _ (c .before .before .if2 .left)) h
+    rw (
+      ne-eqb _ _ (c .before .before .before .before .before .if1 .left),
+      ← c .before .before .before .least-of .ensures,
+      le-ltb _ _ (c .before .before .if2 .left),
+    ) h
 
 pub looked-for-spec : {M : Type 1} → statement M
 looked-for-spec = tie.close (tie.spec returns least-of-requires returns-2 returns-3 returns-4)

@@ -29,7 +29,8 @@ array-read-if1 c = search needs
 
 returns : tie.Need-returns Inv-loop μ-loop
 unfolding names
-returns c = let l = c .before .before .loop in rw (l .inv .1, name-next names (l .k) (c .before .before .before .args .name) (omega arith), eq-eqb _ _ (c .if1 .taken))
+returns c = let l = c .before .before .loop in
+    rw (l .inv .1, name-next names (l .k) (c .before .before .before .args .name) (omega arith), eq-eqb _ _ (c .if1 .taken))
 
 add-k : tie.Need-add-k Inv-loop μ-loop
 add-k c = search needs
@@ -39,7 +40,8 @@ loop-less c = search needs
 
 loop-again : tie.Need-loop-again Inv-loop μ-loop
 unfolding names
-loop-again c = let l = c .before .before .loop in (omega arith, l .inv .1 ∙ rw (name-next names (l .k) (c .before .before .before .args .name) (omega arith), ne-eqb _ _ (c .if1 .left)))
+loop-again c = let l = c .before .before .loop in
+    (omega arith, l .inv .1 ∙ rw (name-next names (l .k) (c .before .before .before .args .name) (omega arith), ne-eqb _ _ (c .if1 .left)))
 
 returns-2 : tie.Need-returns-2 Inv-loop μ-loop
 unfolding names

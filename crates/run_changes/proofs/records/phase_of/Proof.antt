@@ -21,7 +21,8 @@ returns-5 : tie.Need-returns-5
 returns-5 c = rw (c .match .keys5)
 
 returns-6 : tie.Need-returns-6
-returns-6 c = let r = c .match .rest in rw (ne-eqb _ _ (r .0 .0 .0 .0 .1), ne-eqb _ _ (r .0 .0 .0 .1), ne-eqb _ _ (r .0 .0 .1), ne-eqb _ _ (r .0 .1), ne-eqb _ _ (r .1))
+returns-6 c = let r = c .match .rest in
+    rw (ne-eqb _ _ (r .0 .0 .0 .0 .1), ne-eqb _ _ (r .0 .0 .0 .1), ne-eqb _ _ (r .0 .0 .1), ne-eqb _ _ (r .0 .1), ne-eqb _ _ (r .1))
 
 pub phase-of-spec : {M : Type 1} → statement M
 phase-of-spec = tie.close (tie.spec returns returns-2 returns-3 returns-4 returns-5 returns-6)

@@ -85,7 +85,14 @@ low-bits-requires-5 c κs = tt
 
 returns : tie.Need-returns
 unfolding recordOf
-returns c = rw (c .low-bits5 .ensures, c .before .low-bits4 .ensures, c .before .before .low-bits3 .ensures, c .before .before .before .low-bits2 .ensures, c .before .before .before .before .low-bits .ensures, c .before .before .before .before .before .phase-of .ensures)
+returns c = rw (
+  c .low-bits5 .ensures,
+  c .before .low-bits4 .ensures,
+  c .before .before .low-bits3 .ensures,
+  c .before .before .before .low-bits2 .ensures,
+  c .before .before .before .before .low-bits .ensures,
+  c .before .before .before .before .before .phase-of .ensures,
+)
 
 pub record-of-spec : {M : Type 1} → statement M
 record-of-spec =

@@ -32,7 +32,13 @@ lettered-requires c κs = search needs
 
 returns-2 : tie.Need-returns-2
 unfolding withByte
-returns-2 c = rw (← c .before .before .before .before .between .ensures, c .before .before .before .if1 .left, ← c .before .before .between2 .ensures, c .before .if2 .taken, c .lettered .ensures)
+returns-2 c = rw (
+  ← c .before .before .before .before .between .ensures,
+  c .before .before .before .if1 .left,
+  ← c .before .before .between2 .ensures,
+  c .before .if2 .taken,
+  c .lettered .ensures,
+)
 
 ended-requires : tie.Need-ended-requires
 ended-requires c κs = search needs
@@ -42,11 +48,27 @@ is-sign-requires c κs = tt
 
 returns-3 : tie.Need-returns-3
 unfolding withByte
-returns-3 c = rw (← c .before .before .before .before .before .before .between .ensures, c .before .before .before .before .before .if1 .left, ← c .before .before .before .before .between2 .ensures, c .before .before .before .if2 .left, ← c .before .is-sign .ensures, c .if3 .taken, c .before .before .ended .ensures)
+returns-3 c = rw (
+  ← c .before .before .before .before .before .before .between .ensures,
+  c .before .before .before .before .before .if1 .left,
+  ← c .before .before .before .before .between2 .ensures,
+  c .before .before .before .if2 .left,
+  ← c .before .is-sign .ensures,
+  c .if3 .taken,
+  c .before .before .ended .ensures,
+)
 
 returns-4 : tie.Need-returns-4
 unfolding withByte
-returns-4 c = rw (← c .before .before .before .before .before .before .between .ensures, c .before .before .before .before .before .if1 .left, ← c .before .before .before .before .between2 .ensures, c .before .before .before .if2 .left, ← c .before .is-sign .ensures, c .if3 .left, c .before .before .ended .ensures)
+returns-4 c = rw (
+  ← c .before .before .before .before .before .before .between .ensures,
+  c .before .before .before .before .before .if1 .left,
+  ← c .before .before .before .before .between2 .ensures,
+  c .before .before .before .if2 .left,
+  ← c .before .is-sign .ensures,
+  c .if3 .left,
+  c .before .before .ended .ensures,
+)
 
 pub with-spec : {M : Type 1} → statement M
 with-spec =

@@ -28,7 +28,14 @@ same-length c = search needs
 
 returns : tie.Need-returns
 returns c = let p = c .before .before .before .before .before .before .before .before .before .before .before .before .place .result in
-    rw (c .before .before .set-word3 .ensures, c .before .before .before .before .before .before .set-word2 .ensures, c .before .before .before .before .before .before .before .before .before .before .set-word .ensures, add-one p, add-two p, c .before .before .before .before .before .before .before .before .before .before .before .before .place .ensures)
+    rw (
+      c .before .before .set-word3 .ensures,
+      c .before .before .before .before .before .before .set-word2 .ensures,
+      c .before .before .before .before .before .before .before .before .before .before .set-word .ensures,
+      add-one p,
+      add-two p,
+      c .before .before .before .before .before .before .before .before .before .before .before .before .place .ensures,
+    )
 
 pub put-record-spec : {M : Type 1} → statement M
 put-record-spec =

@@ -33,8 +33,18 @@ same-length : tie.Need-same-length
 same-length c = search needs
 
 returns : tie.Need-returns
-returns c = let p = c .before .before .before .before .before .before .before .before .before .before .before .before .before .before .before .before .place .result in
-    rw (c .before .before .set-word4 .ensures, c .before .before .before .before .before .before .set-word3 .ensures, c .before .before .before .before .before .before .before .before .before .before .set-word2 .ensures, c .before .before .before .before .before .before .before .before .before .before .before .before .before .before .set-word .ensures, add-one p, add-two p, add-three p, c .before .before .before .before .before .before .before .before .before .before .before .before .before .before .before .before .place .ensures)
+returns c = let p =
+    c .before .before .before .before .before .before .before .before .before .before .before .before .before .before .before .before .place .result in
+    rw (
+      c .before .before .set-word4 .ensures,
+      c .before .before .before .before .before .before .set-word3 .ensures,
+      c .before .before .before .before .before .before .before .before .before .before .set-word2 .ensures,
+      c .before .before .before .before .before .before .before .before .before .before .before .before .before .before .set-word .ensures,
+      add-one p,
+      add-two p,
+      add-three p,
+      c .before .before .before .before .before .before .before .before .before .before .before .before .before .before .before .before .place .ensures,
+    )
 
 pub put-write-spec : {M : Type 1} → statement M
 put-write-spec =

@@ -17,7 +17,12 @@ write-payload-at-requires : tie.Need-write-payload-at-requires
 write-payload-at-requires c κs = search needs
 
 returns : tie.Need-returns
-returns c = rw (c .before .before .before .write-row-at .ensures, c .before .before .write-keyed-at .ensures, c .before .write-key-at .ensures, c .write-payload-at .ensures)
+returns c = rw (
+  c .before .before .before .write-row-at .ensures,
+  c .before .before .write-keyed-at .ensures,
+  c .before .write-key-at .ensures,
+  c .write-payload-at .ensures,
+)
 
 pub write-at-spec : {M : Type 1} → statement M
 write-at-spec =

@@ -2,7 +2,7 @@
 -- Assumes nothing.
 use Prim.Native.Nat.{_%_}
 use mathlib.Core.Path.{_≡_, _∙_}
-use mathlib.Core.Bool.{true, false, not}
+use mathlib.Core.Bool.{true}
 use lib.Dec.{eqb}
 use Rattle.model.specs.Store.{rank, phaseOpen}
 use Rattle.table.specs.Fields.{stampOf, holderOf}
