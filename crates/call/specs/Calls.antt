@@ -12,12 +12,12 @@ use Rattle.base_protocol.specs.declared.Answer.the-variants as tell
 use Rattle.base_protocol.specs.declared.Sizes.{Sizes}
 use Rattle.base_protocol.specs.View.{sizesView}
 use Rattle.table.specs.Fields.{rowWords, versionWords, bucketWords}
+use Rattle.table_sweeps.specs.Sweeps.{releaseEvery, unclaimEvery}
 use Rattle.txn.specs.Methods.{idleOf}
 use Rattle.txn.specs.declared.Transaction.{Transaction}
-use Rattle.table_sweeps.specs.Sweeps.{releaseEvery, unclaimEvery}
+use Rattle.txn_places.specs.Places.{freePlaces}
 use Rattle.step.specs.declared.Stepped.{Stepped}
 use Rattle.step.specs.Steps.{Moved}
-use Rattle.txn_places.specs.Places.{freePlaces}
 use Rattle.step.specs.Words.{Words, placeFor, movedBy, tablesAfter}
 use Rattle.shape.specs.Shape.{tablesLent, shapeOf, wordsOf}
 use Rattle.shape.specs.declared.Machine.{Machine}

@@ -11,6 +11,8 @@ use lib.ListN.{length}
 use borrow.Author.Tests.{ne-eqb}
 use Rattle.base_limits.specs.Limits.{mostLive}
 use Rattle.base_lists.specs.Table.{update}
+use Rattle.base_numbers.specs.Numbers.{oneMore}
+use Rattle.base_numbers.proofs.Laws.{one-up}
 use Rattle.model.specs.Store as model
 use Rattle.model.specs.Store.{rank, phaseInstalled, phaseEnded}
 use Rattle.model.specs.Steps.{release, freed}
@@ -24,19 +26,17 @@ use Rattle.base_protocol.specs.declared.Answer.{Answer}
 use Rattle.base_protocol.specs.declared.Answer.the-variants as tell
 use Rattle.base_protocol.specs.View.{asked, told, sizesView}
 use Rattle.table.specs.Words.{field}
+use Rattle.table.specs.Fields.{clearHolders, clearClaims}
+use Rattle.table_sweeps.specs.Sweeps.{releaseEvery, unclaimEvery}
 use Rattle.txn.specs.View.{phaseView, rowsPart, versionsPart, bucketsPart, chainsView, indexView, heldView}
 use Rattle.txn.specs.Methods.{idleOf, refusedOf}
 use Rattle.txn.specs.declared.Transaction.{Transaction}
+use Rattle.txn_places.proofs.Laws.{default-any}
 use Rattle.txn_needs.specs.Needs.{rowsWritten}
-use Rattle.table.specs.Fields.{clearHolders, clearClaims}
-use Rattle.base_numbers.specs.Numbers.{oneMore}
-use Rattle.base_numbers.proofs.Laws.{one-up}
 use Rattle.finish_publish.specs.Publish.{publishOf, abortOf}
-use Rattle.table_sweeps.specs.Sweeps.{releaseEvery, unclaimEvery}
 use Rattle.step.specs.Steps.{Moved, publishStep, publishedFrom, inPublished, inAborted}
 use Rattle.step.specs.Words.{Words, view, txnAt, placeFor, Sized}
 use Rattle.step_bridge.proofs.Places.{default-any, standing, live-at}
-use Rattle.txn_places.proofs.Laws.{default-any}
 use Rattle.step_bridge.proofs.Placed.{unmoved}
 use Rattle.step_bridge.proofs.Same.{two-held, SameAt, SameAs, Same, refused-same, by-place-as}
 use Rattle.step_bridge.proofs.Shaped.{Shaped, shaped}

@@ -19,7 +19,6 @@ use Rattle.model.specs.Steps.{pendingRows, getsVersion}
 use Rattle.model.specs.Refusals.{reserved}
 use Rattle.model.specs.Shape.{within, goodSizes, goodChains, goodCounts, goodRanges, goodHeads, goodTxn, distinctNumbers, rightShape}
 use Rattle.model.proofs.Ranges.{good-sized}
-use Rattle.table.specs.Fields as fields
 use Rattle.base_protocol.specs.declared.Sizes.{Sizes}
 use Rattle.base_protocol.specs.View.{sizesView}
 use Rattle.table.specs.Fields.{headOf, nextOf}
@@ -30,12 +29,11 @@ use Rattle.table.proofs.Parts.{part-field}
 use Rattle.table.proofs.Spans.{list-length, list-map}
 use Rattle.txn.specs.View.{phaseView, readView, writeView, recordView, txnView}
 use Rattle.txn.specs.declared.Transaction.{Transaction}
+use Rattle.txn_places.specs.Places.{liveIn}
 use Rattle.txn_needs.specs.Keys.{headedBy}
 use Rattle.txn_needs.specs.Needs.{rowsWritten}
-use Rattle.write_prepare.specs.Prepare.{reservedIn}
-use Rattle.txn_places.specs.Places.{liveIn}
-use Rattle.step.specs.Words.{Words, txnAt, view, othersIn}
 use Rattle.txn_needs.specs.Versions.{reservedIn}
+use Rattle.step.specs.Words.{Words, txnAt, view, othersIn}
 use Rattle.step_bridge.proofs.Places.{number-at}
 use Rattle.step_bridge.proofs.Listing.{all-each, every-at}
 use Rattle.step_bridge.proofs.Beginning.{live-same}
@@ -43,9 +41,9 @@ use Rattle.step_bridge.proofs.Headed.{Headed, WritesIn, chainsIn, headed-same, 
 use Rattle.step_bridge.proofs.Needing.{written-pending, pending-written}
 use Rattle.step_bridge.proofs.Distinct.{gets-same}
 use Rattle.step_bridge.proofs.Reserving.{reserved-same}
-use Rattle.shape.specs.Shape.{tablesLent, inPlace, allInPlace, tablesFit, shapeOf}
 use Rattle.shape_chains.specs.Links.{chainsFit}
 use Rattle.shape_txn.specs.Fits.{countsFit, writesIn, rangesFit, rowFits, headsFit, leastOf, txnFits, placeFits}
+use Rattle.shape.specs.Shape.{tablesLent, inPlace, allInPlace, tablesFit, shapeOf}
 use Rattle.shape.specs.Tests.{txnsFit, unlike, distinctAt, allDistinct}
 
 -- the second test matters only where the first holds
