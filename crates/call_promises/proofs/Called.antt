@@ -36,7 +36,7 @@ use Rattle.txn_needs.specs.Needs.{rowsWritten}
 use Rattle.finish_publish.specs.Publish.{publishOf, abortOf}
 use Rattle.step.specs.Steps.{Moved, publishStep, publishedFrom, inPublished, inAborted}
 use Rattle.step.specs.Words.{Words, view, txnAt, placeFor, Sized}
-use Rattle.step_bridge.proofs.Places.{default-any, standing, live-at}
+use Rattle.step_bridge.proofs.Places.{standing, live-at}
 use Rattle.step_bridge.proofs.Placed.{unmoved}
 use Rattle.step_bridge.proofs.Same.{two-held, SameAt, SameAs, Same, refused-same, by-place-as}
 use Rattle.step_bridge.proofs.Shaped.{Shaped, shaped}
