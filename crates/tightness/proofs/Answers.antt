@@ -1,4 +1,4 @@
--- Wrong bodies of the crate `answers`.
+-- Wrong bodies of the crate `report_answers`.
 -- Assumes nothing.
 use Prim.Native.Nat.{ℕ}
 use mathlib.Core.Path.{refl}

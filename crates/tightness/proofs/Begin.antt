@@ -1,4 +1,4 @@
--- Wrong bodies of the crate `begin`.
+-- Wrong bodies of the crate `txn_begin`.
 -- Assumes nothing.
 use Prim.Native.Nat.{ℕ}
 use mathlib.Core.Path.{refl}

@@ -1,4 +1,4 @@
--- Wrong bodies of the crate `buckets`.
+-- Wrong bodies of the crate `table_buckets`.
 -- Assumes nothing.
 use Prim.Native.Nat.{ℕ, _+_}
 use mathlib.Core.Path.{refl}

@@ -1,4 +1,4 @@
--- Wrong bodies of the crate `chain`.
+-- Wrong bodies of the crate `table_chain`.
 -- Assumes nothing.
 use Prim.Native.Nat.{ℕ}
 use mathlib.Core.Path.{refl}

@@ -1,4 +1,4 @@
--- Wrong bodies of the crate `fits`.
+-- Wrong bodies of the crate `shape_txn`.
 -- Assumes nothing.
 use Prim.Native.Nat.{ℕ}
 use mathlib.Core.Path.{refl}

@@ -1,4 +1,4 @@
--- Wrong bodies of the crate `gathering`.
+-- Wrong bodies of the crate `read_gather`.
 -- Assumes nothing.
 use Prim.Native.Nat.{ℕ, suc}
 use mathlib.Core.Path.{refl}

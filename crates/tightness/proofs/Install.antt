@@ -1,4 +1,4 @@
--- Wrong bodies of the crate `install`.
+-- Wrong bodies of the crate `finish_install`.
 -- Assumes nothing.
 use Prim.Native.Nat.{ℕ}
 use mathlib.Core.Path.{refl}

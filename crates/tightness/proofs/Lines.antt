@@ -1,4 +1,4 @@
--- Wrong bodies of the crate `lines`.
+-- Wrong bodies of the crate `report_lines`.
 -- Assumes nothing.
 use Prim.Native.Nat.{ℕ}
 use mathlib.Core.Path.{refl}

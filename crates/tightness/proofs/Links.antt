@@ -1,4 +1,4 @@
--- Wrong bodies of the crate `links`.
+-- Wrong bodies of the crate `shape_chains`.
 -- Assumes nothing.
 use Prim.Native.Nat.{ℕ}
 use mathlib.Core.Path.{refl}

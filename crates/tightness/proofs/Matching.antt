@@ -1,4 +1,4 @@
--- Wrong bodies of the crate `matching`.
+-- Wrong bodies of the crate `read_match`.
 -- Assumes nothing.
 use Prim.Native.Nat.{ℕ}
 use mathlib.Core.Path.{refl}

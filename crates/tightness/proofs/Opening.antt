@@ -1,4 +1,4 @@
--- Wrong bodies of the crate `opening`.
+-- Wrong bodies of the crate `shape_open`.
 -- Assumes nothing.
 use Prim.Native.Nat.{ℕ, suc}
 use mathlib.Core.Path.{refl}

@@ -1,4 +1,4 @@
--- Wrong bodies of the crate `places`.
+-- Wrong bodies of the crate `txn_places`.
 -- Assumes nothing.
 use Prim.Native.Nat.{ℕ, suc}
 use mathlib.Core.Path.{refl}

@@ -1,4 +1,4 @@
--- Wrong bodies of the crate `postings`.
+-- Wrong bodies of the crate `table_postings`.
 -- Assumes nothing.
 use Prim.Native.Nat.{ℕ, min}
 use mathlib.Core.Path.{refl}

@@ -1,4 +1,4 @@
--- Wrong bodies of the crate `prepare`.
+-- Wrong bodies of the crate `write_prepare`.
 -- Assumes nothing.
 use Prim.Native.Nat.{ℕ, _+_}
 use mathlib.Core.Path.{refl}

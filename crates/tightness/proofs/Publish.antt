@@ -1,4 +1,4 @@
--- Wrong bodies of the crate `publish`.
+-- Wrong bodies of the crate `finish_publish`.
 -- Assumes nothing.
 use Prim.Native.Nat.{ℕ}
 use mathlib.Core.Path.{refl}

@@ -1,4 +1,4 @@
--- Wrong bodies of the crate `record`.
+-- Wrong bodies of the crate `txn`.
 -- Assumes nothing.
 use Prim.Native.Nat.{ℕ, _+_, _-_, _%_, _/_, min}
 use mathlib.Core.Path.{refl}

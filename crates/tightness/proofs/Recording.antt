@@ -1,4 +1,4 @@
--- Wrong bodies of the crate `recording`.
+-- Wrong bodies of the crate `read_record`.
 -- Assumes nothing.
 use Prim.Native.Nat.{ℕ, suc, _+_}
 use mathlib.Core.Path.{refl}

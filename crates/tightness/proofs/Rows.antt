@@ -1,4 +1,4 @@
--- Wrong bodies of the crate `reads`.
+-- Wrong bodies of the crate `read`.
 -- Assumes nothing.
 use Prim.Native.Nat.{ℕ}
 use mathlib.Core.Path.{refl}

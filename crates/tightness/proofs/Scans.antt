@@ -1,4 +1,4 @@
--- Wrong bodies of the crate `scans`.
+-- Wrong bodies of the crate `table_scans`.
 -- Assumes nothing.
 use Prim.Native.Nat.{ℕ, _+_, _-_, min}
 use mathlib.Core.Path.{refl}

@@ -1,4 +1,4 @@
--- Wrong bodies of the crate `steps`.
+-- Wrong bodies of the crate `step`.
 -- Assumes nothing.
 use Prim.Native.Nat.{ℕ}
 use mathlib.Core.Path.{refl}

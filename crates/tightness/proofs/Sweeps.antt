@@ -1,4 +1,4 @@
--- Wrong bodies of the crate `sweeps`.
+-- Wrong bodies of the crate `table_sweeps`.
 -- Assumes nothing.
 use Prim.Native.Nat.{ℕ, zero, suc, _-_}
 use mathlib.Core.Path.{refl}

@@ -1,4 +1,4 @@
--- `tables`: wrong bodies of its accessors and setters, by laws over the words of an entry, the field and the place.
+-- `table`: wrong bodies of its accessors and setters, by laws over the words of an entry, the field and the place.
 -- Assumes nothing.
 use Prim.Native.Nat.{ℕ, zero, suc, _+_, _*_, _≤_, _<_, min}
 use mathlib.Core.Path.{_≡_, refl, ap}

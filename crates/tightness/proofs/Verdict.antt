@@ -1,4 +1,4 @@
--- Wrong bodies of the crate `verdict`.
+-- Wrong bodies of the crate `write_verdict`.
 -- Assumes nothing.
 use Prim.Native.Nat.{ℕ}
 use mathlib.Core.Path.{refl}
