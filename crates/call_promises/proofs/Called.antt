@@ -26,7 +26,7 @@ use Rattle.base_protocol.specs.declared.Answer.{Answer}
 use Rattle.base_protocol.specs.declared.Answer.the-variants as tell
 use Rattle.base_protocol.specs.View.{asked, told, sizesView}
 use Rattle.table.specs.Words.{field}
-use Rattle.table.specs.Fields.{clearHolders, clearClaims}
+use Rattle.table.specs.Fields.{rowWords, bucketWords, clearHolders, clearClaims}
 use Rattle.table_sweeps.specs.Sweeps.{releaseEvery, unclaimEvery}
 use Rattle.txn.specs.View.{phaseView, rowsPart, versionsPart, bucketsPart, chainsView, indexView, heldView}
 use Rattle.txn.specs.Methods.{idleOf, refusedOf}
@@ -110,8 +110,9 @@ module _ (w : Words) (z : Sized w) (p : ℕ) (l : p < mostLive) (a : 1 ≤ txnAt
       (swept-rows-long (view w .sizes) v a rows buckets ∙ r) (swept-buckets-long (view w .sizes) v a rows buckets ∙ b) f g)
 
   -- freed in part, and then swept, is freed
-  swept-freed : (rows buckets rs bs : List ℕ) → field 2 1 (part 2 (w .sizes .buckets) buckets) ≡ freedAt (txnAt w p .number) (view w .held .holder) bs
-      → field 4 1 (part 4 (w .sizes .rows) rows) ≡ freedAt (txnAt w p .number) (view w .held .claim) rs
+  swept-freed : (rows buckets rs bs : List ℕ)
+      → field bucketWords 1 (part bucketWords (w .sizes .buckets) buckets) ≡ freedAt (txnAt w p .number) (view w .held .holder) bs
+      → field rowWords 1 (part rowWords (w .sizes .rows) rows) ≡ freedAt (txnAt w p .number) (view w .held .claim) rs
       → freed (heldView (rowsPart (sizesView (w .sizes)) rows) (bucketsPart (sizesView (w .sizes)) buckets)) (txnAt w p .number)
       ≡ freed (view w .held) (txnAt w p .number)
   swept-freed rows buckets rs bs e f =
@@ -142,9 +143,9 @@ module _ (w : Words) (z : Sized w) (g : Shaped w) (n : ℕ) where
       let rs = rowsWritten (w .tables .lists) (txnAt w q .slot) (txnAt w q .«writes_n») in
       swept-at w z q l a _ _ tell.Done machine.Done (w .clock) (w .clock) _ _ _ refl (abort-chains w v rs) (abort-index w v rs (freedList w q))
       (swept-freed w z q l a _ _ rs (freedList w q)
-      (clear-all 2 1 (omega arith) (w .sizes .buckets) v (w .tables .buckets) (freedList w q) (freed-in w z g q a) (z .buckets))
-      (clear-all 4 1 (omega arith) (w .sizes .rows) v (w .tables .rows) rs (λ r m. row-in w z g q a r m) (z .rows)))
-      (clear-length 4 1 v (w .tables .rows) rs) (clear-length 2 1 v (w .tables .buckets) (freedList w q)) refl refl
+      (clear-all bucketWords 1 (omega arith) (w .sizes .buckets) v (w .tables .buckets) (freedList w q) (freed-in w z g q a) (z .buckets))
+      (clear-all rowWords 1 (omega arith) (w .sizes .rows) v (w .tables .rows) rs (λ r m. row-in w z g q a r m) (z .rows)))
+      (clear-length rowWords 1 v (w .tables .rows) rs) (clear-length bucketWords 1 v (w .tables .buckets) (freedList w q)) refl refl
 
   abort-called : SameAs w (ask.Abort n) (calledBy w (ask.Abort n))
   unfolding refusal abortOf

@@ -17,7 +17,7 @@ use Rattle.model.specs.Steps.{release, freed}
 use Rattle.table.specs.Words.{field, clearFields}
 use Rattle.table.proofs.Parts.{part-past}
 use Rattle.txn.specs.View.{rowsPart, bucketsPart, chainsView, indexView, heldView}
-use Rattle.table.specs.Fields.{clearHolders, clearClaims}
+use Rattle.table.specs.Fields.{rowWords, bucketWords, clearHolders, clearClaims}
 use Rattle.table_sweeps.specs.Sweeps.{releaseEvery, unclaimEvery}
 use Rattle.step_bridge.proofs.Same.{two-held}
 use Rattle.step_bridge.proofs.Tabled.{part, InRange}
@@ -69,34 +69,34 @@ release-freed v f is = fun-ext λ j. by j (member j is) (eqb (f j) v) refl
     by j true true e = cond-elim (λ (y : ℕ). y ≡ 0) (eqb 0 v) 0 0 (λ t. refl) (λ t. refl)
 
 module _ (z : model.Sizes) (v : ℕ) (l : 1 ≤ v) (rows buckets : List ℕ) where
-  pub swept-held : 4 * z .rows ≤ length rows → 2 * z .buckets ≤ length buckets
+  pub swept-held : rowWords * z .rows ≤ length rows → bucketWords * z .buckets ≤ length buckets
       → heldView (rowsPart z (unclaimEvery rows (z .rows) v)) (bucketsPart z (releaseEvery buckets (z .buckets) v))
       ≡ freed (heldView (rowsPart z rows) (bucketsPart z buckets)) v
   swept-held r b =
       rw (release-all v (z .buckets) buckets, unclaim-all-below v (z .rows) rows)
       (two-held _ _ _ _
-      (clear-all 2 1 (omega arith) (z .buckets) v buckets (below (z .buckets)) (below-in (z .buckets)) b
+      (clear-all bucketWords 1 (omega arith) (z .buckets) v buckets (below (z .buckets)) (below-in (z .buckets)) b
       ∙ freed-release v _ (below (z .buckets)) (part-below 2 1 (z .buckets) buckets v l))
-      (clear-all 4 1 (omega arith) (z .rows) v rows (below (z .rows)) (below-in (z .rows)) r
+      (clear-all rowWords 1 (omega arith) (z .rows) v rows (below (z .rows)) (below-in (z .rows)) r
       ∙ freed-release v _ (below (z .rows)) (part-below 4 1 (z .rows) rows v l)))
 
   pub swept-chains : (versions : List ℕ) (used : ℕ)
       → chainsView (rowsPart z (unclaimEvery rows (z .rows) v)) versions used ≡ chainsView (rowsPart z rows) versions used
   swept-chains versions used =
-      rw (unclaim-all-below v (z .rows) rows, clear-other 4 1 (omega arith) (z .rows) v rows (below (z .rows)) 0 (omega arith) (omega arith))
+      rw (unclaim-all-below v (z .rows) rows, clear-other rowWords 1 (omega arith) (z .rows) v rows (below (z .rows)) 0 (omega arith) (omega arith))
 
   pub swept-index : indexView (rowsPart z (unclaimEvery rows (z .rows) v)) (bucketsPart z (releaseEvery buckets (z .buckets) v))
       ≡ indexView (rowsPart z rows) (bucketsPart z buckets)
   swept-index = rw (
     release-all v (z .buckets) buckets,
     unclaim-all-below v (z .rows) rows,
-    clear-other 4 1 (omega arith) (z .rows) v rows (below (z .rows)) 2 (omega arith) (omega arith),
-    clear-other 4 1 (omega arith) (z .rows) v rows (below (z .rows)) 3 (omega arith) (omega arith),
-    clear-other 2 1 (omega arith) (z .buckets) v buckets (below (z .buckets)) 0 (omega arith) (omega arith),
+    clear-other rowWords 1 (omega arith) (z .rows) v rows (below (z .rows)) 2 (omega arith) (omega arith),
+    clear-other rowWords 1 (omega arith) (z .rows) v rows (below (z .rows)) 3 (omega arith) (omega arith),
+    clear-other bucketWords 1 (omega arith) (z .buckets) v buckets (below (z .buckets)) 0 (omega arith) (omega arith),
   )
 
   pub swept-rows-long : length (unclaimEvery rows (z .rows) v) ≡ length rows
-  swept-rows-long = rw (unclaim-all-below v (z .rows) rows) (clear-length 4 1 v rows (below (z .rows)))
+  swept-rows-long = rw (unclaim-all-below v (z .rows) rows) (clear-length rowWords 1 v rows (below (z .rows)))
 
   pub swept-buckets-long : length (releaseEvery buckets (z .buckets) v) ≡ length buckets
-  swept-buckets-long = rw (release-all v (z .buckets) buckets) (clear-length 2 1 v buckets (below (z .buckets)))
+  swept-buckets-long = rw (release-all v (z .buckets) buckets) (clear-length bucketWords 1 v buckets (below (z .buckets)))

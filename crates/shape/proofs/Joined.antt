@@ -21,7 +21,7 @@ use Rattle.model.specs.Shape.{within, goodSizes, goodChains, goodCounts, goodRa
 use Rattle.model.proofs.Ranges.{good-sized}
 use Rattle.base_protocol.specs.declared.Sizes.{Sizes}
 use Rattle.base_protocol.specs.View.{sizesView}
-use Rattle.table.specs.Fields.{headOf, nextOf}
+use Rattle.table.specs.Fields.{rowWords, versionWords, headOf, nextOf}
 use Rattle.table.specs.Lists.{Kind, reads, writes, records, startOf, readOf, writeOf, recordOf, candidateOf, candidates, entryAt, listAt}
 use Rattle.table.specs.Regions.{words, listOf}
 use Rattle.table.specs.declared.lists.Write.{Write}
@@ -203,11 +203,11 @@ module _ (w : Words) where
       and-same _ _ _ _
       (ap (λ (b : Bool). leb (w .used) (w .sizes .versions) && b)
       (every-same (w .sizes .rows) (λ r. leb (view w .chains .head r) (w .used)) (λ r. leb (headOf (w .tables .rows) r) (w .used))
-      (λ r h. rw (part-field 4 0 (w .sizes .rows) (w .tables .rows) r (omega arith) h))))
+      (λ r h. rw (part-field rowWords 0 (w .sizes .rows) (w .tables .rows) r (omega arith) h))))
       (λ e.
       let room = leb-true (w .used) (w .sizes .versions) (and-l _ _ e) in
       every-same (w .used) (λ p. ltb (view w .chains .next (suc p)) (suc p)) (λ p. ltb (nextOf (w .tables .versions) (suc p)) (suc p))
-      (λ p h. rw (part-field 6 2 (suc (w .sizes .versions)) (w .tables .versions) (suc p) (omega arith) (omega arith))))
+      (λ p h. rw (part-field versionWords 2 (suc (w .sizes .versions)) (w .tables .versions) (suc p) (omega arith) (omega arith))))
 
   -- no head is past the last used pointer
   fits-headed : chainsFit (w .tables .rows) (w .tables .versions) (w .sizes) (w .used) ≡ true → Headed (sizesView (w .sizes)) (w .tables .rows) (w .used)

@@ -39,7 +39,7 @@ use Rattle.txn.specs.declared.Transaction.{Transaction}
 use Rattle.txn_needs.specs.declared.Key.{Key}
 use Rattle.txn_needs.specs.Keys.{oldKeyOf, newKeyOf}
 use Rattle.txn_needs.specs.Needs.{bucketsFor, readsNeed, rowsWritten, writeNeeds}
-use Rattle.table.specs.Fields.{clearHolders, clearClaims}
+use Rattle.table.specs.Fields.{rowWords, bucketWords, clearHolders, clearClaims}
 use Rattle.finish_publish.specs.Publish.{neededIn, freedIn, abortOf}
 use Rattle.step.specs.Steps.{inAborted}
 use Rattle.step.specs.Words.{Words, view, txnAt, SizedTxn, Sized}
@@ -96,7 +96,7 @@ late-test r = elim (decLt r 5) [ yes l ↦ rw (lt-leb 5 r l, lt-ltb r 5 l) | no 
 module _ (w : Words) (p : ℕ) where
   pub writes-few : length (rowsWritten (w .tables .lists) (txnAt w p .slot) (txnAt w p .«writes_n»)) ≡ txnAt w p .«writes_n»
   writes-few = length-map (lists.writesOf (w .tables .lists) (txnAt w p .slot) (txnAt w p .«writes_n»)) (λ (x : Write). x .row)
-      ∙ list-length lists.writeOf 4 (lists.startOf lists.writes (txnAt w p .slot)) (w .tables .lists) (txnAt w p .«writes_n»)
+      ∙ list-length lists.writeOf (lists.writes .w) (lists.startOf lists.writes (txnAt w p .slot)) (w .tables .lists) (txnAt w p .«writes_n»)
 
   -- the listed buckets are few
   pub listed-few : Sized w → length (listedNeeds w p) ≤ 48
@@ -181,9 +181,9 @@ module _ (w : Words) (z : Sized w) (g : Good (view w)) (p : ℕ) (l : 1 ≤ txnA
       let n = txnAt w p .number in
       let rs = rowsWritten (w .tables .lists) (txnAt w p .slot) (txnAt w p .«writes_n») in
       rw (
-        clear-all 4 1 (omega arith) (w .sizes .rows) n (w .tables .rows) rs (λ q m. row-in w z sh p l q m) (z .rows),
+        clear-all rowWords 1 (omega arith) (w .sizes .rows) n (w .tables .rows) rs (λ q m. row-in w z sh p l q m) (z .rows),
         freed-release n (view w .held .claim) rs own-rows,
-        clear-all 2 1 (omega arith) (w .sizes .buckets) n (w .tables .buckets) (freedList w p) (freed-in w z sh p l) (z .buckets),
+        clear-all bucketWords 1 (omega arith) (w .sizes .buckets) n (w .tables .buckets) (freedList w p) (freed-in w z sh p l) (z .buckets),
         freed-release n (view w .held .holder) (freedList w p) (own-listed r),
       )
 
@@ -191,15 +191,15 @@ module _ (w : Words) where
   pub abort-chains : (n : ℕ) (rs : List ℕ)
       → chainsView (rowsPart (sizesView (w .sizes)) (clearClaims (w .tables .rows) n rs)) (versionsPart (sizesView (w .sizes)) (w .tables .versions))
       (w .used) ≡ view w .chains
-  abort-chains n rs = rw (clear-other 4 1 (omega arith) (w .sizes .rows) n (w .tables .rows) rs 0 (omega arith) (omega arith))
+  abort-chains n rs = rw (clear-other rowWords 1 (omega arith) (w .sizes .rows) n (w .tables .rows) rs 0 (omega arith) (omega arith))
 
   pub abort-index : (n : ℕ) (rs bs : List ℕ)
       → indexView (rowsPart (sizesView (w .sizes)) (clearClaims (w .tables .rows) n rs))
       (bucketsPart (sizesView (w .sizes)) (clearHolders (w .tables .buckets) n bs)) ≡ view w .index
   abort-index n rs bs = rw (
-    clear-other 4 1 (omega arith) (w .sizes .rows) n (w .tables .rows) rs 2 (omega arith) (omega arith),
-    clear-other 4 1 (omega arith) (w .sizes .rows) n (w .tables .rows) rs 3 (omega arith) (omega arith),
-    clear-other 2 1 (omega arith) (w .sizes .buckets) n (w .tables .buckets) bs 0 (omega arith) (omega arith),
+    clear-other rowWords 1 (omega arith) (w .sizes .rows) n (w .tables .rows) rs 2 (omega arith) (omega arith),
+    clear-other rowWords 1 (omega arith) (w .sizes .rows) n (w .tables .rows) rs 3 (omega arith) (omega arith),
+    clear-other bucketWords 1 (omega arith) (w .sizes .buckets) n (w .tables .buckets) bs 0 (omega arith) (omega arith),
   )
 
 pub sized-idle : (p : ℕ) (t : Transaction) → SizedTxn p t → SizedTxn p (idleOf (t .slot))
@@ -261,7 +261,7 @@ module _ (w : Words) (z : Sized w) (g : Good (view w)) (n : ℕ) where
       let rs = rowsWritten (w .tables .lists) (t .slot) (t .«writes_n») in
       ended-at w z q l _ _ tell.Done machine.Done (w .clock) (w .clock) _ _ _ refl (abort-chains w (t .number) rs)
       (abort-index w (t .number) rs (freedList w q)) (abort-held w z g q a (leb-false 5 (rank (phaseView (t .phase))) e))
-      (clear-length 4 1 (t .number) (w .tables .rows) rs) (clear-length 2 1 (t .number) (w .tables .buckets) (freedList w q)) refl refl
+      (clear-length rowWords 1 (t .number) (w .tables .rows) rs) (clear-length bucketWords 1 (t .number) (w .tables .buckets) (freedList w q)) refl refl
 
   -- buckets and claims are freed, and the record ends
   pub abort-same : Same w (ask.Abort n)

@@ -23,7 +23,7 @@ use Rattle.model.proofs.Ranges.{good-sized, bucket-in}
 use Rattle.base_protocol.specs.declared.Step.the-variants as ask
 use Rattle.base_protocol.specs.declared.Answer.the-variants as tell
 use Rattle.base_protocol.specs.View.{asked, sizesView}
-use Rattle.table.specs.Fields.{stampOf, holderOf, setHolder}
+use Rattle.table.specs.Fields.{bucketWords, stampOf, holderOf, setHolder}
 use Rattle.table.specs.Lists as lists
 use Rattle.table.specs.Lists.{stored, listsWords}
 use Rattle.table.specs.declared.lists.IndexRead.{IndexRead}
@@ -102,11 +102,11 @@ module _ (w : Words) (z : Sized w) (b v : ℕ) (h : b < w .sizes .buckets) where
   pub holder-set : _≡_ {A = model.Held}
       (record { holder = holderOf (bucketsPart (sizesView (w .sizes)) (setHolder (w .tables .buckets) b v)); claim = view w .held .claim })
       (record { holder = update (view w .held .holder) b v; claim = view w .held .claim })
-  holder-set = rw (part-update 2 1 (w .sizes .buckets) (w .tables .buckets) b v (omega arith) h (z .buckets))
+  holder-set = rw (part-update bucketWords 1 (w .sizes .buckets) (w .tables .buckets) b v (omega arith) h (z .buckets))
 
   pub stamps-kept : _≡_ {A = model.Index}
       (record { stamp = stampOf (bucketsPart (sizesView (w .sizes)) (setHolder (w .tables .buckets) b v)); posted = view w .index .posted }) (view w .index)
-  stamps-kept = rw (part-other 2 1 (w .sizes .buckets) (w .tables .buckets) b v 0 (omega arith) (omega arith) (omega arith))
+  stamps-kept = rw (part-other bucketWords 1 (w .sizes .buckets) (w .tables .buckets) b v 0 (omega arith) (omega arith) (omega arith))
 
 module _ (w : Words) (z : Sized w) (g : Shaped w) (n k : ℕ) (l : standing w n < mostLive) where
   pub key-in : bucketOf (view w .sizes) k < w .sizes .buckets
@@ -171,7 +171,7 @@ module _ (w : Words) (z : Sized w) (g : Shaped w) (n k : ℕ) (l : standing w n 
               writes = s .writes;
               records = s .records;
               candidates = s .candidates;
-            }) refl refl (field-length 2 1 (w .tables .buckets) b (txnAt w q .number)) refl;
+            }) refl refl (field-length bucketWords 1 (w .tables .buckets) b (txnAt w q .number)) refl;
       }
   held-at Nothing st e r m =
       let q = standing w n in
@@ -206,7 +206,7 @@ module _ (w : Words) (z : Sized w) (g : Shaped w) (n k : ℕ) (l : standing w n 
               writes = s .writes;
               records = s .records;
               candidates = s .candidates;
-            }) refl refl (field-length 2 1 (w .tables .buckets) b (txnAt w q .number)) (length-sets (w .tables .lists) _ (b ∷ st ∷ []));
+            }) refl refl (field-length bucketWords 1 (w .tables .buckets) b (txnAt w q .number)) (length-sets (w .tables .lists) _ (b ∷ st ∷ []));
       }
 
   captured-at : (f : Found) (st : ℕ) → st ≡ view w .index .stamp (bucketOf (view w .sizes) k)
@@ -241,7 +241,8 @@ module _ (w : Words) (z : Sized w) (g : Shaped w) (n k : ℕ) (l : standing w n 
       let b = bucketOf (view w .sizes) k in
       let xs = w .tables .lists in
       let t = txnAt w q in
-      let st : stampOf (w .tables .buckets) b ≡ view w .index .stamp b = sym (part-field 2 0 (w .sizes .buckets) (w .tables .buckets) b (omega arith) key-in) in
+      let st : stampOf (w .tables .buckets) b ≡ view w .index .stamp b =
+      sym (part-field bucketWords 0 (w .sizes .buckets) (w .tables .buckets) b (omega arith) key-in) in
       let has = has-place xs t b (sized-at w z q .reads) in
       rw (taken-same w z g (t .number) b key-in, st, has, reads-length xs t, many-same (readPrefix xs (t .slot) (t .«reads_n») b) (t .«reads_n»))
       (captured-at (readPrefix xs (t .slot) (t .«reads_n») b) (view w .index .stamp b) refl has (not (eqb (model.rank (phaseView (t .phase))) model.phaseOpen))

@@ -22,7 +22,7 @@ use Rattle.model.specs.Machine.{accepted, afterRefusal, carried}
 use Rattle.model.proofs.Ranges.{good-sized}
 use Rattle.base_protocol.specs.declared.Step.the-variants as ask
 use Rattle.base_protocol.specs.View.{asked}
-use Rattle.table.specs.Fields.{postedOf, postedKeyOf}
+use Rattle.table.specs.Fields.{rowWords, bucketWords, postedOf, postedKeyOf}
 use Rattle.table.specs.Lists as lists
 use Rattle.table.specs.Lists.{Kind, endOf, listAt, listsWords, startOf, placeOf, candidates}
 use Rattle.table.proofs.Laws.{field-length}
@@ -101,7 +101,10 @@ module _ (w : Words) (z : Sized w) (g : Shaped w) where
       let e : min (w .sizes .rows) mostRows ≡ w .sizes .rows = omega arith in
       rw e (pick-same _ _ 0 (w .sizes .rows) (λ r lo hi.
       let h : r < w .sizes .rows = omega arith in
-      rw (part-field 4 2 (w .sizes .rows) (w .tables .rows) r (omega arith) h, part-field 4 3 (w .sizes .rows) (w .tables .rows) r (omega arith) h)
+      rw (
+        part-field rowWords 2 (w .sizes .rows) (w .tables .rows) r (omega arith) h,
+        part-field rowWords 3 (w .sizes .rows) (w .tables .rows) r (omega arith) h,
+      )
       (posted-test (postedOf (w .tables .rows) r) (postedKeyOf (w .tables .rows) r) k)))
 
   posted-few : (k : ℕ) → length (postedRows (view w) k) ≤ mostRows
@@ -141,7 +144,7 @@ module _ (w : Words) (z : Sized w) (g : Shaped w) where
               writes = s .writes;
               records = s .records;
               candidates = few;
-            }) refl refl (field-length 2 1 (w .tables .buckets) (bucketIn ph) 0) (length-sets (w .tables .lists) _ rs);
+            }) refl refl (field-length bucketWords 1 (w .tables .buckets) (bucketIn ph) 0) (length-sets (w .tables .lists) _ rs);
       }
 
   -- the posted rows are kept, and the bucket is free

@@ -14,7 +14,7 @@ use Rattle.model.specs.Seeing.{keyAt}
 use Rattle.model.specs.Steps.{oldKey, headedBy}
 use Rattle.table.specs.Words.{field}
 use Rattle.table.specs.Fields as fields
-use Rattle.table.specs.Fields.{headOf}
+use Rattle.table.specs.Fields.{rowWords, versionWords, headOf}
 use Rattle.table.proofs.Parts.{part-field}
 use Rattle.txn.specs.View.{keyView, rowsPart, versionsPart, chainsView}
 use Rattle.txn.specs.declared.Transaction.{Transaction}
@@ -38,11 +38,11 @@ chainsIn z rows versions used = chainsView (rowsPart z rows) (versionsPart z ver
 
 module _ (z : model.Sizes) (rows versions : List ℕ) (used : ℕ) (g : Headed z rows used) where
   pub head-same : (r : ℕ) → r < z .rows → headOf rows r ≡ chainsIn z rows versions used .head r
-  head-same r h = sym (part-field 4 0 (z .rows) rows r (omega arith) h)
+  head-same r h = sym (part-field rowWords 0 (z .rows) rows r (omega arith) h)
 
   -- a field of the version at a pointer that was given
-  pub version-field : (k p : ℕ) → k < 6 → p ≤ used → field 6 k (versionsPart z versions) p ≡ field 6 k versions p
-  version-field k p hk h = part-field 6 k (suc (z .versions)) versions p hk (omega (arith, g .room))
+  pub version-field : (k p : ℕ) → k < versionWords → p ≤ used → field versionWords k (versionsPart z versions) p ≡ field versionWords k versions p
+  version-field k p hk h = part-field versionWords k (suc (z .versions)) versions p hk (omega (arith, g .room))
 
   -- its key
   pub version-key : (p : ℕ) → p ≤ used → keyOf (versionKey versions p) ≡ keyAt (chainsIn z rows versions used) p

@@ -20,7 +20,7 @@ use Rattle.base_protocol.specs.declared.Step.the-variants as ask
 use Rattle.base_protocol.specs.declared.Answer.the-variants as tell
 use Rattle.base_protocol.specs.declared.Verdict.{Verdict}
 use Rattle.base_protocol.specs.View.{asked, verdictTold}
-use Rattle.table.specs.Fields.{holderOf}
+use Rattle.table.specs.Fields.{versionWords, bucketWords, holderOf}
 use Rattle.table.specs.Lists as lists
 use Rattle.table.specs.declared.lists.IndexRead.{IndexRead}
 use Rattle.table.proofs.Parts.{part-field}
@@ -42,7 +42,7 @@ use Rattle.step_bridge.proofs.Listing.{listed-all, some-same}
 -- the index reads as the model has them
 pub reads-length : (xs : List ℕ) (t : Transaction) → length (readsIn xs t) ≡ t .«reads_n»
 reads-length xs t = length-map (lists.readsOf xs (t .slot) (t .«reads_n»)) readView
-    ∙ list-length lists.readOf 2 (lists.startOf lists.reads (t .slot)) xs (t .«reads_n»)
+    ∙ list-length lists.readOf (lists.reads .w) (lists.startOf lists.reads (t .slot)) xs (t .«reads_n»)
 
 pub reads-need : (xs : List ℕ) (t : Transaction) → readBuckets (txnView xs t) ≡ readsNeed xs (t .slot) (t .«reads_n»)
 unfolding readBuckets
@@ -50,13 +50,13 @@ reads-need xs t = map-map (λ (r : model.IndexRead). r .bucket) readView (lists.
 
 pub needs-length : (xs : List ℕ) (t : Transaction) → length (readsNeed xs (t .slot) (t .«reads_n»)) ≡ t .«reads_n»
 needs-length xs t = length-map (lists.readsOf xs (t .slot) (t .«reads_n»)) (λ (r : IndexRead). r .bucket)
-    ∙ list-length lists.readOf 2 (lists.startOf lists.reads (t .slot)) xs (t .«reads_n»)
+    ∙ list-length lists.readOf (lists.reads .w) (lists.startOf lists.reads (t .slot)) xs (t .«reads_n»)
 
 module _ (w : Words) (z : Sized w) (g : Shaped w) where
   -- a bucket in range carries what the model sees
   pub taken-same : (n b : ℕ) → b < w .sizes .buckets → takenBy (holderOf (w .tables .buckets) b) n ≡ byAnother (view w .held .holder) n b
   unfolding byAnother
-  taken-same n b h = rw (part-field 2 1 (w .sizes .buckets) (w .tables .buckets) b (omega arith) h)
+  taken-same n b h = rw (part-field bucketWords 1 (w .sizes .buckets) (w .tables .buckets) b (omega arith) h)
 
   pub read-in : (p : ℕ) → 1 ≤ txnAt w p .number → (b : ℕ) → Among b (readsNeed (w .tables .lists) (txnAt w p .slot) (txnAt w p .«reads_n»))
       → b < w .sizes .buckets
@@ -85,10 +85,10 @@ module _ (w : Words) (z : Sized w) (g : Shaped w) where
       let u = g .versions-left in
       verdict-model (view w .chains) (view w .index) (w .tables .versions) (w .tables .buckets) (w .tables .lists) (txnAt w p) (record {
         xmin-same = λ r m. let a = g .in-store p l .records-in r m in
-            part-field 6 0 (suc (w .sizes .versions)) (w .tables .versions) (r .ptr) (omega arith) (omega arith);
+            part-field versionWords 0 (suc (w .sizes .versions)) (w .tables .versions) (r .ptr) (omega arith) (omega arith);
         xmax-same = λ r m. let a = g .in-store p l .records-in r m in
-            part-field 6 1 (suc (w .sizes .versions)) (w .tables .versions) (r .ptr) (omega arith) (omega arith);
-        stamp-same = λ r m. part-field 2 0 (w .sizes .buckets) (w .tables .buckets) (r .bucket) (omega arith) (g .in-store p l .reads-in r m);
+            part-field versionWords 1 (suc (w .sizes .versions)) (w .tables .versions) (r .ptr) (omega arith) (omega arith);
+        stamp-same = λ r m. part-field bucketWords 0 (w .sizes .buckets) (w .tables .buckets) (r .bucket) (omega arith) (g .in-store p l .reads-in r m);
       })
 
   judged-at : (n : ℕ) (v : Verdict) → v ≡ verdictTold (judged.verdict (view w .chains) (view w .index) (txnOf (view w) n)) → (b c : Bool)

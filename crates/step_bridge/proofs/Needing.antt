@@ -20,6 +20,7 @@ use Rattle.model.specs.Seeing.{pending}
 use Rattle.model.specs.Steps.{pendingRows, oldKey, newKey, keyBuckets, readBuckets, neededBuckets}
 use Rattle.model.proofs.Ranges.{good-sized}
 use Rattle.model.proofs.SeeingLaws.{which-pendingRows, pending-which}
+use Rattle.table.specs.Fields.{rowWords}
 use Rattle.table.specs.Lists as lists
 use Rattle.table.specs.declared.lists.Write.{Write}
 use Rattle.table.proofs.Parts.{part-field}
@@ -84,7 +85,7 @@ module _ (w : Words) (z : Sized w) (g : Shaped w) where
   pub headed : Headed (view w .sizes) (w .tables .rows) (w .used)
   headed = record {
     room = omega (arith, g .versions-left);
-    heads = λ r h. rw (part-field 4 0 (w .sizes .rows) (w .tables .rows) r (omega arith) h) at
+    heads = λ r h. rw (part-field rowWords 0 (w .sizes .rows) (w .tables .rows) r (omega arith) h) at
         (g .heads-in r);
   }
 

@@ -26,7 +26,7 @@ use Rattle.txn.specs.View.{phaseView, rowsPart, versionsPart, bucketsPart, chai
 use Rattle.txn.specs.Methods.{withPhase, takenBy, refusedOf}
 use Rattle.txn.specs.declared.Phase.the-variants as phase
 use Rattle.txn_needs.specs.Needs.{rowsWritten}
-use Rattle.table.specs.Fields.{setHolders, setClaims}
+use Rattle.table.specs.Fields.{rowWords, bucketWords, setHolders, setClaims}
 use Rattle.txn_needs.specs.Holders.{anyTaken, anyClaimed}
 use Rattle.txn_needs.specs.Versions.{versionsIn, reservedIn}
 use Rattle.write_prepare.specs.Prepare.{isClear, lacks, neededInto, left, prepareWith, prepareOf}
@@ -69,7 +69,7 @@ module _ (w : Words) (z : Sized w) (g : Shaped w) where
 
   claim-same : (n r : ℕ) → r < w .sizes .rows → takenBy (fields.claimOf (w .tables .rows) r) n ≡ byAnother (view w .held .claim) n r
   unfolding byAnother
-  claim-same n r h = rw (part-field 4 1 (w .sizes .rows) (w .tables .rows) r (omega arith) h)
+  claim-same n r h = rw (part-field rowWords 1 (w .sizes .rows) (w .tables .rows) r (omega arith) h)
 
   claimed-rows : (p : ℕ) → 1 ≤ txnAt w p .number
       → anyClaimed (w .tables .rows) (txnAt w p .number) (rowsWritten (w .tables .lists) (txnAt w p .slot) (txnAt w p .«writes_n»))
@@ -109,8 +109,8 @@ module _ (w : Words) (z : Sized w) (g : Shaped w) where
       let n = txnAt w p .number in
       let rs = rowsWritten (w .tables .lists) (txnAt w p .slot) (txnAt w p .«writes_n») in
       rw (
-        set-all 2 1 (omega arith) (w .sizes .buckets) n (w .tables .buckets) (listedNeeds w p) (listed-in w z g p l) (z .buckets),
-        set-all 4 1 (omega arith) (w .sizes .rows) n (w .tables .rows) rs (λ r m. row-in w z g p l r m) (z .rows),
+        set-all bucketWords 1 (omega arith) (w .sizes .buckets) n (w .tables .buckets) (listedNeeds w p) (listed-in w z g p l) (z .buckets),
+        set-all rowWords 1 (omega arith) (w .sizes .rows) n (w .tables .rows) rs (λ r m. row-in w z g p l r m) (z .rows),
         all-same (view w .held .holder) (listedNeeds w p) (neededBuckets (view w) (view w .txns p)) n (λ b m. listed-needed w z g p l b m)
             (λ b m. needed-listed w z g p l b m),
         all-same (view w .held .claim) rs (pendingRows (view w .sizes) (view w .txns p .writes)) n (λ r m. row-pending w z g p l r m)
@@ -120,15 +120,15 @@ module _ (w : Words) (z : Sized w) (g : Shaped w) where
   prepare-chains : (n : ℕ) (rs : List ℕ)
       → chainsView (rowsPart (sizesView (w .sizes)) (setClaims (w .tables .rows) n rs)) (versionsPart (sizesView (w .sizes)) (w .tables .versions))
       (w .used) ≡ view w .chains
-  prepare-chains n rs = rw (set-other 4 1 (omega arith) (w .sizes .rows) n (w .tables .rows) rs 0 (omega arith) (omega arith))
+  prepare-chains n rs = rw (set-other rowWords 1 (omega arith) (w .sizes .rows) n (w .tables .rows) rs 0 (omega arith) (omega arith))
 
   prepare-index : (n : ℕ) (rs bs : List ℕ)
       → indexView (rowsPart (sizesView (w .sizes)) (setClaims (w .tables .rows) n rs))
       (bucketsPart (sizesView (w .sizes)) (setHolders (w .tables .buckets) n bs)) ≡ view w .index
   prepare-index n rs bs = rw (
-    set-other 4 1 (omega arith) (w .sizes .rows) n (w .tables .rows) rs 2 (omega arith) (omega arith),
-    set-other 4 1 (omega arith) (w .sizes .rows) n (w .tables .rows) rs 3 (omega arith) (omega arith),
-    set-other 2 1 (omega arith) (w .sizes .buckets) n (w .tables .buckets) bs 0 (omega arith) (omega arith),
+    set-other rowWords 1 (omega arith) (w .sizes .rows) n (w .tables .rows) rs 2 (omega arith) (omega arith),
+    set-other rowWords 1 (omega arith) (w .sizes .rows) n (w .tables .rows) rs 3 (omega arith) (omega arith),
+    set-other bucketWords 1 (omega arith) (w .sizes .buckets) n (w .tables .buckets) bs 0 (omega arith) (omega arith),
   )
 
   prepared-at : (n : ℕ) → standing w n < mostLive → 1 ≤ txnAt w (standing w n) .number → (a b c d e : Bool)
@@ -161,8 +161,8 @@ module _ (w : Words) (z : Sized w) (g : Shaped w) where
             (txns-set w z q l (w .tables .lists) (withPhase t phase.Prepared) (λ j d. refl));
         answer = refl;
         lent = refl;
-        sized = sized-set w z q l _ _ _ _ (sized-phase q t phase.Prepared (sized-at w z q)) (set-length 4 1 (t .number) (w .tables .rows) rs) refl
-            (set-length 2 1 (t .number) (w .tables .buckets) (listedNeeds w q)) refl;
+        sized = sized-set w z q l _ _ _ _ (sized-phase q t phase.Prepared (sized-at w z q)) (set-length rowWords 1 (t .number) (w .tables .rows) rs) refl
+            (set-length bucketWords 1 (t .number) (w .tables .buckets) (listedNeeds w q)) refl;
       }
 
   -- the tests after the phase

@@ -31,7 +31,7 @@ use Rattle.txn.specs.View.{phaseView, rowsPart, versionsPart, bucketsPart, chai
 use Rattle.txn.specs.Methods.{idleOf, refusedOf}
 use Rattle.base_numbers.specs.Numbers.{oneMore}
 use Rattle.base_numbers.proofs.Laws.{one-up}
-use Rattle.table.specs.Fields.{setStamps, clearHolders, clearClaims}
+use Rattle.table.specs.Fields.{rowWords, bucketWords, setStamps, clearHolders, clearClaims}
 use Rattle.finish_publish.specs.Publish.{postedAll, stampedIn, neededIn, freedIn, publishOf}
 use Rattle.step.specs.Steps.{publishStep, publishedFrom, inPublished}
 use Rattle.step.specs.Words.{Words, view, txnAt, Sized}
@@ -81,23 +81,24 @@ module _ (w : Words) (z : Sized w) (p : ℕ) where
   unfolding freedIn neededIn
   freed-is bs = ap (λ (hs : List ℕ). clearHolders bs (txnAt w p .number) hs) (listed-all 49 (heldOf w p) (omega (arith, after-few w z p)))
 
-  posted-room : 4 * w .sizes .rows ≤ length (rowsPosted w p)
+  posted-room : rowWords * w .sizes .rows ≤ length (rowsPosted w p)
   posted-room = rw (posted-length (w .tables .lists) (txnAt w p .slot) (txnAt w p .«writes_n») (w .sizes .rows) (rowsOf w p) (w .tables .rows)) (z .rows)
 
-  stamped-room : 2 * w .sizes .buckets ≤ length (stamped w p)
-  stamped-room = rw (set-length 2 0 (w .clock) (w .tables .buckets) (changesOf w p)) (z .buckets)
+  stamped-room : bucketWords * w .sizes .buckets ≤ length (stamped w p)
+  stamped-room = rw (set-length bucketWords 0 (w .clock) (w .tables .buckets) (changesOf w p)) (z .buckets)
 
   pub rows-long : length (rowsAfter w p) ≡ length (w .tables .rows)
-  rows-long = clear-length 4 1 (txnAt w p .number) (rowsPosted w p) (rowsOf w p)
+  rows-long = clear-length rowWords 1 (txnAt w p .number) (rowsPosted w p) (rowsOf w p)
       ∙ posted-length (w .tables .lists) (txnAt w p .slot) (txnAt w p .«writes_n») (w .sizes .rows) (rowsOf w p) (w .tables .rows)
 
   pub buckets-long : length (bucketsAfter w p) ≡ length (w .tables .buckets)
-  buckets-long = clear-length 2 1 (txnAt w p .number) (stamped w p) (heldOf w p) ∙ set-length 2 0 (w .clock) (w .tables .buckets) (changesOf w p)
+  buckets-long = clear-length bucketWords 1 (txnAt w p .number) (stamped w p) (heldOf w p)
+      ∙ set-length bucketWords 0 (w .clock) (w .tables .buckets) (changesOf w p)
 
   pub publish-chains : chainsView (rowsPart (sizesView (w .sizes)) (rowsAfter w p)) (versionsPart (sizesView (w .sizes)) (w .tables .versions)) (w .used)
       ≡ view w .chains
   publish-chains = rw (
-    clear-other 4 1 (omega arith) (w .sizes .rows) (txnAt w p .number) (rowsPosted w p) (rowsOf w p) 0 (omega arith) (omega arith),
+    clear-other rowWords 1 (omega arith) (w .sizes .rows) (txnAt w p .number) (rowsPosted w p) (rowsOf w p) 0 (omega arith) (omega arith),
     posted-other (w .tables .lists) (txnAt w p .slot) (txnAt w p .«writes_n») (w .sizes .rows) (rowsOf w p) (w .tables .rows) 0 (omega arith),
   )
 
@@ -113,8 +114,8 @@ module _ (w : Words) (z : Sized w) (g : Shaped w) (p : ℕ) (l : 1 ≤ txnAt w p
   publish-posted =
       let n = txnAt w p .number in
       let ps = pendingRows (view w .sizes) (view w .txns p .writes) in
-      keys-by _ _ _ _ (clear-other 4 1 (omega arith) (w .sizes .rows) n (rowsPosted w p) (rowsOf w p) 2 (omega arith) (omega arith))
-      (clear-other 4 1 (omega arith) (w .sizes .rows) n (rowsPosted w p) (rowsOf w p) 3 (omega arith) (omega arith))
+      keys-by _ _ _ _ (clear-other rowWords 1 (omega arith) (w .sizes .rows) n (rowsPosted w p) (rowsOf w p) 2 (omega arith) (omega arith))
+      (clear-other rowWords 1 (omega arith) (w .sizes .rows) n (rowsPosted w p) (rowsOf w p) 3 (omega arith) (omega arith))
       ∙ (fun-ext λ q. posted-all (w .tables .lists) (txnAt w p .slot) (txnAt w p .«writes_n») (w .sizes .rows) (rowsOf w p) (w .tables .rows)
       (λ r m. row-in w z g p l r m) (z .rows) q
       ∙ rw (
@@ -123,10 +124,11 @@ module _ (w : Words) (z : Sized w) (g : Shaped w) (p : ℕ) (l : 1 ≤ txnAt w p
             (λ e. among-member q (rowsOf w p) (pending-row w z g p q (member-among q ps e))),
       ))
 
-  publish-stamps : field 2 0 (part 2 (w .sizes .buckets) (bucketsAfter w p)) ≡ updateAll (view w .index .stamp) (changedBuckets (view w) (view w .txns p))
+  publish-stamps : field bucketWords 0 (part bucketWords (w .sizes .buckets) (bucketsAfter w p))
+      ≡ updateAll (view w .index .stamp) (changedBuckets (view w) (view w .txns p))
       (w .clock)
-  publish-stamps = clear-other 2 1 (omega arith) (w .sizes .buckets) (txnAt w p .number) (stamped w p) (heldOf w p) 0 (omega arith) (omega arith)
-      ∙ (set-all 2 0 (omega arith) (w .sizes .buckets) (w .clock) (w .tables .buckets) (changesOf w p) (changes-in w z g p) (z .buckets)
+  publish-stamps = clear-other bucketWords 1 (omega arith) (w .sizes .buckets) (txnAt w p .number) (stamped w p) (heldOf w p) 0 (omega arith) (omega arith)
+      ∙ (set-all bucketWords 0 (omega arith) (w .sizes .buckets) (w .clock) (w .tables .buckets) (changesOf w p) (changes-in w z g p) (z .buckets)
       ∙ all-same (view w .index .stamp) (changesOf w p) (changedBuckets (view w) (view w .txns p)) (w .clock) (λ b m. changed-to w z g p l b m)
       (λ b m. changed-back w z g p l b m))
 
@@ -139,15 +141,16 @@ module _ (w : Words) (z : Sized w) (g : Shaped w) (p : ℕ) (l : 1 ≤ txnAt w p
       two f f′ h h′ a b = rw (a, b)
 
   -- what is listed is freed
-  pub holders-freed : field 2 1 (part 2 (w .sizes .buckets) (bucketsAfter w p)) ≡ freedAt (txnAt w p .number) (view w .held .holder) (heldOf w p)
+  pub holders-freed : field bucketWords 1 (part bucketWords (w .sizes .buckets) (bucketsAfter w p))
+      ≡ freedAt (txnAt w p .number) (view w .held .holder) (heldOf w p)
   holders-freed =
-      clear-all 2 1 (omega arith) (w .sizes .buckets) (txnAt w p .number) (stamped w p) (heldOf w p) held-in (stamped-room w z p)
+      clear-all bucketWords 1 (omega arith) (w .sizes .buckets) (txnAt w p .number) (stamped w p) (heldOf w p) held-in (stamped-room w z p)
       ∙ ap (λ (f : ℕ → ℕ). freedAt (txnAt w p .number) f (heldOf w p))
-      (set-other 2 0 (omega arith) (w .sizes .buckets) (w .clock) (w .tables .buckets) (changesOf w p) 1 (omega arith) (omega arith))
+      (set-other bucketWords 0 (omega arith) (w .sizes .buckets) (w .clock) (w .tables .buckets) (changesOf w p) 1 (omega arith) (omega arith))
 
-  pub claims-freed : field 4 1 (part 4 (w .sizes .rows) (rowsAfter w p)) ≡ freedAt (txnAt w p .number) (view w .held .claim) (rowsOf w p)
+  pub claims-freed : field rowWords 1 (part rowWords (w .sizes .rows) (rowsAfter w p)) ≡ freedAt (txnAt w p .number) (view w .held .claim) (rowsOf w p)
   claims-freed =
-      clear-all 4 1 (omega arith) (w .sizes .rows) (txnAt w p .number) (rowsPosted w p) (rowsOf w p) (λ r m. row-in w z g p l r m) (posted-room w z p)
+      clear-all rowWords 1 (omega arith) (w .sizes .rows) (txnAt w p .number) (rowsPosted w p) (rowsOf w p) (λ r m. row-in w z g p l r m) (posted-room w z p)
       ∙ ap (λ (f : ℕ → ℕ). freedAt (txnAt w p .number) f (rowsOf w p))
       (posted-other (w .tables .lists) (txnAt w p .slot) (txnAt w p .«writes_n») (w .sizes .rows) (rowsOf w p) (w .tables .rows) 1 (omega arith))
 

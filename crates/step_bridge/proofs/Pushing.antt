@@ -27,6 +27,7 @@ use Rattle.model.proofs.Ranges.{good-sized}
 use Rattle.base_protocol.specs.declared.Step.the-variants as ask
 use Rattle.base_protocol.specs.declared.Answer.the-variants as tell
 use Rattle.base_protocol.specs.View.{asked, sizesView}
+use Rattle.table.specs.Fields.{rowWords, versionWords}
 use Rattle.table.specs.Words.{field}
 use Rattle.table.proofs.Laws.{field-length}
 use Rattle.table.proofs.Parts.{part-field}
@@ -62,19 +63,19 @@ same-chains c c′ a b d e f g h =
 
 -- the chains of the words as the model has them
 abbrev pub chainsOf : model.Sizes → install.Chains → model.Chains
-chainsOf z c = chainsView (part 4 (z .rows) (c .rows)) (part 6 (suc (z .versions)) (c .versions)) (c .used)
+chainsOf z c = chainsView (part rowWords (z .rows) (c .rows)) (part versionWords (suc (z .versions)) (c .versions)) (c .used)
 
 -- the tables are at least their sizes, the version limit is far below the last number, and no head is past the last used
 pub record Fit (z : model.Sizes) (c : install.Chains) : Type 0 where
-  pub rows : 4 * z .rows ≤ length (c .rows)
-  pub versions : 6 * suc (z .versions) ≤ length (c .versions)
+  pub rows : rowWords * z .rows ≤ length (c .rows)
+  pub versions : versionWords * suc (z .versions) ≤ length (c .versions)
   pub heads : (r : ℕ) → chainsOf z c .head r ≤ c .used
 
 -- lengths stay, and so do the other fields of the rows
 module _ (xs : List ℕ) (s n number : ℕ) where
   pushed-rows-length : (c : install.Chains) (r : ℕ) → length (pushedRow xs s n number c r .rows) ≡ length (c .rows)
   unfolding pushedRow
-  pushed-rows-length c r = field-length 4 0 (c .rows) r (oneMore (c .used))
+  pushed-rows-length c r = field-length rowWords 0 (c .rows) r (oneMore (c .used))
 
   pushed-versions-length : (c : install.Chains) (r : ℕ) → length (pushedRow xs s n number c r .versions) ≡ length (c .versions)
   unfolding pushedRow versionStored
@@ -91,12 +92,12 @@ module _ (xs : List ℕ) (s n number : ℕ) where
   all-versions-length (r ∷ rs) c = all-versions-length rs (pushedRow xs s n number c r) ∙ pushed-versions-length c r
 
   one-row-other : (m k : ℕ) → k < 4 → k ≢ 0 → (c : install.Chains) (r : ℕ)
-      → field 4 k (part 4 m (pushedRow xs s n number c r .rows)) ≡ field 4 k (part 4 m (c .rows))
+      → field rowWords k (part rowWords m (pushedRow xs s n number c r .rows)) ≡ field rowWords k (part rowWords m (c .rows))
   unfolding pushedRow
-  one-row-other m k h d c r = part-other 4 0 m (c .rows) r (oneMore (c .used)) k h (omega arith) d
+  one-row-other m k h d c r = part-other rowWords 0 m (c .rows) r (oneMore (c .used)) k h (omega arith) d
 
   pub all-rows-other : (m k : ℕ) → k < 4 → k ≢ 0 → (rs : List ℕ) (c : install.Chains)
-      → field 4 k (part 4 m (pushedRows xs s n number c rs .rows)) ≡ field 4 k (part 4 m (c .rows))
+      → field rowWords k (part rowWords m (pushedRows xs s n number c rs .rows)) ≡ field rowWords k (part rowWords m (c .rows))
   unfolding pushedRows
   all-rows-other m k h d [] c = refl
   all-rows-other m k h d (r ∷ rs) c = all-rows-other m k h d rs (pushedRow xs s n number c r) ∙ one-row-other m k h d c r
@@ -120,9 +121,9 @@ module _ (z : model.Sizes) (small : z .versions ≤ mostVersions) (xs : List ℕ
       let x = lastWriteOf xs (t .slot) (t .«writes_n») r in
       let hp : p < m = omega arith in
       let hh : h < m = omega (arith, f .heads r) in
-      rw (one-up (c .used) (omega arith), ← part-field 4 0 (z .rows) (c .rows) r (omega arith) hr)
+      rw (one-up (c .used) (omega arith), ← part-field rowWords 0 (z .rows) (c .rows) r (omega arith) hr)
       (same-chains _ _ refl
-      (part-update 4 0 (z .rows) (c .rows) r p (omega arith) hr (f .rows))
+      (part-update rowWords 0 (z .rows) (c .rows) r p (omega arith) hr (f .rows))
       (stored-xmin m (c .versions) p (t .number) h x hp hh (f .versions))
       (stored-xmax m (c .versions) p (t .number) h x hp hh (f .versions))
       (stored-next m (c .versions) p (t .number) h x hp hh (f .versions))

@@ -13,6 +13,7 @@ use lib.ListN.{length}
 use borrow.Author.Tests.{eq-eqb, ne-eqb}
 use Rattle.base_lists.specs.Lists.{member}
 use Rattle.base_lists.specs.Table.{update, update-same, update-other}
+use Rattle.table.specs.Fields.{rowWords}
 use Rattle.table.specs.Words.{field, setField}
 use Rattle.table.proofs.Laws.{field-length}
 use Rattle.txn.specs.View.{keyView}
@@ -22,7 +23,7 @@ use Rattle.step_bridge.proofs.Tabled.{part, part-update, part-other, In
 
 -- the postings of the first m rows
 abbrev pub postings : ℕ → List ℕ → ℕ → Option ℕ
-postings m rows q = keyView (field 4 2 (part 4 m rows) q) (field 4 3 (part 4 m rows) q)
+postings m rows q = keyView (field rowWords 2 (part rowWords m rows) q) (field rowWords 3 (part rowWords m rows) q)
 
 -- both words of a key set at one entry
 two-words : (f h : ℕ → ℕ) (r a b : ℕ) → (λ (q : ℕ). keyView (update f r a q) (update h r b q)) ≡ update (λ (q : ℕ). keyView (f q) (h q)) r (keyView a b)
@@ -40,29 +41,30 @@ pub keys-by : (f f′ h h′ : ℕ → ℕ) → f ≡ f′ → h ≡ h′ → bo
 keys-by f f′ h h′ a b = ap (λ (g : ℕ → ℕ). both g h) a ∙ ap (λ (g : ℕ → ℕ). both f′ g) b
 
 module _ (xs : List ℕ) (s n m : ℕ) where
-  posted-one : (rows : List ℕ) (r : ℕ) → r < m → 4 * m ≤ length rows
+  posted-one : (rows : List ℕ) (r : ℕ) → r < m → rowWords * m ≤ length rows
       → postings m (postedOne xs s n rows r) ≡ update (postings m rows) r (keyOf (newKeyOf xs s n r))
   unfolding postedOne
   posted-one rows r h l =
       let k = newKeyOf xs s n r in
       keys-by _ _ _ _
-      (part-other 4 3 m (setField 4 2 rows r (k .keyed)) r (k .key) 2 (omega arith) (omega arith) (omega arith)
-      ∙ part-update 4 2 m rows r (k .keyed) (omega arith) h l)
-      (part-update 4 3 m (setField 4 2 rows r (k .keyed)) r (k .key) (omega arith) h (rw (field-length 4 2 rows r (k .keyed)) l)
-      ∙ ap (λ (f : ℕ → ℕ). update f r (k .key)) (part-other 4 2 m rows r (k .keyed) 3 (omega arith) (omega arith) (omega arith)))
-      ∙ two-words (field 4 2 (part 4 m rows)) (field 4 3 (part 4 m rows)) r (k .keyed) (k .key)
+      (part-other rowWords 3 m (setField rowWords 2 rows r (k .keyed)) r (k .key) 2 (omega arith) (omega arith) (omega arith)
+      ∙ part-update rowWords 2 m rows r (k .keyed) (omega arith) h l)
+      (part-update rowWords 3 m (setField rowWords 2 rows r (k .keyed)) r (k .key) (omega arith) h (rw (field-length rowWords 2 rows r (k .keyed)) l)
+      ∙ ap (λ (f : ℕ → ℕ). update f r (k .key)) (part-other rowWords 2 m rows r (k .keyed) 3 (omega arith) (omega arith) (omega arith)))
+      ∙ two-words (field rowWords 2 (part rowWords m rows)) (field rowWords 3 (part rowWords m rows)) r (k .keyed) (k .key)
 
   one-length : (rows : List ℕ) (r : ℕ) → length (postedOne xs s n rows r) ≡ length rows
   unfolding postedOne
-  one-length rows r = field-length 4 3 (setField 4 2 rows r (newKeyOf xs s n r .keyed)) r (newKeyOf xs s n r .key)
-      ∙ field-length 4 2 rows r (newKeyOf xs s n r .keyed)
+  one-length rows r = field-length rowWords 3 (setField rowWords 2 rows r (newKeyOf xs s n r .keyed)) r (newKeyOf xs s n r .key)
+      ∙ field-length rowWords 2 rows r (newKeyOf xs s n r .keyed)
 
-  one-other : (rows : List ℕ) (r k : ℕ) → k < 2 → field 4 k (part 4 m (postedOne xs s n rows r)) ≡ field 4 k (part 4 m rows)
+  one-other : (rows : List ℕ) (r k : ℕ) → k < 2 → field rowWords k (part rowWords m (postedOne xs s n rows r)) ≡ field rowWords k (part rowWords m rows)
   unfolding postedOne
-  one-other rows r k h = part-other 4 3 m (setField 4 2 rows r (newKeyOf xs s n r .keyed)) r (newKeyOf xs s n r .key) k (omega arith) (omega arith)
-      (omega arith) ∙ part-other 4 2 m rows r (newKeyOf xs s n r .keyed) k (omega arith) (omega arith) (omega arith)
+  one-other rows r k h = part-other rowWords 3 m (setField rowWords 2 rows r (newKeyOf xs s n r .keyed)) r (newKeyOf xs s n r .key) k
+      (omega arith) (omega arith) (omega arith)
+      ∙ part-other rowWords 2 m rows r (newKeyOf xs s n r .keyed) k (omega arith) (omega arith) (omega arith)
 
-  pub posted-all : (rs rows : List ℕ) → InRange m rs → 4 * m ≤ length rows → (q : ℕ)
+  pub posted-all : (rs rows : List ℕ) → InRange m rs → rowWords * m ≤ length rows → (q : ℕ)
       → postings m (postedAll xs s n rows rs) q ≡ cond (member q rs) (keyOf (newKeyOf xs s n q)) (postings m rows q)
   unfolding postedAll member
   posted-all [] rows h l q = refl
@@ -83,7 +85,8 @@ module _ (xs : List ℕ) (s n m : ℕ) where
   posted-length [] rows = refl
   posted-length (r ∷ rs) rows = posted-length rs (postedOne xs s n rows r) ∙ one-length rows r
 
-  pub posted-other : (rs rows : List ℕ) (k : ℕ) → k < 2 → field 4 k (part 4 m (postedAll xs s n rows rs)) ≡ field 4 k (part 4 m rows)
+  pub posted-other : (rs rows : List ℕ) (k : ℕ) → k < 2
+      → field rowWords k (part rowWords m (postedAll xs s n rows rs)) ≡ field rowWords k (part rowWords m rows)
   unfolding postedAll
   posted-other [] rows k h = refl
   posted-other (r ∷ rs) rows k h = posted-other rs (postedOne xs s n rows r) k h ∙ one-other rows r k h

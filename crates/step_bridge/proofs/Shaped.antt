@@ -16,6 +16,7 @@ use Rattle.model.specs.Store.{bucketIn}
 use Rattle.model.specs.Seeing.{live}
 use Rattle.model.specs.Refusals.{liveCount, reserved}
 use Rattle.model.specs.Shape.{within, goodSizes, goodChains, goodCounts, goodRanges, goodHeads, goodTxn, distinctNumbers, rightShape}
+use Rattle.table.specs.Fields.{rowWords}
 use Rattle.table.proofs.Parts.{part-past}
 use Rattle.txn.specs.Methods.{idleOf}
 use Rattle.txn.specs.declared.Transaction.{Transaction}
@@ -117,7 +118,7 @@ module _ (w : Words) (z : Sized w) (e : rightShape (view w) ≡ true) where
     | yes h ↦ leb-true _ (w .used)
         (every-at (w .sizes .rows) (λ q. leb (view w .chains .head q) (w .used))
         (and-r (leb (w .used) (w .sizes .versions)) heads-test (and-l _ falls-test (front .1))) r h)
-    | no h ↦ rw (part-past 4 0 (w .sizes .rows) (w .tables .rows) r (omega (arith, h))) (omega arith)
+    | no h ↦ rw (part-past rowWords 0 (w .sizes .rows) (w .tables .rows) r (omega (arith, h))) (omega arith)
   ]
 
   falls : (p : ℕ) → 1 ≤ p → p ≤ w .used → view w .chains .next p < p

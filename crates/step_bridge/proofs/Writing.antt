@@ -53,7 +53,7 @@ sized-phase p t ph z = record {
 -- the pending writes as the model has them: as many as the count says, and one more where one is stored
 pub writes-length : (xs : List ℕ) (t : Transaction) → length (writesIn xs t) ≡ t .«writes_n»
 writes-length xs t = length-map (lists.writesOf xs (t .slot) (t .«writes_n»)) writeView
-    ∙ list-length lists.writeOf 4 (lists.startOf lists.writes (t .slot)) xs (t .«writes_n»)
+    ∙ list-length lists.writeOf (lists.writes .w) (lists.startOf lists.writes (t .slot)) xs (t .«writes_n»)
 
 abbrev pub writeWords : Write → List ℕ
 writeWords x = x .row ∷ x .keyed ∷ x .key ∷ x .payload ∷ []
