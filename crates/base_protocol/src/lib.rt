@@ -7,6 +7,13 @@ pub struct Sizes {
     pub buckets: u64,
 }
 
+// How far a store reaches: its sizes, its clock, its last used pointer.
+pub struct Extent {
+    pub sizes: Sizes,
+    pub clock: u64,
+    pub used: u64,
+}
+
 // The steps of document 01; `number` is the transaction's.
 pub enum Step {
     Begin,
