@@ -20,7 +20,8 @@ use Rattle.txn.specs.declared.Transaction.{Transaction}
 use Rattle.txn_places.specs.declared.Others.{Others}
 use Rattle.txn_places.specs.Places.{wantedOf, placeIn}
 use Rattle.step.specs.Steps.{Moved, stepOf}
-use Rattle.step.specs.Words.{othersIn, placeFor, movedBy}
+use Rattle.step.specs.declared.Place.{Place}
+use Rattle.step.specs.Words.{othersIn, placeFor, extentIn, movedBy}
 use Rattle.txn_places.proofs.Laws.{default-any}
 use Rattle.shape.specs.Shape.{tablesLent, tablesFit, shapeOf, wordsOf}
 use Rattle.shape.specs.declared.Machine.{Machine}
@@ -40,8 +41,11 @@ module _ (rows versions buckets lists found : List ℕ) (m : Machine) (s : Step)
   unfolding placeFor
   place-same = sym (place ∙ rw (others, asks))
 
-  moved-same : movedBy (wordsOf rows versions buckets lists found m) s ≡ stepOf (m .sizes) o (getD (m .txns) p d) (m .clock) (m .used) s
-      (wordsOf rows versions buckets lists found m .tables)
+  -- what the code hands to it
+  abbrev given : Place
+  given = record { extent = extentIn (wordsOf rows versions buckets lists found m); others = o; txn = getD (m .txns) p d }
+
+  moved-same : movedBy (wordsOf rows versions buckets lists found m) s ≡ stepOf (wordsOf rows versions buckets lists found m .tables) given s
   unfolding movedBy
   moved-same = rw (place-same, others, default-any (m .txns) p (idleOf 0) d (omega arith))
 
@@ -49,7 +53,7 @@ module _ (rows versions buckets lists found : List ℕ) (m : Machine) (s : Step)
   asker-same = rw place-same (default-any (m .txns) p (idleOf 0) d (omega arith))
 
   pub call-done : (mv : Moved) (sw : Swept) (r : Called) → shapeOf (wordsOf rows versions buckets lists found m) ≡ true
-      → mv ≡ stepOf (m .sizes) o (getD (m .txns) p d) (m .clock) (m .used) s (wordsOf rows versions buckets lists found m .tables)
+      → mv ≡ stepOf (wordsOf rows versions buckets lists found m .tables) given s
       → sw ≡ sweptFor (m .sizes) (getD (m .txns) p d .number) (mv .stepped .txn .number) (mv .rows) (mv .buckets) → r ≡ placedOf m p (mv .stepped)
       → left r (sw .rows) (mv .versions) (sw .buckets) (mv .lists) (mv .found) ≡ callOf (wordsOf rows versions buckets lists found m) s
   unfolding callOf

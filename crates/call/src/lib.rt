@@ -1,5 +1,6 @@
 // Open, and any step of a machine: the shape first, 16 where it is wrong; then the step of the transaction that it names.
 use base_protocol::Answer;
+use base_protocol::Extent;
 use base_protocol::Sizes;
 use base_protocol::Step;
 use base_protocol::WRONG_SHAPE;
@@ -9,6 +10,7 @@ use shape::others_of;
 use shape::right_shape;
 use shape::tables_lent;
 use shape_open::can_open;
+use step::Place;
 use step::Stepped;
 use step::step;
 use table::BUCKET_WORDS;
@@ -170,19 +172,16 @@ pub fn call(
     let numbers = others.numbers;
     let p = place_of(numbers, wanted(s));
     let t = txns[p];
-    let done = step(
-        rows,
-        versions,
-        buckets,
-        lists,
-        found,
-        sizes,
-        others,
-        t,
-        m.clock,
-        m.used,
-        s,
-    );
+    let place = Place {
+        extent: Extent {
+            sizes: sizes,
+            clock: m.clock,
+            used: m.used,
+        },
+        others: others,
+        txn: t,
+    };
+    let done = step(rows, versions, buckets, lists, found, place, s);
     let txn = done.txn;
     sweep(rows, buckets, sizes, t.number, txn.number);
     placed(m, p, done)

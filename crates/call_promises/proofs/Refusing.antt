@@ -43,9 +43,9 @@ use Rattle.read_match.specs.Matching.{look}
 use Rattle.read_record.specs.Recording.{knownPointers}
 use Rattle.read.specs.Rows.{matchedRows, newRecords, roomFor, answerOf, readingOf, rowsOf}
 use Rattle.txn_places.specs.Places.{missesOf, liveIn}
-use Rattle.txn_places.specs.declared.Others.{Others}
 use Rattle.step.specs.Steps.{Tables, Moved, publishStep, stays, inBuckets, inLists, inFound, doneBy, stepOf}
-use Rattle.step.specs.Words.{Words, othersIn, placeFor, movedBy, wordsAfter}
+use Rattle.step.specs.declared.Place.{Place}
+use Rattle.step.specs.Words.{Words, beside, placeFor, movedBy, wordsAfter}
 use Rattle.step_bridge.proofs.Placed.{after}
 use Rattle.shape.specs.Shape.{tablesLent, shapeOf, wordsOf}
 use Rattle.call.specs.Calls.{asker, hasEnded, sweptFor, calledBy, wordsCalled, callOf, closedOf, openOf}
@@ -108,7 +108,19 @@ unfolding holdOf
 hold-number t (At j) i k stamp lists = refl
 hold-number t Nothing i k stamp lists = refl
 
-module _ (z : Sizes) (t : Transaction) (clock used : ℕ) (b : Tables) where
+module _ (b : Tables) (p : Place) where
+  abbrev z : Sizes
+  z = p .extent .sizes
+
+  abbrev clock : ℕ
+  clock = p .extent .clock
+
+  abbrev used : ℕ
+  used = p .extent .used
+
+  abbrev t : Transaction
+  t = p .txn
+
   -- all as found, beside the answer and the record that goes back
   abbrev refusedWith : Transaction → ℕ → Moved
   refusedWith u n = stays (record { answer = tell.Refused n; txn = u; clock = clock; used = used }) b
@@ -149,12 +161,12 @@ module _ (z : Sizes) (t : Transaction) (clock used : ℕ) (b : Tables) where
   abbrev KeptBy : Step → Moved → Type 0
   KeptBy s m = Kept s (Stays s m) m
 
-  begin-kept : (o : Others) → KeptBy ask.Begin (doneBy z o t clock used ask.Begin b)
+  begin-kept : KeptBy ask.Begin (doneBy b p ask.Begin)
   unfolding beginOf
-  begin-kept o =
+  begin-kept =
       guard (not (eqb (t .number) 0)) (λ e. rw e (inl refl))
       (λ e. let free = eqb-true (t .number) 0 (not-false (eqb (t .number) 0) e) in
-      rw e (guard (spent clock (liveIn (o .numbers))) (λ e. rw e (inl refl)) (λ e. rw e free)))
+      rw e (guard (spent clock (liveIn (p .others .numbers))) (λ e. rw e (inl refl)) (λ e. rw e free)))
 
   capture-kept : (i k : ℕ) → i ≡ k % z .buckets → t .number ≢ 0
       → KeptBy (ask.Capture (t .number) k) (inBuckets (captureAt t i k (b .buckets) (b .lists)) clock used b)
@@ -168,9 +180,9 @@ module _ (z : Sizes) (t : Transaction) (clock used : ℕ) (b : Tables) where
       (λ e. rw e (hold-number _ (readPrefix (b .lists) (t .slot) (t .«reads_n») i) i k (stampOf (b .buckets) i) (b .lists)))))
       (λ p. rw p (inr (record { key = k; captures = refl; live = l; refusal = refl; unmarked = refl; stale = rw d at p; moved = refl })))))))))
 
-  collect-kept : (o : Others) (n : ℕ) → KeptBy (ask.Collect n) (doneBy z o t clock used (ask.Collect n) b)
+  collect-kept : (n : ℕ) → KeptBy (ask.Collect n) (doneBy b p (ask.Collect n))
   unfolding collectOf
-  collect-kept o n = guard (wrongPhase t phaseHolding) (λ e. rw e (inl refl)) (λ e. rw e refl)
+  collect-kept n = guard (wrongPhase t phaseHolding) (λ e. rw e (inl refl)) (λ e. rw e refl)
 
   write-kept : (s : Step) (w : Write)
       → Kept s (writeOf (z .rows) t w (b .lists) .reply .txn .number ≡ t .number) (inLists (writeOf (z .rows) t w (b .lists)) clock used b)
@@ -181,37 +193,37 @@ module _ (z : Sizes) (t : Transaction) (clock used : ℕ) (b : Tables) where
       (λ m. rw m (guard (not (ltb (w .row) (z .rows))) (λ e. rw e (inl refl))
       (λ e. rw e (guard (leb mostWrites (t .«writes_n»)) (λ e. rw e (inl refl)) (λ e. rw e refl)))))))
 
-  install-kept : (o : Others) (n : ℕ) → KeptBy (ask.Install n) (doneBy z o t clock used (ask.Install n) b)
+  install-kept : (n : ℕ) → KeptBy (ask.Install n) (doneBy b p (ask.Install n))
   unfolding installOf
-  install-kept o n = guard (wrongPhase t phasePrepared) (λ e. rw e (inl refl)) (λ e. rw e refl)
+  install-kept n = guard (wrongPhase t phasePrepared) (λ e. rw e (inl refl)) (λ e. rw e refl)
 
-  end-kept : (o : Others) (n : ℕ) → KeptBy (ask.End n) (doneBy z o t clock used (ask.End n) b)
+  end-kept : (n : ℕ) → KeptBy (ask.End n) (doneBy b p (ask.End n))
   unfolding endOf
-  end-kept o n = guard (wrongPhase t phaseInstalled) (λ e. rw e (inl refl)) (λ e. rw e refl)
+  end-kept n = guard (wrongPhase t phaseInstalled) (λ e. rw e (inl refl)) (λ e. rw e refl)
 
-  publish-kept : (o : Others) (n : ℕ) → KeptBy (ask.Publish n) (doneBy z o t clock used (ask.Publish n) b)
+  publish-kept : (n : ℕ) → KeptBy (ask.Publish n) (doneBy b p (ask.Publish n))
   unfolding publishStep publishOf
-  publish-kept o n = guard (wrongPhase t phaseEnded) (λ e. rw e (inl refl)) (λ e. rw e tt)
+  publish-kept n = guard (wrongPhase t phaseEnded) (λ e. rw e (inl refl)) (λ e. rw e tt)
 
-  abort-kept : (o : Others) (n : ℕ) → KeptBy (ask.Abort n) (doneBy z o t clock used (ask.Abort n) b)
+  abort-kept : (n : ℕ) → KeptBy (ask.Abort n) (doneBy b p (ask.Abort n))
   unfolding abortOf
-  abort-kept o n = guard (leb phaseInstalled (rank (phaseView (t .phase)))) (λ e. rw e (inl refl)) (λ e. rw e tt)
+  abort-kept n = guard (leb phaseInstalled (rank (phaseView (t .phase)))) (λ e. rw e (inl refl)) (λ e. rw e tt)
 
-  validate-kept : (o : Others) (n : ℕ) → KeptBy (ask.Validate n) (doneBy z o t clock used (ask.Validate n) b)
+  validate-kept : (n : ℕ) → KeptBy (ask.Validate n) (doneBy b p (ask.Validate n))
   unfolding validateOf
-  validate-kept o n = guard (wrongPhase t phaseOpen) (λ e. rw e (inl refl))
+  validate-kept n = guard (wrongPhase t phaseOpen) (λ e. rw e (inl refl))
       (λ e. rw e (guard (readsTakenIn (b .buckets) (b .lists) (t .slot) (t .«reads_n») (t .number)) (λ e. rw e (inl refl)) (λ e. rw e refl)))
 
-  prepare-kept : (o : Others) (n : ℕ) → KeptBy (ask.Prepare n) (doneBy z o t clock used (ask.Prepare n) b)
+  prepare-kept : (n : ℕ) → KeptBy (ask.Prepare n) (doneBy b p (ask.Prepare n))
   unfolding prepareOf prepareWith
-  prepare-kept o n =
+  prepare-kept n =
       guard (wrongPhase t phaseOpen) (λ e. rw e (inl refl))
       (λ e. rw e (guard (anyTaken (b .buckets) (t .number)
       (front (neededInto (b .rows) (b .versions) (b .lists) (z .buckets) (t .slot) (t .«reads_n») (t .«writes_n») (replicate mostNeeded 0))))
       (λ e. rw e (inl refl))
       (λ e. rw e (guard (anyClaimed (b .rows) (t .number) (rowsWritten (b .lists) (t .slot) (t .«writes_n»))) (λ e. rw e (inl refl))
       (λ e. rw e (guard (isClear (verdictOf (b .versions) (b .buckets) (b .lists) t))
-      (λ e. rw e (guard (lacks (b .rows) (b .versions) (b .lists) (o .prepared) (t .slot) (t .«writes_n») used (z .versions)) (λ e. rw e (inl refl))
+      (λ e. rw e (guard (lacks (b .rows) (b .versions) (b .lists) (p .others .prepared) (t .slot) (t .«writes_n») used (z .versions)) (λ e. rw e (inl refl))
       (λ e. rw e refl)))
       (λ e. rw e (inl refl))))))))
 
@@ -222,40 +234,40 @@ module _ (z : Sizes) (t : Transaction) (clock used : ℕ) (b : Tables) where
       guard (ltb (roomFor room (length (b .found))) (length rs)) (λ e. rw e (inl refl))
       (λ e. rw e (guard (ltb mostRecords (t .«records_n» + length new)) (λ e. rw e (inl refl)) (λ e. rw e refl)))
 
-  rows-kept : (o : Others) (n room : ℕ) → KeptBy (ask.Rows n room) (doneBy z o t clock used (ask.Rows n room) b)
+  rows-kept : (n room : ℕ) → KeptBy (ask.Rows n room) (doneBy b p (ask.Rows n room))
   unfolding rowsOf readingOf
-  rows-kept o n room =
+  rows-kept n room =
       let l = look (b .rows) (b .versions) (b .lists) used t (keyIn (phaseView (t .phase))) in
       guard (wrongPhase t phaseCollected) (λ e. rw e (inl refl))
       (λ e. rw e (answer-kept (ask.Rows n room) room (matchedRows l (z .rows))
       (newRecords l (knownPointers (b .lists) (t .slot) (t .«records_n»)) (matchedRows l (z .rows)))))
 
   -- the record that came in is the one that the step names
-  done-kept : (o : Others) (s : Step) → missesOf (t .number) s ≡ false → KeptBy s (doneBy z o t clock used s b)
+  done-kept : (s : Step) → missesOf (t .number) s ≡ false → KeptBy s (doneBy b p s)
   unfolding missesOf
-  done-kept o ask.Begin h = begin-kept o
-  done-kept o (ask.Capture n k) h =
+  done-kept ask.Begin h = begin-kept
+  done-kept (ask.Capture n k) h =
       let d : t .number ≡ n = eqb-true (t .number) n (not-false (eqb (t .number) n) (or-r (eqb n 0) (not (eqb (t .number) n)) h)) in
-      subst (λ (m : ℕ). KeptBy (ask.Capture m k) (doneBy z o t clock used (ask.Capture m k) b)) d
+      subst (λ (m : ℕ). KeptBy (ask.Capture m k) (doneBy b p (ask.Capture m k))) d
       (capture-kept (k % z .buckets) k refl (λ q. eqb-false n 0 (or-l (eqb n 0) (not (eqb (t .number) n)) h) (sym d ∙ q)))
-  done-kept o (ask.Collect n) h = collect-kept o n
-  done-kept o (ask.Rows n room) h = rows-kept o n room
-  done-kept o (ask.Put n r k payload) h = write-kept (ask.Put n r k payload) (record { row = r; keyed = 1; key = k; payload = payload })
-  done-kept o (ask.Erase n r) h = write-kept (ask.Erase n r) (record { row = r; keyed = 0; key = 0; payload = 0 })
-  done-kept o (ask.Prepare n) h = prepare-kept o n
-  done-kept o (ask.Install n) h = install-kept o n
-  done-kept o (ask.End n) h = end-kept o n
-  done-kept o (ask.Publish n) h = publish-kept o n
-  done-kept o (ask.Validate n) h = validate-kept o n
-  done-kept o (ask.Abort n) h = abort-kept o n
+  done-kept (ask.Collect n) h = collect-kept n
+  done-kept (ask.Rows n room) h = rows-kept n room
+  done-kept (ask.Put n r k payload) h = write-kept (ask.Put n r k payload) (record { row = r; keyed = 1; key = k; payload = payload })
+  done-kept (ask.Erase n r) h = write-kept (ask.Erase n r) (record { row = r; keyed = 0; key = 0; payload = 0 })
+  done-kept (ask.Prepare n) h = prepare-kept n
+  done-kept (ask.Install n) h = install-kept n
+  done-kept (ask.End n) h = end-kept n
+  done-kept (ask.Publish n) h = publish-kept n
+  done-kept (ask.Validate n) h = validate-kept n
+  done-kept (ask.Abort n) h = abort-kept n
 
-  step-kept : (o : Others) (s : Step) → KeptBy s (stepOf z o t clock used s b)
+  step-kept : (s : Step) → KeptBy s (stepOf b p s)
   unfolding stepOf
-  step-kept o s = guard (missesOf (t .number) s) (λ e. rw e (inl refl)) (λ e. rw e (done-kept o s e))
+  step-kept s = guard (missesOf (t .number) s) (λ e. rw e (inl refl)) (λ e. rw e (done-kept s e))
 
-  step-refused : (o : Others) (s : Step) (n : ℕ) → stepOf z o t clock used s b .stepped .answer ≡ tell.Refused n → Refuses s n (stepOf z o t clock used s b)
-  step-refused o s n e = subst (λ (a : Answer). Outcome a (λ n. Refuses s n (stepOf z o t clock used s b)) (Stays s (stepOf z o t clock used s b))) e
-      (step-kept o s)
+  step-refused : (s : Step) (n : ℕ) → stepOf b p s .stepped .answer ≡ tell.Refused n → Refuses s n (stepOf b p s)
+  step-refused s n e = subst (λ (a : Answer). Outcome a (λ n. Refuses s n (stepOf b p s)) (Stays s (stepOf b p s))) e
+      (step-kept s)
 
   -- a refused step ends no record, and neither does any but publish and abort
   refused-stays : (s : Step) (n : ℕ) (m : Moved) → Refuses s n m → hasEnded (t .number) (m .stepped .txn .number) ≡ false
@@ -279,10 +291,10 @@ module _ (z : Sizes) (t : Transaction) (clock used : ℕ) (b : Tables) where
   done-stays (ask.Validate n) m d e = same-stays m e
   done-stays (ask.Abort n) m d e = absurd (false≢true (sym d))
 
-  step-stays : (o : Others) (s : Step) → ends s ≡ false → hasEnded (t .number) (stepOf z o t clock used s b .stepped .txn .number) ≡ false
-  step-stays o s d =
-      let m = stepOf z o t clock used s b in
-      outcome (m .stepped .answer) (λ n. Refuses s n m) (Stays s m) (λ n h. refused-stays s n m h) (λ h. done-stays s m d h) (step-kept o s)
+  step-stays : (s : Step) → ends s ≡ false → hasEnded (t .number) (stepOf b p s .stepped .txn .number) ≡ false
+  step-stays s d =
+      let m = stepOf b p s in
+      outcome (m .stepped .answer) (λ n. Refuses s n m) (Stays s m) (λ n h. refused-stays s n m h) (λ h. done-stays s m d h) (step-kept s)
 
 -- where no record ended, nothing is swept
 module _ (w : Words) (s : Step) where
@@ -292,7 +304,7 @@ module _ (w : Words) (s : Step) where
 
   pub called-stays : ends s ≡ false → calledBy w s ≡ movedBy w s
   unfolding movedBy
-  called-stays d = unswept (step-stays (w .sizes) (asker w s) (w .clock) (w .used) (w .tables) (othersIn (w .txns)) s d)
+  called-stays d = unswept (step-stays (w .tables) (beside w (asker w s)) s d)
 
 module _ (w : Words) (s : Step) (n : ℕ) where
   -- what a step leaves, with its record at its place
@@ -310,8 +322,8 @@ module _ (w : Words) (s : Step) (n : ℕ) where
   called-refused : movedBy w s .stepped .answer ≡ tell.Refused n → calledBy w s ≡ movedBy w s
   unfolding movedBy
   called-refused e = unswept w s
-      (refused-stays (w .sizes) (asker w s) (w .clock) (w .used) (w .tables) s n _
-      (step-refused (w .sizes) (asker w s) (w .clock) (w .used) (w .tables) (othersIn (w .txns)) s n e))
+      (refused-stays (w .tables) (beside w (asker w s)) s n _
+      (step-refused (w .tables) (beside w (asker w s)) s n e))
 
   moved-words : movedBy w s .stepped .answer ≡ tell.Refused n → (wordsAfter w s ≡ w) ⊎ Marks w s (wordsAfter w s) n
   unfolding movedBy
@@ -328,7 +340,7 @@ module _ (w : Words) (s : Step) (n : ℕ) where
         stale = ltb-false _ _ (c .stale);
         marks = ap placed (c .moved);
       }))
-      (step-refused (w .sizes) (asker w s) (w .clock) (w .used) (w .tables) (othersIn (w .txns)) s n e)
+      (step-refused (w .tables) (beside w (asker w s)) s n e)
 
   called-words : movedBy w s .stepped .answer ≡ tell.Refused n → (wordsCalled w s ≡ w) ⊎ Marks w s (wordsCalled w s) n
   called-words e = subst (λ (m : Moved). (placed m ≡ w) ⊎ Marks w s (placed m) n) (sym (called-refused e)) (moved-words e)

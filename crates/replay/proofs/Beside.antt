@@ -11,7 +11,7 @@ use Rattle.txn.specs.declared.Transaction.{Transaction}
 use Rattle.txn_places.specs.declared.Others.{Others}
 use Rattle.txn_places.specs.Places.{wantedOf, placeIn, activeNumber, preparedCount}
 use Rattle.step.specs.Steps.{Moved, stepOf}
-use Rattle.step.specs.Words.{Words, othersIn, placeFor, movedBy}
+use Rattle.step.specs.Words.{Words, othersIn, placeFor, extentIn, movedBy}
 use Rattle.txn_places.proofs.Laws.{default-any}
 
 map-set : {A B : Type 0} (f : A → B) (l : List A) (i : ℕ) (a : A) → map f (set l i a) ≡ set (map f l) i (f a)
@@ -47,6 +47,7 @@ module _ (w : Words) (s : Step) {o : Others} (e : o ≡ othersIn (w .txns)) (eig
   unfolding placeFor
   place-of = ek ∙ rw (e, en)
 
-  pub moved-of : (d : Transaction) (m : Moved) → m ≡ stepOf (w .sizes) o (getD (w .txns) k d) (w .clock) (w .used) s (w .tables) → m ≡ movedBy w s
+  pub moved-of : (d : Transaction) (m : Moved) → m ≡ stepOf (w .tables) (record { extent = extentIn w; others = o; txn = getD (w .txns) k d }) s
+      → m ≡ movedBy w s
   unfolding movedBy
   moved-of d m em = em ∙ rw (e, default-any (w .txns) k d (idleOf 0) (omega (arith, eight, below)), place-of)

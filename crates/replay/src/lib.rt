@@ -3,6 +3,7 @@ use base_limits::MOST_BUCKETS;
 use base_limits::MOST_LIVE;
 use base_limits::MOST_ROWS;
 use base_limits::MOST_VERSIONS;
+use base_protocol::Extent;
 use base_protocol::NO_ROOM;
 use base_protocol::Sizes;
 use log::Command;
@@ -11,6 +12,7 @@ use report::answer_line;
 use report::open_line;
 use report_lines::Wrote;
 use shape_open::can_open;
+use step::Place;
 use step::step;
 use stop::Stopped;
 use stop::stop_malformed;
@@ -82,19 +84,16 @@ fn replay_steps(
         };
         let k = place_of(numbers, wanted(s));
         let t = txns[k];
-        let u = step(
-            rows,
-            versions,
-            buckets,
-            lists,
-            found,
-            sizes,
-            others,
-            t,
-            clock,
-            used,
-            s,
-        );
+        let place = Place {
+            extent: Extent {
+                sizes: sizes,
+                clock: clock,
+                used: used,
+            },
+            others: others,
+            txn: t,
+        };
+        let u = step(rows, versions, buckets, lists, found, place, s);
         let answer = u.answer;
         let line = answer_line(report, wrote, s, answer, found);
         let Wrote::Next(end) = line else {

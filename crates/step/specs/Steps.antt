@@ -8,7 +8,7 @@ use Rattle.base_protocol.specs.declared.Step.{Step}
 use Rattle.base_protocol.specs.declared.Step.the-variants as ask
 use Rattle.base_protocol.specs.declared.Answer.{Answer}
 use Rattle.base_protocol.specs.declared.Answer.the-variants as tell
-use Rattle.base_protocol.specs.declared.Sizes.{Sizes}
+use Rattle.base_protocol.specs.declared.Extent.{Extent}
 use Rattle.txn.specs.Methods as methods
 use Rattle.txn.specs.declared.Transaction.{Transaction}
 use Rattle.txn.specs.declared.Answered.{Answered}
@@ -20,7 +20,7 @@ use Rattle.finish_publish.specs.Publish as publish
 use Rattle.write_prepare.specs.Prepare as prepare
 use Rattle.read.specs.Rows as reads
 use Rattle.txn_places.specs.Places.{missesOf, liveIn}
-use Rattle.txn_places.specs.declared.Others.{Others}
+use Rattle.step.specs.declared.Place.{Place}
 use Rattle.step.specs.declared.Stepped.{Stepped}
 
 -- the parts that a step leaves alone put beside the others
@@ -51,8 +51,9 @@ pub record Published : Type 0 where
 abbrev pub publishedFrom : publish.Left → ℕ → ℕ → Published
 publishedFrom l clock used = record { stepped = withClock (l .reply) (clockAfter (l .reply .answer) clock) used; rows = l .rows; buckets = l .buckets }
 
-unfoldable pub publishStep : List ℕ → List ℕ → ℕ → Transaction → ℕ → ℕ → List ℕ → List ℕ → Published
-publishStep versions lists count t clock used rows buckets = publishedFrom (publish.publishOf versions lists count clock t rows buckets) clock used
+unfoldable pub publishStep : List ℕ → List ℕ → List ℕ → List ℕ → Extent → Transaction → Published
+publishStep rows versions buckets lists e t =
+    publishedFrom (publish.publishOf versions lists (e .sizes .buckets) (e .clock) t rows buckets) (e .clock) (e .used)
 
 -- the lent tables, and the lent row list
 pub record Tables : Type 0 where
@@ -108,25 +109,35 @@ inAborted l clock used b =
     record { stepped = withClock (l .reply) clock used; rows = l .rows; versions = b .versions; buckets = l .buckets; lists = b .lists; found = b .found }
 
 -- by the kind of step
-abbrev pub doneBy : Sizes → Others → Transaction → ℕ → ℕ → Step → Tables → Moved
-doneBy z o t clock used ask.Begin b = stays (withBegun (beginOf (o .active) (liveIn (o .numbers)) clock t) used) b
-doneBy z o t clock used (ask.Capture n k) b = inBuckets (methods.captureOf (z .buckets) t k (b .buckets) (b .lists)) clock used b
-doneBy z o t clock used (ask.Collect n) b = inBuckets (methods.collectOf (b .rows) (z .rows) t (b .buckets) (b .lists)) clock used b
-doneBy z o t clock used (ask.Rows n room) b = inFound (reads.rowsOf (b .rows) (b .versions) (b .lists) (b .found) (z .rows) used room t) clock used b
-doneBy z o t clock used (ask.Put n r k payload) b =
-    inLists (methods.writeOf (z .rows) t (record { row = r; keyed = 1; key = k; payload = payload }) (b .lists)) clock used b
-doneBy z o t clock used (ask.Erase n r) b = inLists (methods.writeOf (z .rows) t (record { row = r; keyed = 0; key = 0; payload = 0 }) (b .lists)) clock used b
-doneBy z o t clock used (ask.Prepare n) b =
-    inPrepared (prepare.prepareOf (b .versions) (b .lists) (z .buckets) (z .versions) used (o .prepared) t (b .rows) (b .buckets)) clock used b
-doneBy z o t clock used (ask.Install n) b =
-    inInstalled (install.installOf (b .lists) t (record { rows = b .rows; versions = b .versions; used = used })) clock b
-doneBy z o t clock used (ask.End n) b = stays (withClock (publish.endOf t) clock used) b
-doneBy z o t clock used (ask.Publish n) b = inPublished (publishStep (b .versions) (b .lists) (z .buckets) t clock used (b .rows) (b .buckets)) b
-doneBy z o t clock used (ask.Validate n) b = stays (withClock (prepare.validateOf (b .versions) (b .buckets) (b .lists) t) clock used) b
-doneBy z o t clock used (ask.Abort n) b = inAborted (publish.abortOf (b .versions) (b .lists) (z .buckets) t (b .rows) (b .buckets)) clock used b
+abbrev pub doneBy : Tables → Place → Step → Moved
+doneBy b p ask.Begin = stays (withBegun (beginOf (p .others .active) (liveIn (p .others .numbers)) (p .extent .clock) (p .txn)) (p .extent .used)) b
+doneBy b p (ask.Capture n k) =
+    inBuckets (methods.captureOf (p .extent .sizes .buckets) (p .txn) k (b .buckets) (b .lists)) (p .extent .clock) (p .extent .used) b
+doneBy b p (ask.Collect n) =
+    inBuckets (methods.collectOf (b .rows) (p .extent .sizes .rows) (p .txn) (b .buckets) (b .lists)) (p .extent .clock) (p .extent .used) b
+doneBy b p (ask.Rows n room) =
+    inFound (reads.rowsOf (b .rows) (b .versions) (b .lists) (b .found) (p .extent .sizes .rows) (p .extent .used) room (p .txn)) (p .extent .clock)
+    (p .extent .used) b
+doneBy b p (ask.Put n r k payload) =
+    inLists (methods.writeOf (p .extent .sizes .rows) (p .txn) (record { row = r; keyed = 1; key = k; payload = payload }) (b .lists)) (p .extent .clock)
+    (p .extent .used) b
+doneBy b p (ask.Erase n r) =
+    inLists (methods.writeOf (p .extent .sizes .rows) (p .txn) (record { row = r; keyed = 0; key = 0; payload = 0 }) (b .lists)) (p .extent .clock)
+    (p .extent .used) b
+doneBy b p (ask.Prepare n) =
+    inPrepared (prepare.prepareOf (b .versions) (b .lists) (p .extent .sizes .buckets) (p .extent .sizes .versions) (p .extent .used) (p .others .prepared)
+    (p .txn) (b .rows) (b .buckets)) (p .extent .clock) (p .extent .used) b
+doneBy b p (ask.Install n) =
+    inInstalled (install.installOf (b .lists) (p .txn) (record { rows = b .rows; versions = b .versions; used = p .extent .used })) (p .extent .clock) b
+doneBy b p (ask.End n) = stays (withClock (publish.endOf (p .txn)) (p .extent .clock) (p .extent .used)) b
+doneBy b p (ask.Publish n) = inPublished (publishStep (b .rows) (b .versions) (b .buckets) (b .lists) (p .extent) (p .txn)) b
+doneBy b p (ask.Validate n) = stays (withClock (prepare.validateOf (b .versions) (b .buckets) (b .lists) (p .txn)) (p .extent .clock) (p .extent .used)) b
+doneBy b p (ask.Abort n) =
+    inAborted (publish.abortOf (b .versions) (b .lists) (p .extent .sizes .buckets) (p .txn) (b .rows) (b .buckets)) (p .extent .clock) (p .extent .used) b
 
 -- no live transaction has this number; else the step
-unfoldable pub stepOf : Sizes → Others → Transaction → ℕ → ℕ → Step → Tables → Moved
-stepOf z o t clock used s b =
-    cond (missesOf (t .number) s) (stays (record { answer = tell.Refused (refusalNumber NoSuch); txn = t; clock = clock; used = used }) b)
-    (doneBy z o t clock used s b)
+unfoldable pub stepOf : Tables → Place → Step → Moved
+stepOf b p s =
+    cond (missesOf (p .txn .number) s)
+    (stays (record { answer = tell.Refused (refusalNumber NoSuch); txn = p .txn; clock = p .extent .clock; used = p .extent .used }) b)
+    (doneBy b p s)

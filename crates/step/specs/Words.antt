@@ -6,6 +6,7 @@ use lib.ListN.{length, getD, set}
 use Rattle.base_limits.specs.Limits.{mostLive, mostActive, mostIndexReads, mostWrites, mostRecords, mostRows}
 use Rattle.model.specs.Store as model
 use Rattle.base_protocol.specs.declared.Step.{Step}
+use Rattle.base_protocol.specs.declared.Extent.{Extent}
 use Rattle.base_protocol.specs.declared.Sizes.{Sizes}
 use Rattle.base_protocol.specs.View.{sizesView}
 use Rattle.table.specs.Fields.{rowWords, versionWords, bucketWords}
@@ -15,6 +16,7 @@ use Rattle.txn.specs.Methods.{idleOf}
 use Rattle.txn.specs.declared.Transaction.{Transaction}
 use Rattle.txn_places.specs.declared.Others.{Others}
 use Rattle.txn_places.specs.Places.{wantedOf, placeIn, activeNumber, preparedCount}
+use Rattle.step.specs.declared.Place.{Place}
 use Rattle.step.specs.Steps.{Tables, Moved, stepOf}
 
 -- the tables, the eight records, and the numbers beside them
@@ -52,9 +54,17 @@ othersIn ts = record {
 unfoldable pub placeFor : List Transaction → Step → ℕ
 placeFor ts s = placeIn (othersIn ts .numbers) (wantedOf s)
 
+-- how far the store reaches
+abbrev pub extentIn : Words → Extent
+extentIn w = record { sizes = w .sizes; clock = w .clock; used = w .used }
+
+-- what a step of this record finds beside the tables
+abbrev pub beside : Words → Transaction → Place
+beside w t = record { extent = extentIn w; others = othersIn (w .txns); txn = t }
+
 -- a step of the whole
 unfoldable pub movedBy : Words → Step → Moved
-movedBy w s = stepOf (w .sizes) (othersIn (w .txns)) (getD (w .txns) (placeFor (w .txns) s) (idleOf 0)) (w .clock) (w .used) s (w .tables)
+movedBy w s = stepOf (w .tables) (beside w (getD (w .txns) (placeFor (w .txns) s) (idleOf 0))) s
 
 abbrev pub tablesAfter : Moved → Tables
 tablesAfter m = record { rows = m .rows; versions = m .versions; buckets = m .buckets; lists = m .lists; found = m .found }

@@ -1,8 +1,8 @@
 // One step: the transaction at its place, the lent tables, and what the step needs to know of the other places.
 use base_numbers::one_more;
 use base_protocol::Answer;
+use base_protocol::Extent;
 use base_protocol::NO_SUCH;
-use base_protocol::Sizes;
 use base_protocol::Step;
 use finish_install::Installed;
 use finish_install::install;
@@ -20,6 +20,13 @@ use write_prepare::prepare;
 use write_prepare::validate;
 ghost use mathlib.Core.Path.{_≡_};
 ghost use Rattle.step.specs.Steps.{withClock, withBegun, withInstalled, clockAfter, publishStep, stepOf};
+
+// What a step finds beside the tables: how far the store reaches, the other places, and the transaction at its own.
+pub struct Place {
+    pub extent: Extent,
+    pub others: Others,
+    pub txn: Transaction,
+}
 
 // What a step leaves beside the tables.
 pub struct Stepped {
@@ -90,18 +97,25 @@ fn step_publish(
     versions: &[u64],
     buckets: &mut [u64],
     lists: &[u64],
-    bucket_count: u64,
+    extent: Extent,
     t: Transaction,
-    clock: u64,
-    used: u64,
 ) -> Stepped
     ensures { λ r. ⌜ record { stepped = r; rows = now (rows .exit); buckets = now (buckets .exit) }
-        ≡ publishStep (now (versions .entry)) (now (lists .entry)) «bucket_count» t clock used (now (rows .entry)) (now (buckets .entry)) ⌝ }
+        ≡ publishStep (now (rows .entry)) (now (versions .entry)) (now (buckets .entry)) (now (lists .entry)) extent t ⌝ }
 {
-    let a = publish(rows, versions, buckets, lists, bucket_count, clock, t);
+    let sizes = extent.sizes;
+    let a = publish(
+        rows,
+        versions,
+        buckets,
+        lists,
+        sizes.buckets,
+        extent.clock,
+        t,
+    );
     let answer = a.answer;
-    let after = published_clock(answer, clock);
-    with_clock(a, after, used)
+    let after = published_clock(answer, extent.clock);
+    with_clock(a, after, extent.used)
 }
 
 // A step of the transaction at its place; the record that comes in has the number that the step names, or the step is refused.
@@ -111,11 +125,7 @@ pub fn step(
     buckets: &mut [u64],
     lists: &mut [u64],
     found: &mut [u64],
-    sizes: Sizes,
-    others: Others,
-    t: Transaction,
-    clock: u64,
-    used: u64,
+    place: Place,
     s: Step,
 ) -> Stepped
     ensures { λ r. ⌜ record {
@@ -123,20 +133,25 @@ pub fn step(
       rows = now (rows .exit);
       versions = now (versions .exit);
       buckets = now (buckets .exit);
-      lists =
-          now (lists .exit);
+      lists = now (lists .exit);
       found = now (found .exit);
     }
-        ≡ stepOf sizes others t clock used s
+        ≡ stepOf
         (record {
           rows = now (rows .entry);
           versions = now (versions .entry);
           buckets = now (buckets .entry);
           lists = now (lists .entry);
-          found =
-              now (found .entry);
-        }) ⌝ }
+          found = now (found .entry);
+        })
+        place s ⌝ }
 {
+    let extent = place.extent;
+    let sizes = extent.sizes;
+    let clock = extent.clock;
+    let used = extent.used;
+    let others = place.others;
+    let t = place.txn;
     let numbers = others.numbers;
     let active = others.active;
     let prepared = others.prepared;
@@ -192,16 +207,7 @@ pub fn step(
             clock,
         ),
         Step::End { number: _ } => with_clock(end(t), clock, used),
-        Step::Publish { number: _ } => step_publish(
-            rows,
-            versions,
-            buckets,
-            lists,
-            sizes.buckets,
-            t,
-            clock,
-            used,
-        ),
+        Step::Publish { number: _ } => step_publish(rows, versions, buckets, lists, extent, t),
         Step::Validate { number: _ } => with_clock(
             validate(versions, buckets, lists, t),
             clock,

@@ -34,7 +34,7 @@ use Rattle.base_numbers.proofs.Laws.{one-up}
 use Rattle.table.specs.Fields.{rowWords, bucketWords, setStamps, clearHolders, clearClaims}
 use Rattle.finish_publish.specs.Publish.{postedAll, stampedIn, neededIn, freedIn, publishOf}
 use Rattle.step.specs.Steps.{publishStep, publishedFrom, inPublished}
-use Rattle.step.specs.Words.{Words, view, txnAt, Sized}
+use Rattle.step.specs.Words.{Words, view, txnAt, extentIn, Sized}
 use Rattle.step_bridge.proofs.Shaped.{Shaped, shaped}
 use Rattle.step_bridge.proofs.Places.{standing, sized-at, live-at}
 use Rattle.step_bridge.proofs.Same.{two-held, SameAt, Same, refused-same, later-tests, by-place}
@@ -206,8 +206,8 @@ module _ (w : Words) (z : Sized w) (g : Good (view w)) (n : ℕ) (l : standing w
       (buckets-long w z q) refl refl
 
   published-place : SameAt w (standing w n)
-      (inPublished (publishStep (w .tables .versions) (w .tables .lists) (w .sizes .buckets) (txnAt w (standing w n)) (w .clock) (w .used)
-      (w .tables .rows) (w .tables .buckets)) (w .tables))
+      (inPublished (publishStep (w .tables .rows) (w .tables .versions) (w .tables .buckets) (w .tables .lists) (extentIn w) (txnAt w (standing w n)))
+      (w .tables))
       (carried (view w) (asked (ask.Publish n)) (refusal (later-tests (view w) (asked (ask.Publish n)))))
   unfolding publishStep publishOf refusal
   published-place = rw (stamped-is w z (standing w n), freed-is w z (standing w n) (stamped w (standing w n)))

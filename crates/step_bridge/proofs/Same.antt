@@ -24,7 +24,7 @@ use Rattle.base_protocol.specs.View.{asked, told}
 use Rattle.txn.specs.Methods.{idleOf}
 use Rattle.txn_places.specs.Places.{wantedOf, isBegin, missesOf}
 use Rattle.step.specs.Steps.{Moved, doneBy, stepOf}
-use Rattle.step.specs.Words.{Words, view, txnAt, othersIn, placeFor, movedBy, Sized}
+use Rattle.step.specs.Words.{Words, view, txnAt, placeFor, beside, movedBy, Sized}
 use Rattle.txn_places.proofs.Laws.{default-any}
 use Rattle.step_bridge.proofs.Places.{standing, there, nowhere, place-in, not-there}
 use Rattle.step_bridge.proofs.Placed.{after, unmoved, unmoved-same}
@@ -109,7 +109,7 @@ module _ (w : Words) (z : Sized w) (s : Step) (b : isBegin s ≡ false) where
   moved-none p e l h = rw (e, default-any (w .txns) p (idleOf 0) (idleOf p) (omega (arith, z .eight)), b, h)
 
   moved-found : (p : ℕ) → placeFor (w .txns) s ≡ p → p < mostLive → eqb (wantedOf s) 0 || not (eqb (txnAt w p .number) (wantedOf s)) ≡ false
-      → movedBy w s ≡ doneBy (w .sizes) (othersIn (w .txns)) (txnAt w p) (w .clock) (w .used) s (w .tables)
+      → movedBy w s ≡ doneBy (w .tables) (beside w (txnAt w p)) s
   unfolding movedBy stepOf missesOf
   moved-found p e l h = rw (e, default-any (w .txns) p (idleOf 0) (idleOf p) (omega (arith, z .eight)), b, h)
 
@@ -120,7 +120,7 @@ module _ (w : Words) (z : Sized w) (s : Step) (b : isBegin s ≡ false) where
       → (standing w (wantedOf s) < mostLive → wantedOf s ≢ 0 → txnAt w (standing w (wantedOf s)) .number ≡ wantedOf s
       → placeFor (w .txns) s ≡ standing w (wantedOf s)
       → SameAt w (standing w (wantedOf s))
-      (done (doneBy (w .sizes) (othersIn (w .txns)) (txnAt w (standing w (wantedOf s))) (w .clock) (w .used) s (w .tables)))
+      (done (doneBy (w .tables) (beside w (txnAt w (standing w (wantedOf s)))) s))
       (carried (view w) (asked s) (refusal (later-tests (view w) (asked s)))))
       → SameAs w s (done (movedBy w s))
   by-place-as done kept names h = go (ℕ-discrete (wantedOf s) 0) (decLt (standing w (wantedOf s)) mostLive)
@@ -150,7 +150,7 @@ module _ (w : Words) (z : Sized w) (s : Step) (b : isBegin s ≡ false) where
           (refused-same w z (placeFor (w .txns) s) NoSuch)
 
   pub by-place : Names (asked s) → (standing w (wantedOf s) < mostLive → wantedOf s ≢ 0 → txnAt w (standing w (wantedOf s)) .number ≡ wantedOf s
-      → SameAt w (standing w (wantedOf s)) (doneBy (w .sizes) (othersIn (w .txns)) (txnAt w (standing w (wantedOf s))) (w .clock) (w .used) s (w .tables))
+      → SameAt w (standing w (wantedOf s)) (doneBy (w .tables) (beside w (txnAt w (standing w (wantedOf s)))) s)
       (carried (view w) (asked s) (refusal (later-tests (view w) (asked s)))))
       → Same w s
   by-place names h = by-place-as (λ m. m) (λ p a q l. refl) names (λ l n i q. h l n i)

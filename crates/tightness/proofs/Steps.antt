@@ -4,11 +4,9 @@ use Prim.Native.Nat.{ℕ}
 use mathlib.Core.Path.{refl}
 use Rattle.base_protocol.specs.declared.Step.{Step}
 use Rattle.base_protocol.specs.declared.Step.the-variants as ask
-use Rattle.base_protocol.specs.declared.Sizes.{Sizes}
 use Rattle.txn.specs.Methods.{idleOf}
 use Rattle.txn.specs.declared.Phase.the-variants as phase
-use Rattle.txn.specs.declared.Transaction.{Transaction}
-use Rattle.txn_places.specs.declared.Others.{Others}
+use Rattle.step.specs.declared.Place.{Place}
 use Rattle.step.specs.Steps.{Tables, Moved, doneBy, stepOf}
 use Rattle.txn_places.specs.Places.{freePlaces}
 use Rattle.step.specs.Words.{othersIn}
@@ -19,17 +17,25 @@ use Rattle.tightness.proofs.Small.{sizes, store}
 
 -- what a step is given
 abbrev Given : Type 0
-Given = Sizes × Others × Transaction × ℕ × ℕ × Step × Tables
+Given = Tables × Place × Step
 
 abbrev right : Given → Moved
-right (z, others, t, clock, used, s, tables) = stepOf z others t clock used s tables
+right (tables, p, s) = stepOf tables p s
+
+-- the first place of an open store
+abbrev first : Place
+first = record { extent = record { sizes = sizes; clock = 1; used = 0 }; others = othersIn freePlaces; txn = idleOf 0 }
+
+-- the same, with another clock
+abbrev withClock : Place → ℕ → Place
+withClock p clock = record { extent = record { sizes = p .extent .sizes; clock = clock; used = p .extent .used }; others = p .others; txn = p .txn }
 
 -- `step`: the record that comes in takes the step, whatever its number is
-pub step-any-number : Excludes right (λ (z, others, t, clock, used, s, tables). doneBy z others t clock used s tables)
+pub step-any-number : Excludes right (λ (tables, p, s). doneBy tables p s)
 unfolding computes
-step-any-number = apart (sizes, othersIn freePlaces, idleOf 0, 1, 0, ask.End 1, store phase.Open .tables) (λ (m : Moved). numberIn (m .stepped .answer)) refl
+step-any-number = apart (store phase.Open .tables, first, ask.End 1) (λ (m : Moved). numberIn (m .stepped .answer)) refl
 
 -- `step`: the last used pointer is taken for the clock
-pub step-used-for-clock : Excludes right (λ (z, others, t, clock, used, s, tables). stepOf z others t used used s tables)
+pub step-used-for-clock : Excludes right (λ (tables, p, s). stepOf tables (withClock p (p .extent .used)) s)
 unfolding computes
-step-used-for-clock = apart (sizes, othersIn freePlaces, idleOf 0, 1, 0, ask.Begin, store phase.Open .tables) (λ (m : Moved). m .stepped .clock) refl
+step-used-for-clock = apart (store phase.Open .tables, first, ask.Begin) (λ (m : Moved). m .stepped .clock) refl

@@ -8,14 +8,17 @@ use borrow.Author.Needs.{needs}
 use Rattle.step.proofs.step.Statement.{statement}
 use Rattle.step.proofs.step.Tie as tie
 
-abbrev lent : tie.After-misses → tie.After-slice-known5
+abbrev taken-apart : tie.After-misses → tie.After-t
+taken-apart c = c .before .before .before .before
+
+abbrev lent : tie.After-t → tie.After-slice-known5
 lent c = c .before .before .before .before
 
 abbrev start : tie.After-misses → tie.Start
-start c = lent c .before .before .before .before .before
+start c = lent (taken-apart c) .before .before .before .before .before
 
 -- the step names the transaction, past the first test
-named : (c : tie.Else1) → let a = start (c .before) .args in missesOf (a .t .number) (a .s) ≡ false
+named : (c : tie.Else1) → let a = start (c .before) .args in missesOf (a .place .txn .number) (a .s) ≡ false
 named c = rw (← c .before .misses .ensures) (c .if1 .left)
 
 misses-requires : tie.Need-misses-requires

@@ -21,7 +21,7 @@ same-length-2 : tie.Need-same-length-2
 same-length-2 c = search needs
 
 returns : tie.Need-returns
-returns c = published _ _ _ _ _ _ _ _ _ _ _ _ _ (c .before .before .before .before .before .before .publish .ensures)
+returns c = published _ _ _ _ _ _ _ _ _ _ _ (c .before .before .before .before .before .before .publish .ensures)
     (c .before .published-clock .ensures) (c .with-clock .ensures)
 
 pub step-publish-spec : {M : Type 1} → statement M
