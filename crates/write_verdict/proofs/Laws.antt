@@ -3,11 +3,12 @@
 use Prim.Native.Nat.{ℕ, _+_, _<_, _≤_, min}
 use mathlib.Core.Path.{_≡_, refl, sym, _∙_}
 use mathlib.Core.Bool.{Bool, true, false, cond, not, _&&_, _||_, and-false, or-assoc, or-false}
+use mathlib.Core.Logic.{_≢_}
 use mathlib.Core.List.{List, map}
 use native.Mathlib.Numerals.{add-one}
 use native.Mathlib.Decide.{decLt}
 use native.Mathlib.Omega.{arith}
-use borrow.Author.Tests.{ltb-true}
+use borrow.Author.Tests.{ltb-true, eq-eqb, ne-eqb}
 use lib.Dec.{eqb, leb, ltb}
 use lib.ListN.{length, getD, take, drop, drop-of-length-le}
 use lib.Seq.{take-all}
@@ -15,17 +16,20 @@ use Rattle.base_limits.specs.Limits.{mostActive}
 use Rattle.base_lists.specs.Lists.{member, least}
 use Rattle.base_lists.specs.Table.{cond-elim}
 use Rattle.base_lists.proofs.ListLaws.{below-least}
-use Rattle.model.specs.Verdict.{badRecord}
+use Rattle.model.specs.Verdict.{badRead, badRecord}
 use Rattle.table.specs.Fields.{xminOf, xmaxOf}
+use Rattle.table.specs.declared.lists.IndexRead.{IndexRead}
 use Rattle.table.specs.declared.lists.ReadRecord.{ReadRecord}
 use Rattle.table_chain.specs.Chain.{activeOf}
 use Rattle.table_chain.specs.declared.Snapshot.{Snapshot}
-use Rattle.txn.specs.View.{snapshotView, recordView, recordsIn}
+use Rattle.txn.specs.View.{snapshotView, readView, recordView, readsIn, recordsIn}
 use Rattle.txn.specs.declared.Transaction.{Transaction}
-use Rattle.table.specs.Lists.{Kind, records, recordOf, startOf, entryAt, listAt, recordAt}
+use Rattle.table.specs.Lists.{Kind, reads, records, readOf, recordOf, startOf, entryAt, listAt, readAt, recordAt}
 use Rattle.table.proofs.Spans.{list-map, list-drop, list-length, list-at}
+use Rattle.table_scans.specs.declared.Found.{Found}
 use Rattle.table_scans.specs.declared.Found.the-variants.{At, Nothing}
-use Rattle.write_verdict.specs.Judged.{versionsView, firstWhere, badIn, endedBy, outright, lookedFor}
+use Rattle.table_scans.proofs.Laws.{active-next}
+use Rattle.write_verdict.specs.Judged.{versionsView, stampsView, firstWhere, badIn, endedBy, outright, lookedFor}
 
 -- the entries of a slot's list, each seen through `view`: how many there are, and which stands at a place
 module _ {A B : Type 0} (view : A → B) (f : List ℕ → A) (k : Kind) (xs : List ℕ) (s n : ℕ) where
@@ -37,13 +41,13 @@ module _ {A B : Type 0} (view : A → B) (f : List ℕ → A) (k : Kind) (xs : L
 
 -- a test on the entries of a slot's list, each seen through `view`, where x is read at entry i
 module _ {A B : Type 0} (test : B → Bool) (view : A → B) (f : List ℕ → A) (k : Kind) (xs : List ℕ) (s n i : ℕ) where
-  pub where-next : (x : A) → x ≡ entryAt f k xs s i → i < n
+  where-next : (x : A) → x ≡ entryAt f k xs s i → i < n
       → firstWhere test i (drop i (map view (listAt f k xs s n)))
       ≡ cond (test (view x)) (At i) (firstWhere test (i + 1) (drop (i + 1) (map view (listAt f k xs s n))))
   unfolding firstWhere
   where-next x e h = rw (e, list-map view f (k .w) (startOf k s) xs n, list-drop (λ ws. view (f ws)) (k .w) (startOf k s) xs n i (view x) h, add-one)
 
-  pub where-end : n ≤ i → firstWhere test i (drop i (map view (listAt f k xs s n))) ≡ Nothing
+  where-end : n ≤ i → firstWhere test i (drop i (map view (listAt f k xs s n))) ≡ Nothing
   unfolding firstWhere
   where-end h =
       let l : length (map view (listAt f k xs s n)) ≤ i = omega (arith, entries-length view f k xs s n) in
@@ -73,18 +77,56 @@ module _ (versions : List ℕ) (n : ℕ) (s : Snapshot) (r : ReadRecord) (long :
   bad-by x false false false eo ez el d =
       rw (eo, ez, el, looked-same (s .active) (s .«active_n») x long) (sym (or-assoc d (leb (s .xmax) x) (member x (activeOf s))))
 
-  pub bad-split : badRecord (versionsView versions) n (snapshotView s) (recordView r)
+  bad-split : badRecord (versionsView versions) n (snapshotView s) (recordView r)
       ≡ (outright versions r (endedBy versions (r .ptr) n) (s .xmax)
       || member (endedBy versions (r .ptr) n) (take (lookedFor (endedBy versions (r .ptr) n) s) (s .active)))
   unfolding badRecord
   bad-split = bad-by (xmaxOf versions (r .ptr)) _ _ _ refl refl refl (not (eqb (xminOf versions (r .ptr)) (r .xmin)))
 
--- the scan of the read records at place i, where x is read there and e ended its version
-module _ (versions lists : List ℕ) (t : Transaction) (long : length (t .snapshot .active) ≡ mostActive) (i : ℕ) (x : ReadRecord) (e : ℕ) where
-  pub records-next : x ≡ recordAt lists (t .slot) i → e ≡ endedBy versions (x .ptr) (t .number) → i < t .«records_n»
-      → firstWhere (badIn versions t) i (drop i (recordsIn lists t))
+-- what the scans come to from place i on
+abbrev pub readsFrom : List ℕ → List ℕ → Transaction → ℕ → Found
+readsFrom buckets lists t i = firstWhere (badRead (stampsView buckets) (t .number)) i (drop i (readsIn lists t))
+
+abbrev pub recordsFrom : List ℕ → List ℕ → Transaction → ℕ → Found
+recordsFrom versions lists t i = firstWhere (badIn versions t) i (drop i (recordsIn lists t))
+
+module _ (buckets lists : List ℕ) (t : Transaction) (i : ℕ) where
+  -- index read i, where x is read there
+  pub read-next : (x : IndexRead) → x ≡ readAt lists (t .slot) i → i < t .«reads_n» → readsFrom buckets lists t i
+      ≡ cond (badRead (stampsView buckets) (t .number) (readView x)) (At i) (readsFrom buckets lists t (i + 1))
+  read-next x e h = where-next (badRead (stampsView buckets) (t .number)) readView readOf reads lists (t .slot) (t .«reads_n») i x e h
+
+  pub reads-end : t .«reads_n» ≤ i → readsFrom buckets lists t i ≡ Nothing
+  reads-end h = where-end (badRead (stampsView buckets) (t .number)) readView readOf reads lists (t .slot) (t .«reads_n») i h
+
+pub records-end : (versions lists : List ℕ) (t : Transaction) (i : ℕ) → t .«records_n» ≤ i → recordsFrom versions lists t i ≡ Nothing
+records-end versions lists t i h = where-end (badIn versions t) recordView recordOf records lists (t .slot) (t .«records_n») i h
+
+-- the active number at place j, of the first `most`
+module _ (active : List ℕ) (most j x : ℕ) (h : j < most) (k : most ≤ length active) where
+  pub active-here : getD active j 0 ≡ x → member x (drop j (take most active)) ≡ true
+  active-here e = active-next active most j x h (omega arith) ∙ rw (eq-eqb _ _ e)
+
+  pub active-past : getD active j 0 ≢ x → member x (drop j (take most active)) ≡ member x (drop (j + 1) (take most active))
+  active-past e = active-next active most j x h (omega arith) ∙ rw (ne-eqb _ _ e)
+
+-- the read record at place i, where x is read there and e ended its version
+module _ (versions lists : List ℕ) (t : Transaction) (long : length (t .snapshot .active) ≡ mostActive) (i : ℕ) (x : ReadRecord) (e : ℕ)
+    (ex : x ≡ recordAt lists (t .slot) i) (ee : e ≡ endedBy versions (x .ptr) (t .number)) (h : i < t .«records_n») where
+  record-next : recordsFrom versions lists t i
       ≡ cond (outright versions x e (t .snapshot .xmax) || member e (take (lookedFor e (t .snapshot)) (t .snapshot .active))) (At i)
-      (firstWhere (badIn versions t) (i + 1) (drop (i + 1) (recordsIn lists t)))
-  records-next ex ee h =
-      where-next (badIn versions t) recordView recordOf records lists (t .slot) (t .«records_n») i x ex h
+      (recordsFrom versions lists t (i + 1))
+  record-next = where-next (badIn versions t) recordView recordOf records lists (t .slot) (t .«records_n») i x ex h
       ∙ rw (bad-split versions (t .number) (t .snapshot) x long, ee)
+
+  -- it has changed outright
+  pub outright-found : outright versions x e (t .snapshot .xmax) ≡ true → recordsFrom versions lists t i ≡ At i
+  outright-found o = record-next ∙ rw o
+
+  -- else it has changed where e is among the active numbers that are looked at
+  module _ (o : outright versions x e (t .snapshot .xmax) ≡ false) (most : ℕ) (m : most ≡ lookedFor e (t .snapshot)) where
+    pub active-found : member e (take most (t .snapshot .active)) ≡ true → recordsFrom versions lists t i ≡ At i
+    active-found f = record-next ∙ rw (o, ← m, f)
+
+    pub none-found : member e (take most (t .snapshot .active)) ≡ false → recordsFrom versions lists t i ≡ recordsFrom versions lists t (i + 1)
+    none-found f = record-next ∙ rw (o, ← m, f)
