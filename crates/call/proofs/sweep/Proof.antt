@@ -28,12 +28,11 @@ same-length-2 c = search needs
 
 returns-3 : tie.Need-returns-3
 unfolding sweptFor
-returns-3 c = rw (
-  ne-eqb _ _ (c .before .before .before .before .before .before .before .before .before .if1 .left),
-  eq-eqb _ _ (c .before .before .before .before .before .before .before .before .if2 .left),
-  c .before .before .before .before .before .before .unclaim-every .ensures,
-  c .before .before .release-every .ensures,
-)
+returns-3 c =
+    let released = c .before .before in
+    let unclaimed = released .before .before .before .before in
+    let ended = unclaimed .before .before in
+    rw (ne-eqb _ _ (ended .before .if1 .left), eq-eqb _ _ (ended .if2 .left), unclaimed .unclaim-every .ensures, released .release-every .ensures)
 
 pub sweep-spec : {M : Type 1} → statement M
 sweep-spec =
