@@ -103,10 +103,10 @@ abbrev wrongPhase : Transaction → ℕ → Bool
 wrongPhase t n = not (eqb (rank (phaseView (t .phase))) n)
 
 -- a capture keeps its record's number
-hold-number : (t : Transaction) (f : Found) (i k stamp : ℕ) (lists : List ℕ) → holdOf t f i k stamp lists .txn .number ≡ t .number
+hold-number : (t : Transaction) (lists : List ℕ) (f : Found) (i k stamp : ℕ) → holdOf t lists f i k stamp .txn .number ≡ t .number
 unfolding holdOf
-hold-number t (At j) i k stamp lists = refl
-hold-number t Nothing i k stamp lists = refl
+hold-number t lists (At j) i k stamp = refl
+hold-number t lists Nothing i k stamp = refl
 
 module _ (b : Tables) (p : Place) where
   abbrev z : Sizes
@@ -169,7 +169,7 @@ module _ (b : Tables) (p : Place) where
       rw e (guard (spent clock (liveIn (p .others .numbers))) (λ e. rw e (inl refl)) (λ e. rw e free)))
 
   capture-kept : (i k : ℕ) → i ≡ k % z .buckets → t .number ≢ 0
-      → KeptBy (ask.Capture (t .number) k) (inBuckets (captureAt t i k (b .buckets) (b .lists)) clock used b)
+      → KeptBy (ask.Capture (t .number) k) (inBuckets (captureAt t (b .buckets) (b .lists) i k) clock used b)
   unfolding captureAt
   capture-kept i k d l =
       guard (wrongPhase t phaseOpen) (λ e. rw e (inl refl))
@@ -177,7 +177,7 @@ module _ (b : Tables) (p : Place) where
       (λ m. rw m (guard (takenBy (holderOf (b .buckets) i) (t .number)) (λ e. rw e (inl refl))
       (λ e. rw e (guard (precedes (stampOf (b .buckets) i) (t .number))
       (λ p. rw p (guard (tooMany (readPrefix (b .lists) (t .slot) (t .«reads_n») i) (t .«reads_n»)) (λ e. rw e (inl refl))
-      (λ e. rw e (hold-number _ (readPrefix (b .lists) (t .slot) (t .«reads_n») i) i k (stampOf (b .buckets) i) (b .lists)))))
+      (λ e. rw e (hold-number _ (b .lists) (readPrefix (b .lists) (t .slot) (t .«reads_n») i) i k (stampOf (b .buckets) i)))))
       (λ p. rw p (inr (record { key = k; captures = refl; live = l; refusal = refl; unmarked = refl; stale = rw d at p; moved = refl })))))))))
 
   collect-kept : (n : ℕ) → KeptBy (ask.Collect n) (doneBy b p (ask.Collect n))
@@ -185,7 +185,7 @@ module _ (b : Tables) (p : Place) where
   collect-kept n = guard (wrongPhase t phaseHolding) (λ e. rw e (inl refl)) (λ e. rw e refl)
 
   write-kept : (s : Step) (w : Write)
-      → Kept s (writeOf (z .rows) t w (b .lists) .reply .txn .number ≡ t .number) (inLists (writeOf (z .rows) t w (b .lists)) clock used b)
+      → Kept s (writeOf t (b .lists) (z .rows) w .reply .txn .number ≡ t .number) (inLists (writeOf t (b .lists) (z .rows) w) clock used b)
   unfolding writeOf
   write-kept s w =
       guard (wrongPhase t phaseOpen) (λ e. rw e (inl refl))

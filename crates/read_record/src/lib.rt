@@ -1,5 +1,6 @@
 // The read records that a read adds: one for each version whose pointer is not yet recorded.
 use base_limits::MOST_RECORDS;
+use table::lists::ReadRecord;
 use table::lists::put_record;
 use table::set_word;
 use table::word;
@@ -72,7 +73,16 @@ fn add_record(versions: &[u64], lists: &mut [u64], slot: u32, at: u32, row: u64,
     if ptr == 0 {
         return at;
     }
-    put_record(lists, slot, at, row, ptr, xmin_at(versions, ptr as usize));
+    put_record(
+        lists,
+        slot,
+        at,
+        ReadRecord {
+            row: row,
+            ptr: ptr,
+            xmin: xmin_at(versions, ptr as usize),
+        },
+    );
     at + 1
 }
 

@@ -112,17 +112,17 @@ inAborted l clock used b =
 abbrev pub doneBy : Tables → Place → Step → Moved
 doneBy b p ask.Begin = stays (withBegun (beginOf (p .others .active) (liveIn (p .others .numbers)) (p .extent .clock) (p .txn)) (p .extent .used)) b
 doneBy b p (ask.Capture n k) =
-    inBuckets (methods.captureOf (p .extent .sizes .buckets) (p .txn) k (b .buckets) (b .lists)) (p .extent .clock) (p .extent .used) b
+    inBuckets (methods.captureOf (p .txn) (b .buckets) (b .lists) (p .extent .sizes .buckets) k) (p .extent .clock) (p .extent .used) b
 doneBy b p (ask.Collect n) =
-    inBuckets (methods.collectOf (b .rows) (p .extent .sizes .rows) (p .txn) (b .buckets) (b .lists)) (p .extent .clock) (p .extent .used) b
+    inBuckets (methods.collectOf (p .txn) (b .rows) (b .buckets) (b .lists) (p .extent .sizes .rows)) (p .extent .clock) (p .extent .used) b
 doneBy b p (ask.Rows n room) =
     inFound (reads.rowsOf (b .rows) (b .versions) (b .lists) (b .found) (p .extent .sizes .rows) (p .extent .used) room (p .txn)) (p .extent .clock)
     (p .extent .used) b
 doneBy b p (ask.Put n r k payload) =
-    inLists (methods.writeOf (p .extent .sizes .rows) (p .txn) (record { row = r; keyed = 1; key = k; payload = payload }) (b .lists)) (p .extent .clock)
+    inLists (methods.writeOf (p .txn) (b .lists) (p .extent .sizes .rows) (record { row = r; keyed = 1; key = k; payload = payload })) (p .extent .clock)
     (p .extent .used) b
 doneBy b p (ask.Erase n r) =
-    inLists (methods.writeOf (p .extent .sizes .rows) (p .txn) (record { row = r; keyed = 0; key = 0; payload = 0 }) (b .lists)) (p .extent .clock)
+    inLists (methods.writeOf (p .txn) (b .lists) (p .extent .sizes .rows) (record { row = r; keyed = 0; key = 0; payload = 0 })) (p .extent .clock)
     (p .extent .used) b
 doneBy b p (ask.Prepare n) =
     inPrepared (prepare.prepareOf (b .versions) (b .lists) (p .extent .sizes .buckets) (p .extent .sizes .versions) (p .extent .used) (p .others .prepared)

@@ -137,7 +137,7 @@ module _ (w : Words) (z : Sized w) (g : Shaped w) (n k : ℕ) (l : standing w n 
       → hasRead (readsIn (w .tables .lists) (txnAt w (standing w n))) (bucketOf (view w .sizes) k) ≡ isPlace f
       → tooMany f (txnAt w (standing w n) .«reads_n») ≡ false
       → SameAt w (standing w n)
-      (inBuckets (heldLeft st (holdOf (txnAt w (standing w n)) f (bucketOf (view w .sizes) k) k st (w .tables .lists))
+      (inBuckets (heldLeft st (holdOf (txnAt w (standing w n)) (w .tables .lists) f (bucketOf (view w .sizes) k) k st)
       (setHolder (w .tables .buckets) (bucketOf (view w .sizes) k) (txnAt w (standing w n) .number))) (w .clock) (w .used) (w .tables))
       (carried (view w) (asked (ask.Capture n k)) none)
   unfolding carried accepted holdOf
@@ -219,7 +219,7 @@ module _ (w : Words) (z : Sized w) (g : Shaped w) (n k : ℕ) (l : standing w n 
       (cond d (left (refusedOf (txnAt w (standing w n)) (refusalNumber Taken)) (w .tables .buckets) (w .tables .lists))
       (cond e (left (refusedOf (withMark (txnAt w (standing w n))) (refusalNumber Stale)) (w .tables .buckets) (w .tables .lists))
       (cond m (left (refusedOf (txnAt w (standing w n)) (refusalNumber ManyReads)) (w .tables .buckets) (w .tables .lists))
-      (heldLeft st (holdOf (txnAt w (standing w n)) f (bucketOf (view w .sizes) k) k st (w .tables .lists))
+      (heldLeft st (holdOf (txnAt w (standing w n)) (w .tables .lists) f (bucketOf (view w .sizes) k) k st)
       (setHolder (w .tables .buckets) (bucketOf (view w .sizes) k) (txnAt w (standing w n) .number))))))))
       (w .clock) (w .used) (w .tables))
       (carried (view w) (asked (ask.Capture n k))
@@ -233,7 +233,7 @@ module _ (w : Words) (z : Sized w) (g : Shaped w) (n k : ℕ) (l : standing w n 
   captured-at f st q r false false false false false h = held-at f st q r h
 
   captured-place : SameAt w (standing w n)
-      (inBuckets (captureAt (txnAt w (standing w n)) (bucketOf (view w .sizes) k) k (w .tables .buckets) (w .tables .lists)) (w .clock) (w .used) (w .tables))
+      (inBuckets (captureAt (txnAt w (standing w n)) (w .tables .buckets) (w .tables .lists) (bucketOf (view w .sizes) k) k) (w .clock) (w .used) (w .tables))
       (carried (view w) (asked (ask.Capture n k)) (refusal (later-tests (view w) (asked (ask.Capture n k)))))
   unfolding captureAt refusal
   captured-place =

@@ -139,7 +139,7 @@ end-same w z n = by-place w z (ask.End n) refl tt
 -- a pending write is appended, for put and erase alike
 module _ (w : Words) (z : Sized w) (n : ℕ) (x : Write) (l : standing w n < mostLive) (a : Asked) where
   written-place : accepted (view w) a ≡ gives (does.written (view w) (standing w n) (writeView x)) machine.Done
-      → SameAt w (standing w n) (inLists (writeOf (w .sizes .rows) (txnAt w (standing w n)) x (w .tables .lists)) (w .clock) (w .used) (w .tables))
+      → SameAt w (standing w n) (inLists (writeOf (txnAt w (standing w n)) (w .tables .lists) (w .sizes .rows) x) (w .clock) (w .used) (w .tables))
       (carried (view w) a
       (refusal ((not (eqb (model.rank (txnOf (view w) n .phase)) phaseOpen), WrongPhase) ∷ writeChecks (view w) (txnOf (view w) n) (x .row))))
   unfolding writeOf refusal

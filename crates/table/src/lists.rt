@@ -92,12 +92,12 @@ pub fn read_at(lists: &[u64], slot: u32, i: u32) -> IndexRead
     }
 }
 
-pub fn put_read(lists: &mut [u64], slot: u32, i: u32, bucket: u64, stamp: u64)
-    ensures { λ _. ⌜ now (lists .exit) ≡ stored reads (now (lists .entry)) slot i (bucket ∷ stamp ∷ []) ⌝ }
+pub fn put_read(lists: &mut [u64], slot: u32, i: u32, r: IndexRead)
+    ensures { λ _. ⌜ now (lists .exit) ≡ stored reads (now (lists .entry)) slot i (r .bucket ∷ r .stamp ∷ []) ⌝ }
 {
     let at = place(slot, READS_AT, READ_WORDS, i);
-    set_word(lists, at, bucket);
-    set_word(lists, at + 1, stamp);
+    set_word(lists, at, r.bucket);
+    set_word(lists, at + 1, r.stamp);
 }
 
 // Pending writes: row, keyed, key, payload.
@@ -140,14 +140,14 @@ pub fn write_at(lists: &[u64], slot: u32, i: u32) -> Write
     }
 }
 
-pub fn put_write(lists: &mut [u64], slot: u32, i: u32, row: u64, keyed: u64, key: u64, payload: u64)
-    ensures { λ _. ⌜ now (lists .exit) ≡ stored writes (now (lists .entry)) slot i (row ∷ keyed ∷ key ∷ payload ∷ []) ⌝ }
+pub fn put_write(lists: &mut [u64], slot: u32, i: u32, w: Write)
+    ensures { λ _. ⌜ now (lists .exit) ≡ stored writes (now (lists .entry)) slot i (w .row ∷ w .keyed ∷ w .key ∷ w .payload ∷ []) ⌝ }
 {
     let at = place(slot, WRITES_AT, WRITE_WORDS, i);
-    set_word(lists, at, row);
-    set_word(lists, at + 1, keyed);
-    set_word(lists, at + 2, key);
-    set_word(lists, at + 3, payload);
+    set_word(lists, at, w.row);
+    set_word(lists, at + 1, w.keyed);
+    set_word(lists, at + 2, w.key);
+    set_word(lists, at + 3, w.payload);
 }
 
 // Read records: row, pointer, xmin.
@@ -182,13 +182,13 @@ pub fn record_at(lists: &[u64], slot: u32, i: u32) -> ReadRecord
     }
 }
 
-pub fn put_record(lists: &mut [u64], slot: u32, i: u32, row: u64, ptr: u64, xmin: u64)
-    ensures { λ _. ⌜ now (lists .exit) ≡ stored records (now (lists .entry)) slot i (row ∷ ptr ∷ xmin ∷ []) ⌝ }
+pub fn put_record(lists: &mut [u64], slot: u32, i: u32, r: ReadRecord)
+    ensures { λ _. ⌜ now (lists .exit) ≡ stored records (now (lists .entry)) slot i (r .row ∷ r .ptr ∷ r .xmin ∷ []) ⌝ }
 {
     let at = place(slot, RECORDS_AT, RECORD_WORDS, i);
-    set_word(lists, at, row);
-    set_word(lists, at + 1, ptr);
-    set_word(lists, at + 2, xmin);
+    set_word(lists, at, r.row);
+    set_word(lists, at + 1, r.ptr);
+    set_word(lists, at + 2, r.xmin);
 }
 
 // Candidates: row.

@@ -92,53 +92,53 @@ pub with-mark-ends : Excludes (λ t. withMark t) (λ t. withPhase (withMark t) p
 with-mark-ends = apart (idleOf 0) (λ (t : Transaction). rank (phaseView (t .phase))) refl
 
 -- what the contracts of `capture`, `put`, `erase` and `collect` ask for
-abbrev capture : ℕ × Transaction × ℕ × List ℕ × List ℕ → Left
-capture (count, t, key, buckets, lists) = captureOf count t key buckets lists
+abbrev capture : Transaction × List ℕ × List ℕ × ℕ × ℕ → Left
+capture (t, buckets, lists, count, key) = captureOf t buckets lists count key
 
-abbrev put : ℕ × Transaction × ℕ × ℕ × ℕ × List ℕ → LeftLists
-put (rows, t, row, key, payload, lists) = writeOf rows t (record { row = row; keyed = 1; key = key; payload = payload }) lists
+abbrev put : Transaction × List ℕ × ℕ × ℕ × ℕ × ℕ → LeftLists
+put (t, lists, rows, row, key, payload) = writeOf t lists rows (record { row = row; keyed = 1; key = key; payload = payload })
 
-abbrev erase : ℕ × Transaction × ℕ × List ℕ → LeftLists
-erase (rows, t, row, lists) = writeOf rows t (record { row = row; keyed = 0; key = 0; payload = 0 }) lists
+abbrev erase : Transaction × List ℕ × ℕ × ℕ → LeftLists
+erase (t, lists, rows, row) = writeOf t lists rows (record { row = row; keyed = 0; key = 0; payload = 0 })
 
-abbrev collect : List ℕ × ℕ × Transaction × List ℕ × List ℕ → Left
-collect (rows, n, t, buckets, lists) = collectOf rows n t buckets lists
+abbrev collect : Transaction × List ℕ × List ℕ × List ℕ × ℕ → Left
+collect (t, rows, buckets, lists, n) = collectOf t rows buckets lists n
 
 -- one bucket, of stamp 1 and free, and room for one index read
-abbrev capturing : ℕ × Transaction × ℕ × List ℕ × List ℕ
-capturing = (1, live 5 phase.Open, 7, 1 ∷ 0 ∷ [], 0 ∷ 0 ∷ [])
+abbrev capturing : Transaction × List ℕ × List ℕ × ℕ × ℕ
+capturing = (live 5 phase.Open, 1 ∷ 0 ∷ [], 0 ∷ 0 ∷ [], 1, 7)
 
 -- `capture`: the bucket is not taken
 pub capture-bucket-free : Excludes capture
-    (λ (count, t, key, buckets, lists). left (capture (count, t, key, buckets, lists) .reply) buckets (capture (count, t, key, buckets, lists) .lists))
+    (λ (t, buckets, lists, count, key). left (capture (t, buckets, lists, count, key) .reply) buckets (capture (t, buckets, lists, count, key) .lists))
 unfolding computes
 capture-bucket-free = apart capturing (λ (l : Left). getD (l .buckets) 1 0) refl
 
 -- `capture`: no index read is added
 pub capture-no-index-read : Excludes capture
-    (λ (count, t, key, buckets, lists). left (capture (count, t, key, buckets, lists) .reply) (capture (count, t, key, buckets, lists) .buckets) lists)
+    (λ (t, buckets, lists, count, key). left (capture (t, buckets, lists, count, key) .reply) (capture (t, buckets, lists, count, key) .buckets) lists)
 unfolding computes
 capture-no-index-read = apart capturing (λ (l : Left). getD (l .lists) 1 0) refl
 
 -- `capture`: the bucket is the key itself
-pub capture-key-itself : Excludes capture (λ (count, t, key, buckets, lists). captureAt t key key buckets lists)
+pub capture-key-itself : Excludes capture (λ (t, buckets, lists, count, key). captureAt t buckets lists key key)
 unfolding computes
 capture-key-itself = apart capturing (λ (l : Left). getD (l .buckets) 1 0) refl
 
 -- `capture`: always refused
-pub capture-refuses : Excludes capture (λ (count, t, key, buckets, lists). left (refusedOf t 8) buckets lists)
+pub capture-refuses : Excludes capture (λ (t, buckets, lists, count, key). left (refusedOf t 8) buckets lists)
 unfolding computes
 capture-refuses = apart capturing (λ (l : Left). numberIn (l .reply .answer)) refl
 
 -- `put`: the payload goes where the key goes
-pub put-payload-for-key : Excludes put (λ (rows, t, row, key, payload, lists). put (rows, t, row, payload, key, lists))
+pub put-payload-for-key : Excludes put (λ (t, lists, rows, row, key, payload). put (t, lists, rows, row, payload, key))
 unfolding computes
-put-payload-for-key = apart (1, live 5 phase.Open, 0, 7, 9, roomFor writes) (λ (l : LeftLists). getD (l .lists) (writes .off + 2) 0) refl
+put-payload-for-key = apart (live 5 phase.Open, roomFor writes, 1, 0, 7, 9) (λ (l : LeftLists). getD (l .lists) (writes .off + 2) 0) refl
 
 -- `put`: written without a key, as an erase
-pub put-keyless : Excludes put (λ (rows, t, row, key, payload, lists). erase (rows, t, row, lists))
+pub put-keyless : Excludes put (λ (t, lists, rows, row, key, payload). erase (t, lists, rows, row))
 unfolding computes
-put-keyless = apart (1, live 5 phase.Open, 0, 7, 9, roomFor writes) (λ (l : LeftLists). getD (l .lists) (writes .off + 1) 0) refl
+put-keyless = apart (live 5 phase.Open, roomFor writes, 1, 0, 7, 9) (λ (l : LeftLists). getD (l .lists) (writes .off + 1) 0) refl
 
 -- the same transaction without its mark
 abbrev unmarked : Transaction → Transaction
@@ -155,48 +155,48 @@ unmarked t = record {
 }
 
 -- `put`: a marked transaction goes on writing
-pub put-mark-forgotten : Excludes put (λ (rows, t, row, key, payload, lists). put (rows, unmarked t, row, key, payload, lists))
+pub put-mark-forgotten : Excludes put (λ (t, lists, rows, row, key, payload). put (unmarked t, lists, rows, row, key, payload))
 unfolding computes
-put-mark-forgotten = apart (1, withMark (live 5 phase.Open), 0, 7, 9, roomFor writes) (λ (l : LeftLists). numberIn (l .reply .answer)) refl
+put-mark-forgotten = apart (withMark (live 5 phase.Open), roomFor writes, 1, 0, 7, 9) (λ (l : LeftLists). numberIn (l .reply .answer)) refl
 
 -- `put`: 8 after 6
 pub put-row-before-mark : Excludes put
-    (λ (rows, t, row, key, payload, lists). cond (leb rows row) (put (rows, unmarked t, row, key, payload, lists)) (put (rows, t, row, key, payload, lists)))
+    (λ (t, lists, rows, row, key, payload). cond (leb rows row) (put (unmarked t, lists, rows, row, key, payload)) (put (t, lists, rows, row, key, payload)))
 unfolding computes
-put-row-before-mark = apart (1, withMark (live 5 phase.Open), 1, 7, 9, roomFor writes) (λ (l : LeftLists). numberIn (l .reply .answer)) refl
+put-row-before-mark = apart (withMark (live 5 phase.Open), roomFor writes, 1, 1, 7, 9) (λ (l : LeftLists). numberIn (l .reply .answer)) refl
 
 -- `put`: 8 before 5
 pub put-mark-before-phase : Excludes put
-    (λ (rows, t, row, key, payload, lists). cond (t .marked) (record { reply = refusedOf t 8; lists = lists }) (put (rows, t, row, key, payload, lists)))
+    (λ (t, lists, rows, row, key, payload). cond (t .marked) (record { reply = refusedOf t 8; lists = lists }) (put (t, lists, rows, row, key, payload)))
 unfolding computes
-put-mark-before-phase = apart (1, withMark (live 5 phase.Prepared), 0, 7, 9, roomFor writes) (λ (l : LeftLists). numberIn (l .reply .answer)) refl
+put-mark-before-phase = apart (withMark (live 5 phase.Prepared), roomFor writes, 1, 0, 7, 9) (λ (l : LeftLists). numberIn (l .reply .answer)) refl
 
 -- `erase`: a marked transaction goes on erasing
-pub erase-mark-forgotten : Excludes erase (λ (rows, t, row, lists). erase (rows, unmarked t, row, lists))
+pub erase-mark-forgotten : Excludes erase (λ (t, lists, rows, row). erase (unmarked t, lists, rows, row))
 unfolding computes
-erase-mark-forgotten = apart (1, withMark (live 5 phase.Open), 0, roomFor writes) (λ (l : LeftLists). numberIn (l .reply .answer)) refl
+erase-mark-forgotten = apart (withMark (live 5 phase.Open), roomFor writes, 1, 0) (λ (l : LeftLists). numberIn (l .reply .answer)) refl
 
 -- `erase`: written with the key 0
-pub erase-keyed : Excludes erase (λ (rows, t, row, lists). put (rows, t, row, 0, 0, lists))
+pub erase-keyed : Excludes erase (λ (t, lists, rows, row). put (t, lists, rows, row, 0, 0))
 unfolding computes
-erase-keyed = apart (1, live 5 phase.Open, 0, roomFor writes) (λ (l : LeftLists). getD (l .lists) (writes .off + 1) 0) refl
+erase-keyed = apart (live 5 phase.Open, roomFor writes, 1, 0) (λ (l : LeftLists). getD (l .lists) (writes .off + 1) 0) refl
 
 -- `erase`: always refused
-pub erase-refuses : Excludes erase (λ (rows, t, row, lists). record { reply = refusedOf t 12; lists = lists })
+pub erase-refuses : Excludes erase (λ (t, lists, rows, row). record { reply = refusedOf t 12; lists = lists })
 unfolding computes
-erase-refuses = apart (1, live 5 phase.Open, 0, roomFor writes) (λ (l : LeftLists). numberIn (l .reply .answer)) refl
+erase-refuses = apart (live 5 phase.Open, roomFor writes, 1, 0) (λ (l : LeftLists). numberIn (l .reply .answer)) refl
 
 -- row 0 posted with key 7, whose bucket is held
-abbrev collecting : List ℕ × ℕ × Transaction × List ℕ × List ℕ
-collecting = (0 ∷ 0 ∷ 1 ∷ 7 ∷ [], 1, live 5 (phase.Holding 0 7), 0 ∷ 5 ∷ [], [])
+abbrev collecting : Transaction × List ℕ × List ℕ × List ℕ × ℕ
+collecting = (live 5 (phase.Holding 0 7), 0 ∷ 0 ∷ 1 ∷ 7 ∷ [], 0 ∷ 5 ∷ [], [], 1)
 
 -- `collect`: the bucket stays held
 pub collect-bucket-held : Excludes collect
-    (λ (rows, n, t, buckets, lists). left (collect (rows, n, t, buckets, lists) .reply) buckets (collect (rows, n, t, buckets, lists) .lists))
+    (λ (t, rows, buckets, lists, n). left (collect (t, rows, buckets, lists, n) .reply) buckets (collect (t, rows, buckets, lists, n) .lists))
 unfolding computes
 collect-bucket-held = apart collecting (λ (l : Left). getD (l .buckets) 1 0) refl
 
 -- `collect`: the last row is not looked at
-pub collect-last-row-missed : Excludes collect (λ (rows, n, t, buckets, lists). collect (rows, n - 1, t, buckets, lists))
+pub collect-last-row-missed : Excludes collect (λ (t, rows, buckets, lists, n). collect (t, rows, buckets, lists, n - 1))
 unfolding computes
 collect-last-row-missed = apart collecting (λ (l : Left). numberIn (l .reply .answer)) refl

@@ -137,30 +137,30 @@ tooMany (At i) n = false
 tooMany Nothing n = leb mostIndexReads n
 
 -- the first capture of a bucket adds one index read (bucket, stamp), a later one adds none; becomes Holding
-unfoldable pub holdOf : Transaction → Found → ℕ → ℕ → ℕ → List ℕ → WithLists
-holdOf t (At i) b k stamp lists = record { txn = withPhase t (phase.Holding b k); lists = lists }
-holdOf t Nothing b k stamp lists =
+unfoldable pub holdOf : Transaction → List ℕ → Found → ℕ → ℕ → ℕ → WithLists
+holdOf t lists (At i) b k stamp = record { txn = withPhase t (phase.Holding b k); lists = lists }
+holdOf t lists Nothing b k stamp =
     record { txn = withReads (withPhase t (phase.Holding b k)) (t .«reads_n» + 1); lists = stored reads lists (t .slot) (t .«reads_n») (b ∷ stamp ∷ []) }
 
 abbrev pub heldLeft : ℕ → WithLists → List ℕ → Left
 heldLeft stamp h buckets = left (record { answer = tell.Stamp stamp; txn = h .txn }) buckets (h .lists)
 
 -- capture of bucket b: wrong phase, mark, held by another, stale stamp, a 17th index read; else the bucket is taken
-unfoldable pub captureAt : Transaction → ℕ → ℕ → List ℕ → List ℕ → Left
-captureAt t b k buckets lists =
+unfoldable pub captureAt : Transaction → List ℕ → List ℕ → ℕ → ℕ → Left
+captureAt t buckets lists b k =
     cond (not (eqb (rank (phaseView (t .phase))) phaseOpen)) (left (refusedOf t (refusalNumber WrongPhase)) buckets lists)
     (cond (t .marked) (left (refusedOf t (refusalNumber Marked)) buckets lists)
     (cond (takenBy (holderOf buckets b) (t .number)) (left (refusedOf t (refusalNumber Taken)) buckets lists)
     (cond (not (precedes (stampOf buckets b) (t .number))) (left (refusedOf (withMark t) (refusalNumber Stale)) buckets lists)
     (cond (tooMany (readPrefix lists (t .slot) (t .«reads_n») b) (t .«reads_n»)) (left (refusedOf t (refusalNumber ManyReads)) buckets lists)
-    (heldLeft (stampOf buckets b) (holdOf t (readPrefix lists (t .slot) (t .«reads_n») b) b k (stampOf buckets b) lists) (setHolder buckets b (t .number)))))))
+    (heldLeft (stampOf buckets b) (holdOf t lists (readPrefix lists (t .slot) (t .«reads_n») b) b k (stampOf buckets b)) (setHolder buckets b (t .number)))))))
 
-abbrev pub captureOf : ℕ → Transaction → ℕ → List ℕ → List ℕ → Left
-captureOf bucketCount t k buckets lists = captureAt t (k % bucketCount) k buckets lists
+abbrev pub captureOf : Transaction → List ℕ → List ℕ → ℕ → ℕ → Left
+captureOf t buckets lists bucketCount k = captureAt t buckets lists (k % bucketCount) k
 
 -- ---- put, erase: wrong phase, mark, row not below the row count, a 17th pending write; else it is appended
-unfoldable pub writeOf : ℕ → Transaction → Write → List ℕ → LeftLists
-writeOf rowCount t w lists =
+unfoldable pub writeOf : Transaction → List ℕ → ℕ → Write → LeftLists
+writeOf t lists rowCount w =
     cond (not (eqb (rank (phaseView (t .phase))) phaseOpen)) (record { reply = refusedOf t (refusalNumber WrongPhase); lists = lists })
     (cond (t .marked) (record { reply = refusedOf t (refusalNumber Marked); lists = lists })
     (cond (not (ltb (w .row) rowCount)) (record { reply = refusedOf t (refusalNumber NoRow); lists = lists })
@@ -179,7 +179,7 @@ collectedLeft t b k rs buckets lists =
     (keptIn lists (t .slot) rs)
 
 -- wrong phase; else the posted rows are kept and the bucket is free
-unfoldable pub collectOf : List ℕ → ℕ → Transaction → List ℕ → List ℕ → Left
-collectOf rows n t buckets lists =
+unfoldable pub collectOf : Transaction → List ℕ → List ℕ → List ℕ → ℕ → Left
+collectOf t rows buckets lists n =
     cond (not (eqb (rank (phaseView (t .phase))) phaseHolding)) (left (refusedOf t (refusalNumber WrongPhase)) buckets lists)
     (collectedLeft t (bucketIn (phaseView (t .phase))) (keyIn (phaseView (t .phase))) (postedUpTo rows (keyIn (phaseView (t .phase))) n) buckets lists)

@@ -11,6 +11,8 @@ use base_protocol::STALE;
 use base_protocol::TAKEN;
 use base_protocol::WRONG_PHASE;
 use table::holder_at;
+use table::lists::IndexRead;
+use table::lists::Write;
 use table::lists::put_read;
 use table::lists::put_write;
 use table::set_holder;
@@ -193,7 +195,7 @@ impl Transaction {
     // Holds a bucket: the first capture of it adds an index read, a later one none.
     fn hold(self, lists: &mut [u64], found: Found, bucket: u64, key: u64, stamp: u64) -> Transaction
         requires { ⌜ tooMany found (self .«reads_n») ≡ false ⌝ }
-        ensures { λ r. ⌜ record { txn = r; lists = now (lists .exit) } ≡ holdOf self found bucket key stamp (now (lists .entry)) ⌝ }
+        ensures { λ r. ⌜ record { txn = r; lists = now (lists .exit) } ≡ holdOf self (now (lists .entry)) found bucket key stamp ⌝ }
     {
         let n = self.reads_n;
         let mut held = self.with_phase(Phase::Holding {
@@ -203,7 +205,15 @@ impl Transaction {
         match found {
             Found::At(_) => held,
             Found::Nothing => {
-                put_read(lists, self.slot, n, bucket, stamp);
+                put_read(
+                    lists,
+                    self.slot,
+                    n,
+                    IndexRead {
+                        bucket: bucket,
+                        stamp: stamp,
+                    },
+                );
                 held.reads_n = n + 1;
                 held
             }
@@ -219,7 +229,7 @@ impl Transaction {
         key: u64,
     ) -> Answered
         ensures { λ r. ⌜ record { reply = r; buckets = now (buckets .exit); lists = now (lists .exit) }
-            ≡ captureOf «bucket_count» self key (now (buckets .entry)) (now (lists .entry)) ⌝ }
+            ≡ captureOf self (now (buckets .entry)) (now (lists .entry)) «bucket_count» key ⌝ }
     {
         let phase = self.phase;
         let n = self.reads_n;
@@ -250,17 +260,8 @@ impl Transaction {
     }
 
     // Put and erase: appends a pending write; an erase has no key.
-    fn write(
-        self,
-        lists: &mut [u64],
-        row_count: u64,
-        row: u64,
-        keyed: u64,
-        key: u64,
-        payload: u64,
-    ) -> Answered
-        ensures { λ r. ⌜ record { reply = r; lists = now (lists .exit) }
-            ≡ writeOf «row_count» self (record { row = row; keyed = keyed; key = key; payload = payload }) (now (lists .entry)) ⌝ }
+    fn write(self, lists: &mut [u64], row_count: u64, w: Write) -> Answered
+        ensures { λ r. ⌜ record { reply = r; lists = now (lists .exit) } ≡ writeOf self (now (lists .entry)) «row_count» w ⌝ }
     {
         let phase = self.phase;
         let n = self.writes_n;
@@ -270,13 +271,13 @@ impl Transaction {
         if self.marked {
             return refused(self, MARKED);
         }
-        if row >= row_count {
+        if w.row >= row_count {
             return refused(self, NO_ROW);
         }
         if n >= MOST_WRITES {
             return refused(self, MANY_WRITES);
         }
-        put_write(lists, self.slot, n, row, keyed, key, payload);
+        put_write(lists, self.slot, n, w);
         let mut written = self;
         written.writes_n = n + 1;
         Answered {
@@ -294,16 +295,28 @@ impl Transaction {
         payload: u64,
     ) -> Answered
         ensures { λ r. ⌜ record { reply = r; lists = now (lists .exit) }
-            ≡ writeOf «row_count» self (record { row = row; keyed = 1; key = key; payload = payload }) (now (lists .entry)) ⌝ }
+            ≡ writeOf self (now (lists .entry)) «row_count» (record { row = row; keyed = 1; key = key; payload = payload }) ⌝ }
     {
-        self.write(lists, row_count, row, 1, key, payload)
+        let pending = Write {
+            row: row,
+            keyed: 1,
+            key: key,
+            payload: payload,
+        };
+        self.write(lists, row_count, pending)
     }
 
     pub fn erase(self, lists: &mut [u64], row_count: u64, row: u64) -> Answered
         ensures { λ r. ⌜ record { reply = r; lists = now (lists .exit) }
-            ≡ writeOf «row_count» self (record { row = row; keyed = 0; key = 0; payload = 0 }) (now (lists .entry)) ⌝ }
+            ≡ writeOf self (now (lists .entry)) «row_count» (record { row = row; keyed = 0; key = 0; payload = 0 }) ⌝ }
     {
-        self.write(lists, row_count, row, 0, 0, 0)
+        let erasure = Write {
+            row: row,
+            keyed: 0,
+            key: 0,
+            payload: 0,
+        };
+        self.write(lists, row_count, erasure)
     }
 
     // Collect: the rows posted with exactly the key are kept ascending; the bucket is freed, whoever holds it.
@@ -314,8 +327,8 @@ impl Transaction {
         lists: &mut [u64],
         row_count: u64,
     ) -> Answered
-        ensures { λ r. ⌜ record { reply = r; buckets = now (buckets .exit); lists = now (lists .exit) } ≡ collectOf (now (rows .entry)) «row_count» self
-            (now (buckets .entry)) (now (lists .entry)) ⌝ }
+        ensures { λ r. ⌜ record { reply = r; buckets = now (buckets .exit); lists = now (lists .exit) }
+            ≡ collectOf self (now (rows .entry)) (now (buckets .entry)) (now (lists .entry)) «row_count» ⌝ }
     {
         let phase = self.phase;
         if phase_rank(phase) != HOLDING {

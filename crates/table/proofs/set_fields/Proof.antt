@@ -54,11 +54,15 @@ add-i c = search needs
 loop-less : tie.Need-loop-less Inv-loop μ-loop
 loop-less c = search needs
 
+-- the turn that stores it
+abbrev turn : tie.After-set-field Inv-loop μ-loop → tie.At-loop Inv-loop μ-loop
+turn c = c .before .before .before .before .before
+
 loop-again : tie.Need-loop-again Inv-loop μ-loop
 loop-again c =
-    let stored = c .before .before .set-field in
-    let at = c .before .before .before .before .before .before .before in
-    (omega arith, stored .kept .0 ∙ at .loop .inv .1, again at (omega arith) (omega arith) _ (stored .ensures))
+    let stored = c .before .before in
+    let at = turn stored in
+    (omega arith, stored .set-field .kept .0 ∙ at .loop .inv .1, again at (omega arith) (omega arith) _ (stored .set-field .ensures))
 
 same-length-2 : tie.Need-same-length-2 Inv-loop μ-loop
 same-length-2 c = c .before .loop .inv .1

@@ -1,9 +1,19 @@
 -- `table::lists::put_read` meets its contract.
 -- Assumes nothing.
-use native.Mathlib.Numerals.{add-one}
+use Rattle.table.proofs.Runs.{two-stored}
 use borrow.Author.Needs.{needs}
 use Rattle.table.proofs.lists.put_read.Statement.{statement}
 use Rattle.table.proofs.lists.put_read.Tie as tie
+
+-- the way back from each store to the one before it, and from the first to where the entry stands
+abbrev start : tie.After-place → tie.Start
+start c = c .before .before
+
+abbrev placed : tie.After-set-word → tie.After-place
+placed c = c .before .before
+
+abbrev first : tie.After-set-word2 → tie.After-set-word
+first c = c .before .before .before .before
 
 place-requires : tie.Need-place-requires
 place-requires c κs = search needs
@@ -21,13 +31,12 @@ same-length : tie.Need-same-length
 same-length c = search needs
 
 returns : tie.Need-returns
-returns c = let p = c .before .before .before .before .before .before .before .before .place .result in
-    rw (
-      c .before .before .set-word2 .ensures,
-      c .before .before .before .before .before .before .set-word .ensures,
-      add-one p,
-      c .before .before .before .before .before .before .before .before .place .ensures,
-    )
+returns c =
+    let w2 = c .before .before in
+    let w1 = first w2 in
+    let a = start (placed w1) .args in
+    two-stored (a .lists .now) _ (placed w1 .place .result) (a .r .bucket) (a .r .stamp) (w1 .set-word .last .0) (w2 .set-word2 .last .0)
+    (placed w1 .place .ensures) (w1 .set-word .ensures) (w2 .set-word2 .ensures)
 
 pub put-read-spec : {M : Type 1} → statement M
 put-read-spec =

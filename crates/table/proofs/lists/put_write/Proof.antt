@@ -1,9 +1,25 @@
 -- `table::lists::put_write` meets its contract.
 -- Assumes nothing.
-use native.Mathlib.Numerals.{add-one, add-two, add-three}
+use Rattle.table.proofs.Runs.{four-stored}
 use borrow.Author.Needs.{needs}
 use Rattle.table.proofs.lists.put_write.Statement.{statement}
 use Rattle.table.proofs.lists.put_write.Tie as tie
+
+-- the way back from each store to the one before it, and from the first to where the entry stands
+abbrev start : tie.After-place → tie.Start
+start c = c .before .before
+
+abbrev placed : tie.After-set-word → tie.After-place
+placed c = c .before .before
+
+abbrev first : tie.After-set-word2 → tie.After-set-word
+first c = c .before .before .before .before
+
+abbrev second : tie.After-set-word3 → tie.After-set-word2
+second c = c .before .before .before .before
+
+abbrev third : tie.After-set-word4 → tie.After-set-word3
+third c = c .before .before .before .before
 
 place-requires : tie.Need-place-requires
 place-requires c κs = search needs
@@ -33,18 +49,15 @@ same-length : tie.Need-same-length
 same-length c = search needs
 
 returns : tie.Need-returns
-returns c = let p =
-    c .before .before .before .before .before .before .before .before .before .before .before .before .before .before .before .before .place .result in
-    rw (
-      c .before .before .set-word4 .ensures,
-      c .before .before .before .before .before .before .set-word3 .ensures,
-      c .before .before .before .before .before .before .before .before .before .before .set-word2 .ensures,
-      c .before .before .before .before .before .before .before .before .before .before .before .before .before .before .set-word .ensures,
-      add-one p,
-      add-two p,
-      add-three p,
-      c .before .before .before .before .before .before .before .before .before .before .before .before .before .before .before .before .place .ensures,
-    )
+returns c =
+    let w4 = c .before .before in
+    let w3 = third w4 in
+    let w2 = second w3 in
+    let w1 = first w2 in
+    let a = start (placed w1) .args in
+    four-stored (a .lists .now) _ (placed w1 .place .result) (a .w .row) (a .w .keyed) (a .w .key) (a .w .payload)
+    (w1 .set-word .last .0) (w2 .set-word2 .last .0) (w3 .set-word3 .last .0) (w4 .set-word4 .last .0)
+    (placed w1 .place .ensures) (w1 .set-word .ensures) (w2 .set-word2 .ensures) (w3 .set-word3 .ensures) (w4 .set-word4 .ensures)
 
 pub put-write-spec : {M : Type 1} → statement M
 put-write-spec =

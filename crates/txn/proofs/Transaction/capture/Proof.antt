@@ -92,7 +92,7 @@ held : (c : tie.After-hold)
     → let a = start-reads (past-reads c .before) .args in
     let b = a .key % a .bucket-count in
     _≡_ {A = WithLists} (record { txn = c .hold .result; lists = c .hold .last .1 .0 })
-    (holdOf (a .self) (readPrefix (a .lists .now) (a .self .slot) (a .self .«reads_n») b) b (a .key) (stampOf (a .buckets .now) b) (a .lists .now))
+    (holdOf (a .self) (a .lists .now) (readPrefix (a .lists .now) (a .self .slot) (a .self .«reads_n») b) b (a .key) (stampOf (a .buckets .now) b))
 held c =
     let many = past-reads c .before in
     c .hold .ensures ∙ rw (told-read many, told-stamp (past-stamp many .before), ← bucket-reads many .bucket-of .ensures)

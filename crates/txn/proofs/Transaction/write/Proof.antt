@@ -38,7 +38,7 @@ refused-requires-3 c κs = search needs
 returns-3 : tie.Need-returns-3
 unfolding writeOf
 returns-3 c =
-    let unmarked = c .before .before in
+    let unmarked = c .before .before .before in
     rw (c .refused3 .ensures, opened (unmarked .before), unmarked .if2 .left, le-ltb _ _ (c .before .if3 .taken))
 
 refused-requires-4 : tie.Need-refused-requires-4
@@ -48,7 +48,7 @@ returns-4 : tie.Need-returns-4
 unfolding writeOf
 returns-4 c =
     let in-store = c .before .before in
-    let unmarked = in-store .before in
+    let unmarked = in-store .before .before in
     rw (
       c .refused4 .ensures,
       opened (unmarked .before),
@@ -72,7 +72,7 @@ returns-5 c =
     let put = c .before .before in
     let few = put .before .before in
     let in-store = few .before in
-    let unmarked = in-store .before in
+    let unmarked = in-store .before .before in
     rw (
       opened (unmarked .before),
       unmarked .if2 .left,
