@@ -22,6 +22,6 @@ pub record Behind : Type 0 where
   pub lists : List ℕ
 
 -- one read record stored
-abbrev pub addRecord : List ℕ → ℕ → ℕ → ℕ → Behind → Behind
-addRecord versions slot row ptr st =
+abbrev pub addRecord : List ℕ → Behind → ℕ → ℕ → ℕ → Behind
+addRecord versions st slot row ptr =
     cond (eqb ptr 0) st (record { at = st .at + 1; lists = stored records (st .lists) slot (st .at) (row ∷ ptr ∷ xminOf versions ptr ∷ []) })

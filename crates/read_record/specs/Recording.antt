@@ -49,6 +49,6 @@ keptRecords lists slot n new ps =
     (record { told = Kept (n + length new); lists = putRecords lists slot n new; pointers = ps })
 
 -- a record for each row whose pointer is new
-unfoldable pub recordedOf : List ℕ → List ℕ → ℕ → ℕ → List ℕ → List ℕ → LeftRecords
-recordedOf versions lists slot n rows ptrs =
+unfoldable pub recordedOf : List ℕ → List ℕ → List ℕ → List ℕ → ℕ → ℕ → LeftRecords
+recordedOf versions lists rows ptrs slot n =
     keptRecords lists slot n (recordsFor versions rows (planned (knownPointers lists slot n) ptrs)) (planned (knownPointers lists slot n) ptrs)

@@ -67,8 +67,8 @@ fn plan(lists: &[u64], through: &mut [u64], slot: u32, records_n: u32) -> usize
 // Stores the record of a new pointer as read record `at`.
 fn add_record(versions: &[u64], lists: &mut [u64], slot: u32, at: u32, row: u64, ptr: u64) -> u32
     requires { ⌜ at ≤ mostRecords ⌝ }
-    ensures { λ r. ⌜ record { at = r; lists = now (lists .exit) } ≡ addRecord (now (versions .entry)) slot row ptr
-        (record { at = at; lists = now (lists .entry) }) ⌝ }
+    ensures { λ r. ⌜ record { at = r; lists = now (lists .exit) }
+        ≡ addRecord (now (versions .entry)) (record { at = at; lists = now (lists .entry) }) slot row ptr ⌝ }
 {
     if ptr == 0 {
         return at;
@@ -124,7 +124,7 @@ pub fn record_versions(
     records_n: u32,
 ) -> Recorded
     ensures { λ r. ⌜ record { told = r; lists = now (lists .exit); pointers = now (through .exit) }
-        ≡ recordedOf (now (versions .entry)) (now (lists .entry)) slot «records_n» (now (matched .entry)) (now (through .entry)) ⌝ }
+        ≡ recordedOf (now (versions .entry)) (now (lists .entry)) (now (matched .entry)) (now (through .entry)) slot «records_n» ⌝ }
 {
     let added = plan(lists, through, slot, records_n);
     let after = records_n as usize + added;

@@ -12,12 +12,12 @@ use Rattle.tightness.specs.Wrong.{Excludes}
 use Rattle.tightness.proofs.Apart.{apart}
 use Rattle.tightness.proofs.Computes.{computes}
 
--- what record_versions is given: versions, lists, slot, how many records there are, rows and their pointers
+-- what record_versions is given: versions, lists, rows and their pointers, slot, how many records there are
 abbrev Given : Type 0
-Given = List ℕ × List ℕ × ℕ × ℕ × List ℕ × List ℕ
+Given = List ℕ × List ℕ × List ℕ × List ℕ × ℕ × ℕ
 
 abbrev records : Given → LeftRecords
-records (versions, lists, slot, n, rows, ptrs) = recordedOf versions lists slot n rows ptrs
+records (versions, lists, rows, ptrs, slot, n) = recordedOf versions lists rows ptrs slot n
 
 -- 0 where they are too many, else one more than there are
 abbrev toldBy : Recorded → ℕ
@@ -25,14 +25,14 @@ toldBy TooMany = 0
 toldBy (Kept n) = suc n
 
 -- `record_versions`: a pointer met again is recorded again
-pub record-versions-again : Excludes records (λ (versions, lists, slot, n, rows, ptrs). keptRecords lists slot n (recordsFor versions rows ptrs) ptrs)
+pub record-versions-again : Excludes records (λ (versions, lists, rows, ptrs, slot, n). keptRecords lists slot n (recordsFor versions rows ptrs) ptrs)
 unfolding computes
-record-versions-again = apart ([], [], 0, 0, 0 ∷ 1 ∷ [], 1 ∷ 1 ∷ []) (λ (l : LeftRecords). toldBy (l .told)) refl
+record-versions-again = apart ([], [], 0 ∷ 1 ∷ [], 1 ∷ 1 ∷ [], 0, 0) (λ (l : LeftRecords). toldBy (l .told)) refl
 
 -- `record_versions`: a sixty-fifth is kept
-pub record-versions-any-number : Excludes records (λ (versions, lists, slot, n, rows, ptrs).
+pub record-versions-any-number : Excludes records (λ (versions, lists, rows, ptrs, slot, n).
     let ps = planned (knownPointers lists slot n) ptrs in
     let new = recordsFor versions rows ps in
     record { told = Kept (n + length new); lists = putRecords lists slot n new; pointers = ps })
 unfolding computes
-record-versions-any-number = apart ([], [], 0, mostRecords, 0 ∷ [], 1 ∷ []) (λ (l : LeftRecords). toldBy (l .told)) refl
+record-versions-any-number = apart ([], [], 0 ∷ [], 1 ∷ [], 0, mostRecords) (λ (l : LeftRecords). toldBy (l .told)) refl

@@ -19,6 +19,16 @@ Inv-loop versions lists₀ matched through slot from at₀ i₀ lists at i =
 abbrev μ-loop : tie.MeasureT-loop
 μ-loop versions lists₀ matched through slot from at₀ i₀ lists at i = length through - i
 
+-- THE WAY BACK IN A TURN
+
+abbrev start : tie.At-loop Inv-loop μ-loop → tie.Start Inv-loop μ-loop
+start c = c .before .before .before .before .before
+
+abbrev turn : tie.After-word Inv-loop μ-loop → tie.At-loop Inv-loop μ-loop
+turn c = c .before .before .before
+
+-- WHAT IS ASKED
+
 loop-holds : tie.Need-loop-holds Inv-loop μ-loop
 loop-holds c = (omega arith, refl, refl, refl)
 
@@ -38,15 +48,20 @@ loop-less : tie.Need-loop-less Inv-loop μ-loop
 loop-less c = search needs
 
 loop-again : tie.Need-loop-again Inv-loop μ-loop
-loop-again c = let a = c .before .before .before .before .before .before .before .before .before .before .before .before .args in
-    let l = c .before .before .before .before .before .before .before .loop in let r = c .before .before .add-record in
+loop-again c =
+    let added = c .before .before in
+    let ptr = added .before in
+    let row = ptr .before in
+    let r = added .add-record in
+    let l = turn row .loop in
+    let a = start (turn row) .args in
     let rs = a .matched .now in
     let ps = a .through .now in
     let st : Behind = record { at = l .at; lists = l .lists } in
     let here : l .i < length ps = omega arith in
     let done : _≡_ {A = Behind} (record { at = r .result; lists = r .last .1 .0 })
-    (addRecord (a .versions .now) (a .slot) (getD rs (l .i) 0) (getD ps (l .i) 0) st) =
-    rw (c .before .before .before .before .word .ensures, c .before .before .before .word2 .ensures) at (r .ensures) in (
+    (addRecord (a .versions .now) st (a .slot) (getD rs (l .i) 0) (getD ps (l .i) 0)) =
+    rw (row .word .ensures, ptr .word2 .ensures) at (r .ensures) in (
       omega arith,
       r .kept .1 .0 ∙ l .inv .1,
       ap (λ (k : Behind). k .at + countOf (drop (l .i + 1) ps)) done
@@ -61,7 +76,9 @@ same-length c = c .before .loop .inv .1
 
 returns : tie.Need-returns Inv-loop μ-loop
 unfolding recordsFor putRecords
-returns c = let a = c .before .before .before .before .before .before .args in let l = c .before .loop in
+returns c =
+    let l = c .before .loop in
+    let a = start (c .before) .args in
     sym (l .inv .3 ∙ rw (drop-of-length-le (a .through .now) {i = l .i} (omega arith)))
 
 pub add-records-spec : {M : Type 1} → statement M

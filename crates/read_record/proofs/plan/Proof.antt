@@ -24,6 +24,16 @@ Inv-loop lists through₀ slot records-n added₀ i₀ through added i =
 abbrev μ-loop : tie.MeasureT-loop
 μ-loop lists through₀ slot records-n added₀ i₀ through added i = length through₀ - i
 
+-- THE WAY BACK IN A TURN
+
+abbrev start : tie.At-loop Inv-loop μ-loop → tie.Start Inv-loop μ-loop
+start c = c .before .before .before
+
+abbrev turn : tie.After-new-pointer Inv-loop μ-loop → tie.At-loop Inv-loop μ-loop
+turn c = c .before .before .before
+
+-- WHAT IS ASKED
+
 loop-holds : tie.Need-loop-holds Inv-loop μ-loop
 loop-holds c = (omega arith, refl, omega arith, refl, zero-add _)
 
@@ -43,26 +53,29 @@ loop-less : tie.Need-loop-less Inv-loop μ-loop
 loop-less c = search needs
 
 loop-again : tie.Need-loop-again Inv-loop μ-loop
-loop-again c = let a = c .before .before .before .before .before .before .before .before .before .before .before .args in
-    let l = c .before .before .before .before .before .before .before .before .loop in let k = knownPointers (a .lists .now) (a .slot) (a .records-n) in
-    let p = c .before .before .before .before .before .new-pointer .result in (
+loop-again c =
+    let stored = c .before .before .before in
+    let named = stored .before .before in
+    let ptr = named .new-pointer in
+    let l = turn named .loop in
+    let a = start (turn named) .args in
+    let k = knownPointers (a .lists .now) (a .slot) (a .records-n) in (
       omega arith,
-      c .before .before .before .set-word .kept .0
-          ∙ l .inv .1,
-      rw (c .one-more .ensures) (cond-elim (λ m. m ≤ l .i + 1) (eqb p 0) (l .added) (l .added + 1) (λ t. omega arith) (λ t. omega arith)),
-      c .before .before .before .set-word .ensures
-          ∙ plan-turn k (a .through .now) (l .through) (l .i) (l .added) p (omega arith) (l .inv .3)
-          (c .before .before .before .before .before .new-pointer .ensures),
+      stored .set-word .kept .0 ∙ l .inv .1,
+      rw (c .one-more .ensures) (cond-elim (λ m. m ≤ l .i + 1) (eqb (ptr .result) 0) (l .added) (l .added + 1) (λ t. omega arith) (λ t. omega arith)),
+      stored .set-word .ensures ∙ plan-turn k (a .through .now) (l .through) (l .i) (l .added) (ptr .result) (omega arith) (l .inv .3) (ptr .ensures),
       rw (c .one-more .ensures)
-          (plan-count k (a .through .now) (l .through) (l .i) (l .added) p (omega arith) (l .inv .3)
-          (c .before .before .before .before .before .new-pointer .ensures) (l .inv .4)),
+          (plan-count k (a .through .now) (l .through) (l .i) (l .added) (ptr .result) (omega arith) (l .inv .3) (ptr .ensures) (l .inv .4)),
     )
 
 same-length : tie.Need-same-length Inv-loop μ-loop
 same-length c = c .before .loop .inv .1
 
 returns : tie.Need-returns Inv-loop μ-loop
-returns c = let a = c .before .before .before .before .args in let l = c .before .loop in let k = knownPointers (a .lists .now) (a .slot) (a .records-n) in
+returns c =
+    let l = c .before .loop in
+    let a = start (c .before) .args in
+    let k = knownPointers (a .lists .now) (a .slot) (a .records-n) in
     (plan-counted k (a .through .now) (l .i) (omega arith) (l .added) (l .inv .4), l .inv .3 ∙ plan-done k (a .through .now) (l .i) (omega arith))
 
 pub plan-spec : {M : Type 1} → statement M
