@@ -54,7 +54,7 @@ module _ (rows versions buckets lists found : List ℕ) (m : Machine) (s : Step)
 
   pub call-done : (mv : Moved) (sw : Swept) (r : Called) → shapeOf (wordsOf rows versions buckets lists found m) ≡ true
       → mv ≡ stepOf (wordsOf rows versions buckets lists found m .tables) given s
-      → sw ≡ sweptFor (m .sizes) (getD (m .txns) p d .number) (mv .stepped .txn .number) (mv .rows) (mv .buckets) → r ≡ placedOf m p (mv .stepped)
+      → sw ≡ sweptFor (mv .rows) (mv .buckets) (m .sizes) (getD (m .txns) p d .number) (mv .stepped .txn .number) → r ≡ placedOf m p (mv .stepped)
       → left r (sw .rows) (mv .versions) (sw .buckets) (mv .lists) (mv .found) ≡ callOf (wordsOf rows versions buckets lists found m) s
   unfolding callOf
   call-done mv sw r shape moved swept placed =

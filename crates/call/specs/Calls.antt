@@ -46,8 +46,8 @@ pub record Swept : Type 0 where
   pub buckets : List ℕ
 
 -- where the record ended, every claim and every bucket that still carries its number is freed
-unfoldable pub sweptFor : Sizes → ℕ → ℕ → List ℕ → List ℕ → Swept
-sweptFor z before after rows buckets =
+unfoldable pub sweptFor : List ℕ → List ℕ → Sizes → ℕ → ℕ → Swept
+sweptFor rows buckets z before after =
     cond (hasEnded before after) (record { rows = unclaimEvery rows (z .rows) before; buckets = releaseEvery buckets (z .buckets) before })
     (record { rows = rows; buckets = buckets })
 
@@ -55,9 +55,9 @@ sweptFor z before after rows buckets =
 abbrev pub sweptMoved : Sizes → ℕ → Moved → Moved
 sweptMoved z before m = record {
   stepped = m .stepped;
-  rows = sweptFor z before (m .stepped .txn .number) (m .rows) (m .buckets) .rows;
+  rows = sweptFor (m .rows) (m .buckets) z before (m .stepped .txn .number) .rows;
   versions = m .versions;
-  buckets = sweptFor z before (m .stepped .txn .number) (m .rows) (m .buckets) .buckets;
+  buckets = sweptFor (m .rows) (m .buckets) z before (m .stepped .txn .number) .buckets;
   lists = m .lists;
   found = m .found;
 }

@@ -134,8 +134,8 @@ fn placed(m: Machine, p: usize, done: Stepped) -> Called
 
 // Where the record ended, every bucket and every claim that still carries its number is freed.
 fn sweep(rows: &mut [u64], buckets: &mut [u64], sizes: Sizes, number: u64, number_after: u64)
-    ensures { λ _. ⌜ record { rows = now (rows .exit); buckets = now (buckets .exit) } ≡ sweptFor sizes number «number_after» (now (rows .entry))
-        (now (buckets .entry)) ⌝ }
+    ensures { λ _. ⌜ record { rows = now (rows .exit); buckets = now (buckets .exit) }
+        ≡ sweptFor (now (rows .entry)) (now (buckets .entry)) sizes number «number_after» ⌝ }
 {
     if number == 0 {
         return;
