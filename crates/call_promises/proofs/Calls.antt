@@ -6,10 +6,10 @@ use mathlib.Core.Bool.{Bool, true, false, _&&_}
 use mathlib.Core.List.{List, [], _∷_}
 use native.Mathlib.Omega.{arith}
 use lib.Dec.{eqb, leb}
-use lib.ListN.{length}
+use lib.ListN.{length, getD}
 use borrow.Author.Tests.{eq-eqb, le-leb, eqb-true, leb-true}
 use Rattle.base_limits.specs.Limits.{mostLive, mostActive, mostIndexReads, mostWrites, mostRecords, mostRows}
-use Rattle.base_lists.proofs.ListLaws.{and-l, and-r, every-each}
+use Rattle.base_lists.proofs.ListLaws.{and-l, and-r, every-each, pick-same}
 use Rattle.model.specs.Store.{Store}
 use Rattle.model.specs.Shape.{rightShape}
 use Rattle.model.specs.Refusals.{Step as Asked, WrongShape, refusalNumber}
@@ -19,14 +19,20 @@ use Rattle.model.proofs.Good.{Good, good-run, right-shape}
 use Rattle.base_protocol.specs.declared.Step.{Step}
 use Rattle.base_protocol.specs.declared.Step.the-variants as ask
 use Rattle.base_protocol.specs.declared.Answer.the-variants as tell
+use Rattle.base_protocol.specs.declared.Extent.{Extent}
 use Rattle.table.specs.Fields.{rowWords, versionWords, bucketWords}
 use Rattle.table.specs.Lists.{listsWords}
+use Rattle.table_scans.specs.Scans.{latestPending}
+use Rattle.table_scans.specs.declared.Found.{Found}
+use Rattle.table_scans.specs.declared.Found.the-variants.{At, Nothing}
+use Rattle.txn.specs.Methods.{idleOf}
 use Rattle.txn.specs.declared.Transaction.{Transaction}
 use Rattle.shape_txn.specs.Fits.{countsFit}
 use Rattle.txn_places.specs.Places.{missesOf}
-use Rattle.read.specs.Rows.{roomFor, readingOf, rowsOf}
+use Rattle.read_match.specs.Matching.{Look, look, matchBy, matchOf}
+use Rattle.read.specs.Rows.{matchedRows, through, newRecords, roomFor, readingOf, readingBy, rowsOf}
 use Rattle.step.specs.Steps.{stepOf}
-use Rattle.step.specs.Words.{Words, view, txnAt, placeFor, movedBy, SizedTxn, Sized}
+use Rattle.step.specs.Words.{Words, view, txnAt, placeFor, extentIn, movedBy, SizedTxn, Sized}
 use Rattle.step_bridge.proofs.Listing.{every-at}
 use Rattle.step_bridge.proofs.Same.{SameAs}
 use Rattle.step_bridge.proofs.Running.{Stands}
@@ -39,12 +45,43 @@ use Rattle.call_promises.proofs.Called.{call-same}
 
 -- ---- the room that a call asks for
 
+-- the room is no part of what matches, nor of what is recorded
+module _ (rows versions lists : List ℕ) (e : Extent) (t : Transaction) (a b : ℕ) where
+  abbrev less : Look
+  less = look rows versions lists (readingBy e t a)
+
+  abbrev more : Look
+  more = look rows versions lists (readingBy e t b)
+
+  match-any-room : (r : ℕ) → matchOf less r ≡ matchOf more r
+  unfolding matchOf
+  match-any-room r = by (latestPending lists (t .slot) (t .«writes_n») r)
+    where
+      by : (f : Found) → matchBy less r f ≡ matchBy more r f
+      by (At i) = refl
+      by Nothing = refl
+
+  rows-any-room : (n : ℕ) → matchedRows less n ≡ matchedRows more n
+  unfolding matchedRows
+  rows-any-room n = pick-same _ _ 0 (min n mostRows) (λ r h k. rw (match-any-room r))
+
+  records-any-room : (known rs : List ℕ) → newRecords less known rs ≡ newRecords more known rs
+  unfolding newRecords
+  records-any-room known [] = refl
+  records-any-room known (r ∷ rs) = rw (match-any-room r, records-any-room known rs, records-any-room (through more r ∷ known) rs)
+
+  reading-any-room : (found : List ℕ) (n : ℕ) → roomFor a (length found) ≡ roomFor b (length found) → readingOf less found n ≡ readingOf more found n
+  unfolding readingOf
+  reading-any-room found n h = rw (h, rows-any-room n, records-any-room _ (matchedRows more n))
+
 -- room above the lent list counts as its length
 module _ (w : Words) where
   rows-cut : (n room : ℕ) → movedBy w (ask.Rows n (min room (length (w .tables .found)))) ≡ movedBy w (ask.Rows n room)
-  unfolding movedBy placeFor stepOf missesOf rowsOf readingOf
-  rows-cut n room = let e : roomFor (min room (length (w .tables .found))) (length (w .tables .found)) ≡ roomFor room (length (w .tables .found)) =
-      omega arith in rw e
+  unfolding movedBy placeFor stepOf missesOf rowsOf
+  rows-cut n room =
+      let few = min room (length (w .tables .found)) in
+      let t = getD (w .txns) (placeFor (w .txns) (ask.Rows n room)) (idleOf 0) in
+      rw (reading-any-room (w .tables .rows) (w .tables .versions) (w .tables .lists) (extentIn w) t few room (w .tables .found) (w .sizes .rows) (omega arith))
 
   room-cut : (s : Step) → callOf w (roomWithin (length (w .tables .found)) s) ≡ callOf w s
   unfolding callOf placeFor

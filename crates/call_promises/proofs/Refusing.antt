@@ -14,7 +14,7 @@ use lib.Seq.{set-getD}
 use borrow.Author.Tests.{eqb-true, eqb-false, ltb-false, not-false}
 use Rattle.base_limits.specs.Limits.{mostWrites, mostRecords}
 use Rattle.base_lists.proofs.ListLaws.{or-l, or-r}
-use Rattle.model.specs.Store.{rank, phaseOpen, phaseHolding, phaseCollected, phasePrepared, phaseInstalled, phaseEnded, keyIn}
+use Rattle.model.specs.Store.{rank, phaseOpen, phaseHolding, phaseCollected, phasePrepared, phaseInstalled, phaseEnded}
 use Rattle.model.specs.Machine.{canOpen}
 use Rattle.base_protocol.specs.declared.Step.{Step}
 use Rattle.base_protocol.specs.declared.Step.the-variants as ask
@@ -41,7 +41,7 @@ use Rattle.write_verdict.specs.Judged.{verdictOf}
 use Rattle.write_prepare.specs.Prepare.{readsTakenIn, validateOf, isClear, lacks, neededInto, mostNeeded, prepareWith, prepareOf}
 use Rattle.read_match.specs.Matching.{look}
 use Rattle.read_record.specs.Recording.{knownPointers}
-use Rattle.read.specs.Rows.{matchedRows, newRecords, roomFor, answerOf, readingOf, rowsOf}
+use Rattle.read.specs.Rows.{matchedRows, newRecords, roomFor, answerOf, readingOf, readingBy, rowsOf}
 use Rattle.txn_places.specs.Places.{missesOf, liveIn}
 use Rattle.step.specs.Steps.{Tables, Moved, publishStep, stays, inBuckets, inLists, inFound, doneBy, stepOf}
 use Rattle.step.specs.declared.Place.{Place}
@@ -228,8 +228,8 @@ module _ (b : Tables) (p : Place) where
       (λ e. rw e (inl refl))))))))
 
   answer-kept : (s : Step) (room : ℕ) (rs : List ℕ) (new : List ReadRecord)
-      → Kept s (answerOf (b .lists) (b .found) t room rs new .reply .txn .number ≡ t .number)
-      (inFound (answerOf (b .lists) (b .found) t room rs new) clock used b)
+      → let d = readingBy (p .extent) t room in
+      Kept s (answerOf (b .lists) (b .found) rs new d .reply .txn .number ≡ t .number) (inFound (answerOf (b .lists) (b .found) rs new d) clock used b)
   answer-kept s room rs new =
       guard (ltb (roomFor room (length (b .found))) (length rs)) (λ e. rw e (inl refl))
       (λ e. rw e (guard (ltb mostRecords (t .«records_n» + length new)) (λ e. rw e (inl refl)) (λ e. rw e refl)))
@@ -237,7 +237,7 @@ module _ (b : Tables) (p : Place) where
   rows-kept : (n room : ℕ) → KeptBy (ask.Rows n room) (doneBy b p (ask.Rows n room))
   unfolding rowsOf readingOf
   rows-kept n room =
-      let l = look (b .rows) (b .versions) (b .lists) used t (keyIn (phaseView (t .phase))) in
+      let l = look (b .rows) (b .versions) (b .lists) (readingBy (p .extent) t room) in
       guard (wrongPhase t phaseCollected) (λ e. rw e (inl refl))
       (λ e. rw e (answer-kept (ask.Rows n room) room (matchedRows l (z .rows))
       (newRecords l (knownPointers (b .lists) (t .slot) (t .«records_n»)) (matchedRows l (z .rows)))))

@@ -23,6 +23,7 @@ use Rattle.model.specs.Machine as machine
 use Rattle.model.specs.Machine.{lentAfter}
 use Rattle.model.proofs.SeeingLaws.{keyAt-pos, match-version, version-in, found-which}
 use Rattle.base_protocol.specs.View.{told}
+use Rattle.base_protocol.specs.declared.Extent.{Extent}
 use Rattle.table.specs.Lists.{records, recordOf, startOf, writesOf, recordsOf}
 use Rattle.table.proofs.Spans.{list-length}
 use Rattle.table.specs.declared.lists.Write.{Write}
@@ -30,12 +31,12 @@ use Rattle.table.specs.declared.lists.ReadRecord.{ReadRecord}
 use Rattle.table_scans.specs.Scans.{rowsWritten, pointers}
 use Rattle.table_scans.proofs.Laws.{eqb-sym}
 use Rattle.txn.specs.declared.Transaction.{Transaction}
-use Rattle.txn.specs.View.{phaseView, writeView, recordView, writesIn, candidatesIn, txnView}
+use Rattle.txn.specs.View.{writeView, recordView, writesIn, candidatesIn, txnView}
 use Rattle.read_match.specs.Matching.{Look, look, matchOf, isMatch}
 use Rattle.read_match.proofs.Model.{Shows, matches-same, through-same}
 use Rattle.read_gather.specs.Gathering.{wantedRows}
 use Rattle.read_record.specs.Recording.{knownPointers, recordFor, putRecords}
-use Rattle.read.specs.Rows.{matchedRows, through, newRecords, doneTxn, roomFor, LeftRows, refusedRows, doneRows, readingOf, rowsOf}
+use Rattle.read.specs.Rows.{matchedRows, through, newRecords, doneTxn, roomFor, LeftRows, refusedRows, doneRows, readingOf, readingBy, rowsOf}
 use Rattle.read_record.proofs.Appended.{put-length}
 use Rattle.read.proofs.Appended.{Stands, put-view, put-others, put-stands}
 
@@ -97,17 +98,14 @@ pub record ReadAs (s : Store) (lists found : List ℕ) (t : Transaction) (w : Le
 
 -- by the model's refusal: its number, with all as it was; or what the step leaves
 abbrev pub RowsAs : Store → List ℕ → List ℕ → Transaction → Option Refusal → LeftRows → Type 0
-RowsAs s lists found t (some why) w = w ≡ refusedRows t (refusalNumber why) lists found
+RowsAs s lists found t (some why) w = w ≡ refusedRows lists found t (refusalNumber why)
 RowsAs s lists found t none w = ReadAs s lists found t w
 
--- what a transaction looks at in its phase
-abbrev pub looks : List ℕ → List ℕ → List ℕ → ℕ → Transaction → Look
-looks rows versions lists used t = look rows versions lists used t (keyIn (phaseView (t .phase)))
-
-module _ (s : Store) (rows versions lists : List ℕ) (used : ℕ) (t : Transaction) (g : Shows (s .chains) (s .sizes .rows) rows versions used)
-    (few : s .sizes .rows ≤ mostRows) (st : Stands lists t) where
+module _ (s : Store) (rows versions lists : List ℕ) (e : Extent) (t : Transaction) (room : ℕ) (size : e .sizes .rows ≡ s .sizes .rows)
+    (g : Shows (s .chains) (s .sizes .rows) rows versions (e .used)) (few : s .sizes .rows ≤ mostRows) (st : Stands lists t) where
+  -- what a transaction looks at in its phase
   abbrev seen : Look
-  seen = looks rows versions lists used t
+  seen = look rows versions lists (readingBy e t room)
 
   abbrev txn : Txn
   txn = txnView lists t
@@ -173,9 +171,9 @@ module _ (s : Store) (rows versions lists : List ℕ) (used : ℕ) (t : Transact
       (recorded-member (recordsOf lists (t .slot) (t .«records_n»))) matched-all)
 
   -- ---- the tests
-  pub room-same : (room len : ℕ) → min room mostRows ≤ len
+  pub room-same : (len : ℕ) → min room mostRows ≤ len
       → ltb (roomFor room len) (length (matchedRows seen (s .sizes .rows))) ≡ ltb (min room mostRows) (length (foundRows s txn))
-  room-same room len h = let m : roomFor room len ≡ min room mostRows = omega arith in rw (m, matched-model)
+  room-same len h = let m : roomFor room len ≡ min room mostRows = omega arith in rw (m, matched-model)
 
   pub count-same : length (recordsAfter s txn) ≡ t .«records_n» + length new
   count-same = rw (
@@ -191,8 +189,8 @@ module _ (s : Store) (rows versions lists : List ℕ) (used : ℕ) (t : Transact
     pub rows-view : txnView (putRecords lists (t .slot) (t .«records_n») new) (doneTxn t (t .«records_n» + length new)) ≡ readTxn s txn
     rows-view = put-view lists t new st h ∙ rw records-model
 
-  module _ (found : List ℕ) (room : ℕ) (lent : min room mostRows ≤ length found) where
-    read-as : t .«records_n» + length new ≤ mostRecords → ReadAs s lists found t (doneRows t lists found (matchedRows seen (s .sizes .rows)) new)
+  module _ (found : List ℕ) (lent : min room mostRows ≤ length found) where
+    read-as : t .«records_n» + length new ≤ mostRecords → ReadAs s lists found t (doneRows lists found (matchedRows seen (s .sizes .rows)) new t)
     read-as h = record {
       answer-is = rw matched-model;
       txn-is = rows-view h;
@@ -204,11 +202,11 @@ module _ (s : Store) (rows versions lists : List ℕ) (used : ℕ) (t : Transact
       long-same = put-length lists (t .slot) (t .«records_n») new;
     }
 
-    by-tests : (phase short many : Bool) → (many ≡ false → ReadAs s lists found t (doneRows t lists found (matchedRows seen (s .sizes .rows)) new))
+    by-tests : (phase short many : Bool) → (many ≡ false → ReadAs s lists found t (doneRows lists found (matchedRows seen (s .sizes .rows)) new t))
         → RowsAs s lists found t (cond phase (some WrongPhase) (cond short (some NoRoom) (cond many (some ManyRecords) none)))
-        (cond phase (refusedRows t (refusalNumber WrongPhase) lists found)
-        (cond short (refusedRows t (refusalNumber NoRoom) lists found)
-        (cond many (refusedRows t (refusalNumber ManyRecords) lists found) (doneRows t lists found (matchedRows seen (s .sizes .rows)) new))))
+        (cond phase (refusedRows lists found t (refusalNumber WrongPhase))
+        (cond short (refusedRows lists found t (refusalNumber NoRoom))
+        (cond many (refusedRows lists found t (refusalNumber ManyRecords)) (doneRows lists found (matchedRows seen (s .sizes .rows)) new t))))
     by-tests true short many ok = refl
     by-tests false true many ok = refl
     by-tests false false true ok = refl
@@ -216,9 +214,9 @@ module _ (s : Store) (rows versions lists : List ℕ) (used : ℕ) (t : Transact
 
     -- the step: where the model refuses it, the words answer its number and are as they were; else they leave what the model does
     pub rows-model : RowsAs s lists found t (refusal ((not (eqb (rank (txn .phase)) phaseCollected), WrongPhase) ∷ rowsChecks s txn room))
-        (rowsOf rows versions lists found (s .sizes .rows) used room t)
+        (rowsOf rows versions lists found e t room)
     unfolding rowsOf readingOf refusal
     rows-model =
-        rw (room-same room (length found) lent, count-same)
+        rw (size, room-same (length found) lent, count-same)
         (by-tests (not (eqb (rank (txn .phase)) phaseCollected)) (ltb (min room mostRows) (length (foundRows s txn)))
         (ltb mostRecords (t .«records_n» + length new)) (λ e. read-as (ltb-false mostRecords (t .«records_n» + length new) e)))

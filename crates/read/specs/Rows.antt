@@ -9,6 +9,7 @@ use Rattle.base_lists.specs.Lists.{member, pick}
 use Rattle.model.specs.Store.{rank, phaseCollected, keyIn}
 use Rattle.model.specs.Refusals.{WrongPhase, NoRoom, ManyRecords, refusalNumber}
 use Rattle.base_protocol.specs.declared.Answer.the-variants as tell
+use Rattle.base_protocol.specs.declared.Extent.{Extent}
 use Rattle.table.specs.declared.lists.ReadRecord.{ReadRecord}
 use Rattle.table_buckets.specs.Buckets.{laid}
 use Rattle.txn.specs.View.{phaseView}
@@ -16,13 +17,14 @@ use Rattle.txn.specs.Methods.{refusedOf}
 use Rattle.txn.specs.declared.Phase.the-variants as phase
 use Rattle.txn.specs.declared.Transaction.{Transaction}
 use Rattle.txn.specs.declared.Answered.{Answered}
+use Rattle.read_match.specs.declared.Reading.{Reading}
 use Rattle.read_match.specs.Matching.{Look, look, matchOf, isMatch, throughOf}
 use Rattle.read_gather.specs.Gathering.{wantedRows}
 use Rattle.read_record.specs.Recording.{knownPointers, recordFor, putRecords}
 
 -- the rows of the store that are wanted and match, ascending; a row count above 256 acts as 256
 unfoldable pub matchedRows : Look → ℕ → List ℕ
-matchedRows l rowCount = pick (λ r. member r (wantedRows (l .lists) (l .txn)) && isMatch (matchOf l r)) 0 (min rowCount mostRows)
+matchedRows l rowCount = pick (λ r. member r (wantedRows (l .lists) (l .reading .txn)) && isMatch (matchOf l r)) 0 (min rowCount mostRows)
 
 -- the pointer that a row is matched through
 abbrev pub through : Look → ℕ → ℕ
@@ -59,32 +61,36 @@ pub record LeftRows : Type 0 where
   pub lists : List ℕ
   pub found : List ℕ
 
-abbrev pub refusedRows : Transaction → ℕ → List ℕ → List ℕ → LeftRows
-refusedRows t why lists found = record { reply = refusedOf t why; lists = lists; found = found }
+abbrev pub refusedRows : List ℕ → List ℕ → Transaction → ℕ → LeftRows
+refusedRows lists found t why = record { reply = refusedOf t why; lists = lists; found = found }
 
 -- a read that is done: the rows go to the front of the lent list, the new records behind the old
-abbrev pub doneRows : Transaction → List ℕ → List ℕ → List ℕ → List ReadRecord → LeftRows
-doneRows t lists found rs new = record {
+abbrev pub doneRows : List ℕ → List ℕ → List ℕ → List ReadRecord → Transaction → LeftRows
+doneRows lists found rs new t = record {
   reply = record { answer = tell.Rows (length rs); txn = doneTxn t (t .«records_n» + length new) };
   lists = putRecords lists (t .slot) (t .«records_n») new;
   found = laid rs found;
 }
 
 -- the tests: a lent list too short, then more than 64 read records
-abbrev pub answerOf : List ℕ → List ℕ → Transaction → ℕ → List ℕ → List ReadRecord → LeftRows
-answerOf lists found t room rs new =
-    cond (ltb (roomFor room (length found)) (length rs)) (refusedRows t (refusalNumber NoRoom) lists found)
-    (cond (ltb mostRecords (t .«records_n» + length new)) (refusedRows t (refusalNumber ManyRecords) lists found)
-    (doneRows t lists found rs new))
+abbrev pub answerOf : List ℕ → List ℕ → List ℕ → List ReadRecord → Reading → LeftRows
+answerOf lists found rs new d =
+    cond (ltb (roomFor (d .room) (length found)) (length rs)) (refusedRows lists found (d .txn) (refusalNumber NoRoom))
+    (cond (ltb mostRecords (d .txn .«records_n» + length new)) (refusedRows lists found (d .txn) (refusalNumber ManyRecords))
+    (doneRows lists found rs new (d .txn)))
 
 -- a read of what is looked at
-unfoldable pub readingOf : Look → ℕ → ℕ → List ℕ → LeftRows
-readingOf l rowCount room found =
-    answerOf (l .lists) found (l .txn) room (matchedRows l rowCount)
-    (newRecords l (knownPointers (l .lists) (l .txn .slot) (l .txn .«records_n»)) (matchedRows l rowCount))
+unfoldable pub readingOf : Look → List ℕ → ℕ → LeftRows
+readingOf l found rowCount =
+    answerOf (l .lists) found (matchedRows l rowCount)
+    (newRecords l (knownPointers (l .lists) (l .reading .txn .slot) (l .reading .txn .«records_n»)) (matchedRows l rowCount)) (l .reading)
+
+-- who reads what in its phase
+abbrev pub readingBy : Extent → Transaction → ℕ → Reading
+readingBy e t room = record { txn = t; key = keyIn (phaseView (t .phase)); used = e .used; room = room }
 
 -- rows: wrong phase first
-unfoldable pub rowsOf : List ℕ → List ℕ → List ℕ → List ℕ → ℕ → ℕ → ℕ → Transaction → LeftRows
-rowsOf rows versions lists found rowCount used room t =
-    cond (not (eqb (rank (phaseView (t .phase))) phaseCollected)) (refusedRows t (refusalNumber WrongPhase) lists found)
-    (readingOf (look rows versions lists used t (keyIn (phaseView (t .phase)))) rowCount room found)
+unfoldable pub rowsOf : List ℕ → List ℕ → List ℕ → List ℕ → Extent → Transaction → ℕ → LeftRows
+rowsOf rows versions lists found e t room =
+    cond (not (eqb (rank (phaseView (t .phase))) phaseCollected)) (refusedRows lists found t (refusalNumber WrongPhase))
+    (readingOf (look rows versions lists (readingBy e t room)) found (e .sizes .rows))

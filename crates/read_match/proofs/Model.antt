@@ -237,50 +237,54 @@ version-through versions k (pointer.At p) = by (carries (keyedOf versions p) (ke
     by false e = absurd (false≢true e)
 version-through versions k pointer.Nothing = λ e. refl
 
-module _ (c : Chains) (n : ℕ) (l : Look) (g : Shows c n (l .rows) (l .versions) (l .used)) (few : l .txn .«writes_n» ≤ mostWrites) (r : ℕ) (h : r < n) where
+module _ (c : Chains) (n : ℕ) (l : Look) (g : Shows c n (l .rows) (l .versions) (l .reading .used)) (few : l .reading .txn .«writes_n» ≤ mostWrites)
+    (r : ℕ) (h : r < n) where
   abbrev txn : model.Txn
-  txn = txnView (l .lists) (l .txn)
+  txn = txnView (l .lists) (l .reading .txn)
 
-  pointer-by : (f : Pointer) → firstVisible (l .versions) (l .used) (l .txn .snapshot) (headOf (l .rows) r) ≡ f
-      → sameKey (keyAt c (numberOf f)) (some (l .key)) ≡ isMatch (byVersion (l .versions) (l .key) f)
+  pointer-by : (f : Pointer) → firstVisible (l .versions) (l .reading .used) (l .reading .txn .snapshot) (headOf (l .rows) r) ≡ f
+      → sameKey (keyAt c (numberOf f)) (some (l .reading .key)) ≡ isMatch (byVersion (l .versions) (l .reading .key) f)
   unfolding keyAt sameKey
   pointer-by (pointer.At p) e =
-      let a = first-visible-answered (l .versions) (l .used) (l .txn .snapshot) (headOf (l .rows) r) p e in
+      let a = first-visible-answered (l .versions) (l .reading .used) (l .reading .txn .snapshot) (headOf (l .rows) r) p e in
       let d : p ≢ 0 = a .some in
-      let u : p ≤ c .used = omega (arith, g .used-same, leb-true p (l .used) (and-l (leb p (l .used)) _ (a .is-known))) in
-      rw (ne-eqb p 0 d, g .key-same p (omega (arith, d)) u) (carries-same (keyedOf (l .versions) p) (keyOf (l .versions) p) (l .key)
-      ∙ match-if (carries (keyedOf (l .versions) p) (keyOf (l .versions) p) (l .key)) (Version p) refl)
+      let u : p ≤ c .used = omega (arith, g .used-same, leb-true p (l .reading .used) (and-l (leb p (l .reading .used)) _ (a .is-known))) in
+      rw (ne-eqb p 0 d, g .key-same p (omega (arith, d)) u) (carries-same (keyedOf (l .versions) p) (keyOf (l .versions) p) (l .reading .key)
+      ∙ match-if (carries (keyedOf (l .versions) p) (keyOf (l .versions) p) (l .reading .key)) (Version p) refl)
   pointer-by pointer.Nothing e = refl
 
-  match-by : (f : Found) → latestPending (l .lists) (l .txn .slot) (l .txn .«writes_n») r ≡ f → matches c txn (l .key) r ≡ isMatch (matchBy l r f)
+  match-by : (f : Found) → latestPending (l .lists) (l .reading .txn .slot) (l .reading .txn .«writes_n») r ≡ f
+      → matches c txn (l .reading .key) r ≡ isMatch (matchBy l r f)
   unfolding matches shownKey writtenKey
   match-by (place.At i) e =
       rw (
-        pending-same (l .lists) (l .txn) few r,
-        last-same (l .lists) (l .txn) few r,
+        pending-same (l .lists) (l .reading .txn) few r,
+        last-same (l .lists) (l .reading .txn) few r,
         e,
-        carries-same (writeAt (l .lists) (l .txn .slot) i .keyed) (writeAt (l .lists) (l .txn .slot) i .key) (l .key),
+        carries-same (writeAt (l .lists) (l .reading .txn .slot) i .keyed) (writeAt (l .lists) (l .reading .txn .slot) i .key) (l .reading .key),
       )
-      (match-if (carries (writeAt (l .lists) (l .txn .slot) i .keyed) (writeAt (l .lists) (l .txn .slot) i .key) (l .key)) how.Write refl)
+      (match-if (carries (writeAt (l .lists) (l .reading .txn .slot) i .keyed) (writeAt (l .lists) (l .reading .txn .slot) i .key) (l .reading .key))
+      how.Write refl)
   match-by place.Nothing e =
-      rw (pending-same (l .lists) (l .txn) few r, e, ← version-same c n (l .rows) (l .versions) (l .used) g (l .txn .snapshot) r h) (pointer-by _ refl)
+      rw (pending-same (l .lists) (l .reading .txn) few r, e, ← version-same c n (l .rows) (l .versions) (l .reading .used) g (l .reading .txn .snapshot) r h)
+      (pointer-by _ refl)
 
   -- the row matches in the model where it does in the words
-  pub matches-same : matches c (txnView (l .lists) (l .txn)) (l .key) r ≡ isMatch (matchOf l r)
+  pub matches-same : matches c (txnView (l .lists) (l .reading .txn)) (l .reading .key) r ≡ isMatch (matchOf l r)
   unfolding matchOf
   matches-same = match-by _ refl
 
-  through-by : (f : Found) → latestPending (l .lists) (l .txn .slot) (l .txn .«writes_n») r ≡ f → isMatch (matchBy l r f) ≡ true
-      → throughOf (matchBy l r f) ≡ cond (pending (writesIn (l .lists) (l .txn)) r) 0 (versionOf c (snapshotView (l .txn .snapshot)) r)
+  through-by : (f : Found) → latestPending (l .lists) (l .reading .txn .slot) (l .reading .txn .«writes_n») r ≡ f → isMatch (matchBy l r f) ≡ true
+      → throughOf (matchBy l r f) ≡ cond (pending (writesIn (l .lists) (l .reading .txn)) r) 0 (versionOf c (snapshotView (l .reading .txn .snapshot)) r)
   through-by (place.At i) e m =
-      rw (pending-same (l .lists) (l .txn) few r, e)
-      (write-through (carries (writeAt (l .lists) (l .txn .slot) i .keyed) (writeAt (l .lists) (l .txn .slot) i .key) (l .key)))
+      rw (pending-same (l .lists) (l .reading .txn) few r, e)
+      (write-through (carries (writeAt (l .lists) (l .reading .txn .slot) i .keyed) (writeAt (l .lists) (l .reading .txn .slot) i .key) (l .reading .key)))
   through-by place.Nothing e m =
-      rw (pending-same (l .lists) (l .txn) few r, e, ← version-same c n (l .rows) (l .versions) (l .used) g (l .txn .snapshot) r h)
-      (version-through (l .versions) (l .key) (firstVisible (l .versions) (l .used) (l .txn .snapshot) (headOf (l .rows) r)) m)
+      rw (pending-same (l .lists) (l .reading .txn) few r, e, ← version-same c n (l .rows) (l .versions) (l .reading .used) g (l .reading .txn .snapshot) r h)
+      (version-through (l .versions) (l .reading .key) (firstVisible (l .versions) (l .reading .used) (l .reading .txn .snapshot) (headOf (l .rows) r)) m)
 
   -- and there the pointer it is matched through is the model's version; 0 where the row has a pending write
   pub through-same : isMatch (matchOf l r) ≡ true
-      → throughOf (matchOf l r) ≡ cond (pending (writesIn (l .lists) (l .txn)) r) 0 (versionOf c (snapshotView (l .txn .snapshot)) r)
+      → throughOf (matchOf l r) ≡ cond (pending (writesIn (l .lists) (l .reading .txn)) r) 0 (versionOf c (snapshotView (l .reading .txn .snapshot)) r)
   unfolding matchOf
   through-same m = through-by _ refl m

@@ -11,21 +11,19 @@ use Rattle.table_scans.specs.declared.Found.the-variants as place
 use Rattle.table_chain.specs.Chain.{firstVisible}
 use Rattle.table_chain.specs.declared.Pointer.{Pointer}
 use Rattle.table_chain.specs.declared.Pointer.the-variants as pointer
-use Rattle.txn.specs.declared.Transaction.{Transaction}
+use Rattle.read_match.specs.declared.Reading.{Reading}
 use Rattle.read_match.specs.declared.Match.{Match}
 use Rattle.read_match.specs.declared.Match.the-variants.{No, Write, Version}
 
--- what a read looks at: the tables, the lists, the last used pointer, the transaction and its key
+-- what a read looks at: the tables, and who reads what
 pub record Look : Type 0 where
   pub rows : List ℕ
   pub versions : List ℕ
   pub lists : List ℕ
-  pub used : ℕ
-  pub txn : Transaction
-  pub key : ℕ
+  pub reading : Reading
 
-abbrev pub look : List ℕ → List ℕ → List ℕ → ℕ → Transaction → ℕ → Look
-look rows versions lists used t key = record { rows = rows; versions = versions; lists = lists; used = used; txn = t; key = key }
+abbrev pub look : List ℕ → List ℕ → List ℕ → Reading → Look
+look rows versions lists d = record { rows = rows; versions = versions; lists = lists; reading = d }
 
 -- a key beside the word that says whether there is one; an erasure matches no key
 abbrev pub carries : ℕ → ℕ → ℕ → Bool
@@ -42,11 +40,12 @@ byWrite lists slot i k = cond (carries (writeAt lists slot i .keyed) (writeAt li
 
 -- the row's last pending write decides; where it has none, the version that the walk finds
 abbrev pub matchBy : Look → ℕ → Found → Match
-matchBy l r (place.At i) = byWrite (l .lists) (l .txn .slot) i (l .key)
-matchBy l r place.Nothing = byVersion (l .versions) (l .key) (firstVisible (l .versions) (l .used) (l .txn .snapshot) (headOf (l .rows) r))
+matchBy l r (place.At i) = byWrite (l .lists) (l .reading .txn .slot) i (l .reading .key)
+matchBy l r place.Nothing =
+    byVersion (l .versions) (l .reading .key) (firstVisible (l .versions) (l .reading .used) (l .reading .txn .snapshot) (headOf (l .rows) r))
 
 unfoldable pub matchOf : Look → ℕ → Match
-matchOf l r = matchBy l r (latestPending (l .lists) (l .txn .slot) (l .txn .«writes_n») r)
+matchOf l r = matchBy l r (latestPending (l .lists) (l .reading .txn .slot) (l .reading .txn .«writes_n») r)
 
 -- whether a row matches, and the pointer that it is matched through: 0 where it is none
 abbrev pub isMatch : Match → Bool

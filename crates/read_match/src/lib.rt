@@ -18,6 +18,14 @@ pub enum Match {
     Version(u64),
 }
 
+// Who reads what: the transaction, the key, the last used pointer, and the room for the rows.
+pub struct Reading {
+    pub txn: Transaction,
+    pub key: u64,
+    pub used: u64,
+    pub room: u64,
+}
+
 // Whether a key, beside the word that says whether there is one, is the key wanted.
 fn carries_key(keyed: u64, key: u64, wanted: u64) -> bool
     ensures { λ r. ⌜ r ≡ carries keyed key wanted ⌝ }
@@ -58,27 +66,20 @@ fn by_write(lists: &[u64], slot: u32, i: u32, key: u64) -> Match
 }
 
 // How a row matches: its last pending write decides, and where it has none the version seen.
-pub fn match_of(
-    rows: &[u64],
-    versions: &[u64],
-    lists: &[u64],
-    used: u64,
-    t: Transaction,
-    key: u64,
-    row: u64,
-) -> Match
-    ensures { λ r. ⌜ r ≡ matchOf (look (now (rows .entry)) (now (versions .entry)) (now (lists .entry)) used t key) row ⌝ }
+pub fn match_of(rows: &[u64], versions: &[u64], lists: &[u64], reading: Reading, row: u64) -> Match
+    ensures { λ r. ⌜ r ≡ matchOf (look (now (rows .entry)) (now (versions .entry)) (now (lists .entry)) reading) row ⌝ }
 {
+    let t = reading.txn;
     let snapshot = t.snapshot;
     let written = latest_pending(lists, t.slot, t.writes_n, row);
     match written {
-        Found::At(i) => by_write(lists, t.slot, i, key),
+        Found::At(i) => by_write(lists, t.slot, i, reading.key),
         Found::Nothing => {
             let head = head_at(rows, row as usize);
             by_version(
                 versions,
-                key,
-                first_visible(versions, used as usize, snapshot, head),
+                reading.key,
+                first_visible(versions, reading.used as usize, snapshot, head),
             )
         }
     }

@@ -116,7 +116,7 @@ doneBy b p (ask.Capture n k) =
 doneBy b p (ask.Collect n) =
     inBuckets (methods.collectOf (p .txn) (b .rows) (b .buckets) (b .lists) (p .extent .sizes .rows)) (p .extent .clock) (p .extent .used) b
 doneBy b p (ask.Rows n room) =
-    inFound (reads.rowsOf (b .rows) (b .versions) (b .lists) (b .found) (p .extent .sizes .rows) (p .extent .used) room (p .txn)) (p .extent .clock)
+    inFound (reads.rowsOf (b .rows) (b .versions) (b .lists) (b .found) (p .extent) (p .txn) room) (p .extent .clock)
     (p .extent .used) b
 doneBy b p (ask.Put n r k payload) =
     inLists (methods.writeOf (p .txn) (b .lists) (p .extent .sizes .rows) (record { row = r; keyed = 1; key = k; payload = payload })) (p .extent .clock)

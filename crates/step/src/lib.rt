@@ -176,7 +176,7 @@ pub fn step(
             used,
         ),
         Step::Rows { number: _, room } => with_clock(
-            read::rows(rows, versions, lists, found, sizes.rows, used, room, t),
+            read::rows(rows, versions, lists, found, extent, t, room),
             clock,
             used,
         ),

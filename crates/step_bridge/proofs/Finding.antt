@@ -28,7 +28,7 @@ use Rattle.read.specs.Rows.{LeftRows}
 use Rattle.read.proofs.Appended.{Stands}
 use Rattle.read.proofs.Model.{ReadAs, RowsAs, rows-model}
 use Rattle.step.specs.Steps.{inFound}
-use Rattle.step.specs.Words.{Words, view, txnAt, Sized}
+use Rattle.step.specs.Words.{Words, view, txnAt, extentIn, Sized}
 use Rattle.step_bridge.proofs.Shaped.{Shaped}
 use Rattle.step_bridge.proofs.Places.{standing, sized-at}
 use Rattle.step_bridge.proofs.Placed.{idle-view, txns-set, sized-set}
@@ -108,5 +108,5 @@ module _ (w : Words) (z : Sized w) (g : Shaped w) where
       by-place w z (ask.Rows n room) refl tt
       (λ l d e. found-at n room l _ (not (eqb (model.rank (x .phase)) phaseCollected)) (ltb (min room mostRows) (length (foundRows (view w) x)))
       (ltb mostRecords (length (recordsAfter (view w) x)))
-      (rows-model (view w) (w .tables .rows) (w .tables .versions) (w .tables .lists) (w .used) (txnAt w (standing w n)) chains-shown
-      (good-sized (view w .sizes) (g .sizes) .rows-most) (lists-stand (standing w n) l) (w .tables .found) room h))
+      (rows-model (view w) (w .tables .rows) (w .tables .versions) (w .tables .lists) (extentIn w) (txnAt w (standing w n)) room refl chains-shown
+      (good-sized (view w .sizes) (g .sizes) .rows-most) (lists-stand (standing w n) l) (w .tables .found) h))
