@@ -2,9 +2,13 @@
 -- Assumes nothing.
 use borrow.Author.Needs.{needs}
 use borrow.Author.Tests.{eq-eqb, ne-eqb, lt-ltb, le-ltb}
-use mathlib.Core.Path.{_∙_, sym}
+use mathlib.Core.Path.{_≡_, _∙_, sym}
+use mathlib.Core.Bool.{cond}
 use native.Mathlib.Omega.{arith}
-use Rattle.table_chain.specs.Chain.{stepFrom}
+use lib.Dec.{ltb}
+use lib.ListN.{take}
+use Rattle.table.specs.Fields.{nextOf}
+use Rattle.table_chain.specs.Chain.{stepFrom, walkFrom}
 use Rattle.table_chain.proofs.Laws.{walk-step}
 use Prim.Native.Nat.{ℕ, _<_}
 use borrow.Fn.Kinds.{In}
@@ -26,106 +30,51 @@ walk-at t = and 3 walk-kinds.ps (is 3 walk-kinds.ps μ-walk t) walk.Pre
 abbrev walk-below : ℕ → In 3 walk-kinds.ps
 walk-below t = and 3 walk-kinds.ps (falls 3 walk-kinds.ps _<_ μ-walk t) walk.Pre
 
-walk-returns : (t : ℕ) → walk-lts.Need-returns (
-  visible-at-reads.Asked,
-  visible-at-reads.Learnt,
-  next-at-reads.Asked,
-  next-at-reads.Learnt,
-  walk-below t,
-  walk.Post,
-) (walk-at t) walk.Post
-unfolding stepFrom
-walk-returns t c = rw (walk-step, eq-eqb _ _ (c .if1 .taken))
+-- what its callees ask and give: itself too, at a lower pointer
+abbrev claims : ℕ → walk-lts.Claims
+claims t = (visible-at-reads.Asked, visible-at-reads.Learnt, next-at-reads.Asked, next-at-reads.Learnt, walk-below t, walk.Post)
 
-walk-visible-at-requires : (t : ℕ) → walk-lts.Need-visible-at-requires (
-  visible-at-reads.Asked,
-  visible-at-reads.Learnt,
-  next-at-reads.Asked,
-  next-at-reads.Learnt,
-  walk-below t,
-  walk.Post,
-) (walk-at t) walk.Post
-walk-visible-at-requires t c κs = c .before .before .before .pre .1
+module _ (t : ℕ) where
+  abbrev nonzero : walk-lts.After-visible-at (claims t) (walk-at t) walk.Post → walk-lts.Else1 (claims t) (walk-at t) walk.Post
+  nonzero c = c .before .before .before
 
-walk-returns-2 : (t : ℕ) → walk-lts.Need-returns-2 (
-  visible-at-reads.Asked,
-  visible-at-reads.Learnt,
-  next-at-reads.Asked,
-  next-at-reads.Learnt,
-  walk-below t,
-  walk.Post,
-) (walk-at t) walk.Post
-unfolding stepFrom
-walk-returns-2 t c = rw (walk-step, ne-eqb _ _ (c .before .before .before .before .if1 .left), ← c .before .visible-at .ensures, c .if2 .taken)
+  abbrev passed : walk-lts.After-next-at (claims t) (walk-at t) walk.Post → walk-lts.Else2 (claims t) (walk-at t) walk.Post
+  passed c = c .before .before
 
-walk-next-at-requires : (t : ℕ) → walk-lts.Need-next-at-requires (
-  visible-at-reads.Asked,
-  visible-at-reads.Learnt,
-  next-at-reads.Asked,
-  next-at-reads.Learnt,
-  walk-below t,
-  walk.Post,
-) (walk-at t) walk.Post
-walk-next-at-requires t c κs = search needs
+  -- the version at p is not seen: the walk goes on from the next pointer, if that falls
+  unseen : (c : walk-lts.Else2 (claims t) (walk-at t) walk.Post) → let a = nonzero (c .before) .before .args in
+      let from = walkFrom (a .versions .now .now) (take (a .active-n) (a .active .now)) (a .xmax) in let next = nextOf (a .versions .now .now) (a .p) in
+      from (a .p) ≡ cond (ltb next (a .p)) (from next) 0
+  unfolding stepFrom
+  unseen c = rw (walk-step, ne-eqb _ _ (nonzero (c .before) .if1 .left), sym (c .before .visible-at .ensures) ∙ c .if2 .left)
 
-walk-walk-requires : (t : ℕ) → walk-lts.Need-walk-requires (
-  visible-at-reads.Asked,
-  visible-at-reads.Learnt,
-  next-at-reads.Asked,
-  next-at-reads.Learnt,
-  walk-below t,
-  walk.Post,
-) (walk-at t) walk.Post
-walk-walk-requires t c κs = (omega arith, c .before .before .before .before .before .before .before .before .pre .1)
+  walk-returns : walk-lts.Need-returns (claims t) (walk-at t) walk.Post
+  unfolding stepFrom
+  walk-returns c = rw (walk-step, eq-eqb _ _ (c .if1 .taken))
 
-walk-returns-3 : (t : ℕ) → walk-lts.Need-returns-3 (
-  visible-at-reads.Asked,
-  visible-at-reads.Learnt,
-  next-at-reads.Asked,
-  next-at-reads.Learnt,
-  walk-below t,
-  walk.Post,
-) (walk-at t) walk.Post
-unfolding stepFrom
-walk-returns-3 t c =
-    c .walk .ensures ∙ sym (rw (
-      walk-step,
-      ne-eqb _ _ (c .before .before .before .before .before .before .before .before .if1 .left),
-      ← c .before .before .before .before .before .visible-at .ensures,
-      c .before .before .before .before .if2 .left,
-      ← c .before .before .next-at .ensures,
-      lt-ltb _ _ (c .before .if3 .taken),
-    ))
+  walk-visible-at-requires : walk-lts.Need-visible-at-requires (claims t) (walk-at t) walk.Post
+  walk-visible-at-requires c κs = c .before .before .before .pre .1
 
-walk-returns-4 : (t : ℕ) → walk-lts.Need-returns-4 (
-  visible-at-reads.Asked,
-  visible-at-reads.Learnt,
-  next-at-reads.Asked,
-  next-at-reads.Learnt,
-  walk-below t,
-  walk.Post,
-) (walk-at t) walk.Post
-unfolding stepFrom
-walk-returns-4 t c = rw (
-  walk-step,
-  ne-eqb _ _ (c .before .before .before .before .before .before .before .if1 .left),
-  ← c .before .before .before .before .visible-at .ensures,
-  c .before .before .before .if2 .left,
-  ← c .before .next-at .ensures,
-  le-ltb _ _ (c .if3 .left),
-)
+  walk-returns-2 : walk-lts.Need-returns-2 (claims t) (walk-at t) walk.Post
+  unfolding stepFrom
+  walk-returns-2 c = rw (walk-step, ne-eqb _ _ (nonzero (c .before) .if1 .left), sym (c .before .visible-at .ensures) ∙ c .if2 .taken)
+
+  walk-next-at-requires : walk-lts.Need-next-at-requires (claims t) (walk-at t) walk.Post
+  walk-next-at-requires c κs = search needs
+
+  walk-walk-requires : walk-lts.Need-walk-requires (claims t) (walk-at t) walk.Post
+  walk-walk-requires c κs = (omega arith, nonzero (passed (c .before) .before) .before .pre .1)
+
+  walk-returns-3 : walk-lts.Need-returns-3 (claims t) (walk-at t) walk.Post
+  walk-returns-3 c =
+      let next = c .before .before in
+      c .walk .ensures ∙ sym (rw (unseen (passed next), ← next .next-at .ensures, lt-ltb _ _ (c .before .if3 .taken)))
+
+  walk-returns-4 : walk-lts.Need-returns-4 (claims t) (walk-at t) walk.Post
+  walk-returns-4 c = rw (unseen (passed (c .before)), ← c .before .next-at .ensures, le-ltb _ _ (c .if3 .left))
 
 pub +walk-spec : {M : Type 1} → statement M
-+walk-spec = close μ-walk λ t. walk-lts.spec (
-  visible-at-reads.Asked,
-  visible-at-reads.Learnt,
-  next-at-reads.Asked,
-  next-at-reads.Learnt,
-  walk-below t,
-  walk.Post,
-)
-    (walk-at t)
-    walk.Post
++walk-spec = close μ-walk λ t. walk-lts.spec (claims t) (walk-at t) walk.Post
     (walk-returns t)
     (walk-visible-at-requires t)
     (walk-returns-2 t)

@@ -1,12 +1,21 @@
 -- `table_chain::first_visible` meets its contract.
 -- Assumes nothing.
 use borrow.Author.Tests.{le-leb, lt-leb, lt-ltb, le-ltb, eq-eqb, ne-eqb}
+use mathlib.Core.Path.{_≡_, sym, _∙_}
 use mathlib.Core.Bool.{and-false}
 use Rattle.base_lists.proofs.ListLaws.{below-least}
-use Rattle.table_chain.specs.Chain.{firstVisible}
+use Rattle.table_chain.specs.Chain.{pointer, firstVisible}
 use borrow.Author.Needs.{needs}
 use Rattle.table_chain.proofs.first_visible.Statement.{statement}
 use Rattle.table_chain.proofs.first_visible.Tie as tie
+
+-- the walk, where p is known
+walked : (c : tie.After-walk) → let tested = c .before .before .before .before .before in let a = tested .before .before .before .args in
+    firstVisible (a .t1 .now) (a .used) (a .s) (a .p) ≡ pointer (c .walk .result)
+unfolding firstVisible
+walked c =
+    let tested = c .before .before .before .before .before in
+    rw (le-leb _ _ (tested .before .if1 .left), lt-ltb _ _ (tested .if2 .left), c .walk .ensures)
 
 returns : tie.Need-returns
 unfolding firstVisible
@@ -23,22 +32,10 @@ walk-requires : tie.Need-walk-requires
 walk-requires c κs = λ n l. below-least _ _ n (rw (c .before .before .least-of .ensures) at l)
 
 returns-3 : tie.Need-returns-3
-unfolding firstVisible
-returns-3 c = rw (
-  le-leb _ _ (c .before .before .before .before .before .before .before .if1 .left),
-  lt-ltb _ _ (c .before .before .before .before .before .before .if2 .left),
-  ← c .before .walk .ensures,
-  eq-eqb _ _ (c .if3 .taken),
-)
+returns-3 c = sym (walked (c .before) ∙ rw (eq-eqb _ _ (c .if3 .taken)))
 
 returns-4 : tie.Need-returns-4
-unfolding firstVisible
-returns-4 c = rw (
-  le-leb _ _ (c .before .before .before .before .before .before .before .if1 .left),
-  lt-ltb _ _ (c .before .before .before .before .before .before .if2 .left),
-  ← c .before .walk .ensures,
-  ne-eqb _ _ (c .if3 .left),
-)
+returns-4 c = sym (walked (c .before) ∙ rw (ne-eqb _ _ (c .if3 .left)))
 
 pub first-visible-spec : {M : Type 1} → statement M
 first-visible-spec = tie.close (tie.spec returns returns-2 least-of-requires walk-requires returns-3 returns-4)

@@ -4,6 +4,10 @@ use borrow.Author.Needs.{needs}
 use Rattle.table_chain.proofs.visible_at.Statement.{statement}
 use Rattle.table_chain.proofs.visible_at.Tie as tie
 
+-- the parameters
+abbrev start : tie.After-seen-above → tie.Start
+start c = c .before .before .before .before
+
 xmin-at-requires : tie.Need-xmin-at-requires
 xmin-at-requires c κs = search needs
 
@@ -14,16 +18,13 @@ xmax-at-requires : tie.Need-xmax-at-requires
 xmax-at-requires c κs = search needs
 
 not-ended-requires : tie.Need-not-ended-requires
-not-ended-requires c κs = c .before .before .before .before .before .before .pre
+not-ended-requires c κs = start (c .before .before) .pre
 
 returns : tie.Need-returns
-returns c = rw (
-  ← c .before .before .before .before .xmin-at .ensures,
-  ← c .before .before .before .seen-above .ensures,
-  c .before .before .if1 .taken,
-  ← c .before .xmax-at .ensures,
-  ← c .not-ended .ensures,
-)
+returns c =
+    let told = c .before .before in
+    let above = told .before in
+    rw (← above .before .xmin-at .ensures, ← above .seen-above .ensures, told .if1 .taken, ← c .before .xmax-at .ensures, ← c .not-ended .ensures)
 
 returns-2 : tie.Need-returns-2
 returns-2 c = rw (← c .before .before .xmin-at .ensures, ← c .before .seen-above .ensures, c .if1 .left)
