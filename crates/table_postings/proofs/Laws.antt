@@ -59,8 +59,13 @@ module _ (rows : List ℕ) (key slot row : ℕ) (lists₀ : List ℕ) where
       rw (e, length-append, sets-last, at)
   by-test false e = rw (e, append-nil)
 
-  pub keep-turn : keepOne rows key slot row
+  keep-next : keepOne rows key slot row
       (record { n = length (pick (postedWith rows key) 0 row); lists = keptIn lists₀ slot (pick (postedWith rows key) 0 row) })
       ≡ record { n = length (pick (postedWith rows key) 0 (row + 1)); lists = keptIn lists₀ slot (pick (postedWith rows key) 0 (row + 1)) }
   unfolding kept up-to
-  keep-turn = rw (pick-next) (by-test (postedWith rows key row) refl)
+  keep-next = rw (pick-next) (by-test (postedWith rows key row) refl)
+
+  pub keep-turn : (n : ℕ) (lists : List ℕ) → n ≡ length (pick (postedWith rows key) 0 row) → lists ≡ keptIn lists₀ slot (pick (postedWith rows key) 0 row)
+      → keepOne rows key slot row (record { n = n; lists = lists })
+      ≡ record { n = length (pick (postedWith rows key) 0 (row + 1)); lists = keptIn lists₀ slot (pick (postedWith rows key) 0 (row + 1)) }
+  keep-turn n lists few laid = rw (few, laid) keep-next

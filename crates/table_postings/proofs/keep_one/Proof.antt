@@ -21,11 +21,10 @@ same-length : tie.Need-same-length
 same-length c = search needs
 
 returns-2 : tie.Need-returns-2
-returns-2 c = rw (
-  ← c .before .before .before .before .before .posted-with .ensures,
-  not-false (c .before .before .before .before .before .posted-with .result) (c .before .before .before .before .if1 .left),
-  c .before .before .put-candidate .ensures,
-)
+returns-2 c =
+    let put = c .before .before in
+    let posted = put .before .before in
+    rw (← posted .before .posted-with .ensures, not-false (posted .before .posted-with .result) (posted .if1 .left), put .put-candidate .ensures)
 
 pub keep-one-spec : {M : Type 1} → statement M
 keep-one-spec =
