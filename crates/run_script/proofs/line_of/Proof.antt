@@ -34,15 +34,19 @@ loop-less : tie.Need-loop-less Inv-loop μ-loop
 loop-less c = search needs
 
 loop-again : tie.Need-loop-again Inv-loop μ-loop
-loop-again c = (
-  search needs,
-  let a = c .before .before .before .before .before .before .args in let l = c .before .before .before .loop in
-      l .inv .1 ∙ (bytes-next (a .text .now) (l .at) (a .to) (l .line) (c .before .before .loop-test .taken) ∙ rw (← c .before .byte .ensures, c .with .ensures)),
-)
+loop-again c =
+    let in-loop = c .before .before in
+    let at = in-loop .before in
+    let a = at .before .before .before .args in
+    let l = at .loop in
+    let next = bytes-next (a .text .now) (l .at) (a .to) (l .line) (in-loop .loop-test .taken) in
+    (search needs, l .inv .1 ∙ (next ∙ rw (← c .before .byte .ensures, c .with .ensures)))
 
 returns : tie.Need-returns Inv-loop μ-loop
-returns c = let a = c .before .before .before .before .args in let l = c .before .loop in
-    sym (l .inv .1 ∙ bytes-end (a .text .now) (l .at) (a .to) (l .line) (c .loop-test .left))
+returns c =
+    let at = c .before in
+    let a = at .before .before .before .args in
+    sym (at .loop .inv .1 ∙ bytes-end (a .text .now) (at .loop .at) (a .to) (at .loop .line) (c .loop-test .left))
 
 pub line-of-spec : {M : Type 1} → statement M
 line-of-spec =
