@@ -97,7 +97,8 @@ module _ (m : ℕ) (vs : List ℕ) (p n h : ℕ) (x : Write) (hp : p < m) (hh : 
   stored-length = field-length versionWords 1 v6 h n ∙ l6
 
   -- a field that a store leaves
-  past : (k : ℕ) (ys : List ℕ) (i v j : ℕ) → j < versionWords → k < versionWords → j ≢ k → versionField m j (setField versionWords k ys i v) ≡ versionField m j ys
+  past : (k : ℕ) (ys : List ℕ) (i v j : ℕ) → j < versionWords → k < versionWords → j ≢ k
+      → versionField m j (setField versionWords k ys i v) ≡ versionField m j ys
   past k ys i v j a b d = part-other versionWords k m ys i v j a b d
 
   pub stored-xmin : versionField m 0 (setXmax (versionStored vs p n h x) h n) ≡ update (versionField m 0 vs) p n
