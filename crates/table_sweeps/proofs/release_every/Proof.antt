@@ -30,8 +30,10 @@ loop-less : tie.Need-loop-less Inv-loop μ-loop
 loop-less c = search needs
 
 loop-again : tie.Need-loop-again Inv-loop μ-loop
-loop-again c = let l = c .before .before .before .before .before .loop in
-    (omega arith, c .before .before .free .kept .0 ∙ l .inv .1, release-next _ _ _ (l .bucket) _ (l .inv .2) (c .before .before .free .ensures))
+loop-again c =
+    let done = c .before .before in
+    let l = done .before .before .before .loop in
+    (omega arith, done .free .kept .0 ∙ l .inv .1, release-next _ _ _ (l .bucket) _ (l .inv .2) (done .free .ensures))
 
 same-length : tie.Need-same-length Inv-loop μ-loop
 same-length c = c .before .loop .inv .1

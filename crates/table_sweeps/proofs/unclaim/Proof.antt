@@ -15,11 +15,10 @@ same-length : tie.Need-same-length
 same-length c = search needs
 
 returns : tie.Need-returns
-returns c = rw (
-  ← c .before .before .before .before .before .claim-at .ensures,
-  eq-eqb _ _ (c .before .before .before .before .if1 .taken),
-  c .before .before .set-claim .ensures,
-)
+returns c =
+    let done = c .before .before in
+    let told = done .before .before in
+    rw (← told .before .claim-at .ensures, eq-eqb _ _ (told .if1 .taken), done .set-claim .ensures)
 
 same-length-2 : tie.Need-same-length-2
 same-length-2 c = search needs
