@@ -27,8 +27,10 @@ head-at-requires : tie.Need-head-at-requires Inv-loop μ-loop
 head-at-requires c κs = search needs
 
 returns : tie.Need-returns Inv-loop μ-loop
-returns c = let a = c .before .before .before .before .before .args in let l = c .before .before .before .loop in
-    every-fails (λ r. leb (headOf (a .rows-table .now) r) (a .used)) (l .row) (a .count) (omega arith)
+returns c =
+    let at = c .before .before .before in
+    let a = at .before .before .args in
+    every-fails (λ r. leb (headOf (a .rows-table .now) r) (a .used)) (at .loop .row) (a .count) (omega arith)
     (rw (← c .before .head-at .ensures) (lt-leb _ _ (c .if1 .taken)))
 
 add-row : tie.Need-add-row Inv-loop μ-loop
@@ -38,15 +40,19 @@ loop-less : tie.Need-loop-less Inv-loop μ-loop
 loop-less c = search needs
 
 loop-again : tie.Need-loop-again Inv-loop μ-loop
-loop-again c = let a = c .before .before .before .before .before .args in let l = c .before .before .before .loop in (
-  omega arith,
-  every-next (λ r. leb (headOf (a .rows-table .now) r) (a .used)) (l .row) (l .inv .1)
-      (rw (← c .before .head-at .ensures) (le-leb _ _ (c .if1 .left))),
-)
+loop-again c =
+    let at = c .before .before .before in
+    let a = at .before .before .args in (
+      omega arith,
+      every-next (λ r. leb (headOf (a .rows-table .now) r) (a .used)) (at .loop .row) (at .loop .inv .1)
+          (rw (← c .before .head-at .ensures) (le-leb _ _ (c .if1 .left))),
+    )
 
 returns-2 : tie.Need-returns-2 Inv-loop μ-loop
-returns-2 c = let a = c .before .before .before .args in let l = c .before .loop in
-    every-done (λ r. leb (headOf (a .rows-table .now) r) (a .used)) (l .row) (a .count) (omega arith) (omega arith) (l .inv .1)
+returns-2 c =
+    let at = c .before in
+    let a = at .before .before .args in
+    every-done (λ r. leb (headOf (a .rows-table .now) r) (a .used)) (at .loop .row) (a .count) (omega arith) (omega arith) (at .loop .inv .1)
 
 pub heads-in-spec : {M : Type 1} → statement M
 heads-in-spec =

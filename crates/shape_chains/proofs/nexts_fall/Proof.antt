@@ -35,9 +35,12 @@ next-at-requires : tie.Need-next-at-requires Inv-loop μ-loop
 next-at-requires c κs = search needs
 
 returns : tie.Need-returns Inv-loop μ-loop
-returns c = let a = c .before .before .before .before .before .args in let l = c .before .before .before .loop in
-    every-fails (λ p. ltb (nextOf (a .versions .now) (suc p)) (suc p)) (l .p) (a .used) (omega arith)
-    (rw (← add-one (l .p), ← c .before .next-at .ensures) (le-ltb _ _ (c .if1 .taken)))
+returns c =
+    let at = c .before .before .before in
+    let a = at .before .before .args in
+    let p = at .loop .p in
+    every-fails (λ p. ltb (nextOf (a .versions .now) (suc p)) (suc p)) p (a .used) (omega arith)
+    (rw (← add-one p, ← c .before .next-at .ensures) (le-ltb _ _ (c .if1 .taken)))
 
 add-p : tie.Need-add-p Inv-loop μ-loop
 add-p c = search needs
@@ -46,15 +49,20 @@ loop-less : tie.Need-loop-less Inv-loop μ-loop
 loop-less c = search needs
 
 loop-again : tie.Need-loop-again Inv-loop μ-loop
-loop-again c = let a = c .before .before .before .before .before .args in let l = c .before .before .before .loop in (
-  omega arith,
-  every-next (λ p. ltb (nextOf (a .versions .now) (suc p)) (suc p)) (l .p) (l .inv .1)
-      (rw (← add-one (l .p), ← c .before .next-at .ensures) (lt-ltb _ _ (c .if1 .left))),
-)
+loop-again c =
+    let at = c .before .before .before in
+    let a = at .before .before .args in
+    let p = at .loop .p in (
+      omega arith,
+      every-next (λ p. ltb (nextOf (a .versions .now) (suc p)) (suc p)) p (at .loop .inv .1)
+          (rw (← add-one p, ← c .before .next-at .ensures) (lt-ltb _ _ (c .if1 .left))),
+    )
 
 returns-2 : tie.Need-returns-2 Inv-loop μ-loop
-returns-2 c = let a = c .before .before .before .args in let l = c .before .loop in
-    every-done (λ p. ltb (nextOf (a .versions .now) (suc p)) (suc p)) (l .p) (a .used) (omega arith) (omega arith) (l .inv .1)
+returns-2 c =
+    let at = c .before in
+    let a = at .before .before .args in
+    every-done (λ p. ltb (nextOf (a .versions .now) (suc p)) (suc p)) (at .loop .p) (a .used) (omega arith) (omega arith) (at .loop .inv .1)
 
 pub nexts-fall-spec : {M : Type 1} → statement M
 nexts-fall-spec =
