@@ -21,10 +21,12 @@ wrapping-add-u64-requires-5 : tie.Need-wrapping-add-u64-requires-5
 wrapping-add-u64-requires-5 c κs = search needs
 
 returns : tie.Need-returns
-returns c = let a = c .before .before .before .before .before .args in
-    ten-times (a .value) (a .digit) _ _ _ _ _ _ (c .before .before .before .before .wrapping-add-u64 .ensures)
-    (c .before .before .before .wrapping-add-u642 .ensures) (c .before .before .wrapping-add-u643 .ensures) (c .before .wrapping-add-u644 .ensures)
-    (c .wrapping-add-u645 .ensures)
+returns c =
+    let third = c .before .before in
+    let first = third .before .before in
+    let a = first .before .args in
+    ten-times (a .value) (a .digit) _ _ _ _ _ _ (first .wrapping-add-u64 .ensures) (third .before .wrapping-add-u642 .ensures)
+    (third .wrapping-add-u643 .ensures) (c .before .wrapping-add-u644 .ensures) (c .wrapping-add-u645 .ensures)
 
 pub longer-spec : {M : Type 1} → statement M
 longer-spec =
