@@ -4,21 +4,21 @@ use mathlib.Core.Bool.{true, false}
 use mathlib.Core.Logic.{_⊎_, ⊎-elim}
 use mathlib.Core.Option.{some}
 use mathlib.Core.List.{List, [], _∷_, _++_, map}
-use Prim.Native.Nat.{ℕ, _+_, _≤_, _<_, min}
+use Prim.Native.Nat.{ℕ, _≤_, _<_, min}
 use native.Mathlib.Omega.{arith}
 use lib.ListN.{length, length-map}
 use Rattle.base_limits.specs.Limits.{mostRows, mostIndexReads, mostRecords}
 use Rattle.base_lists.specs.Lists.{member, Among}
 use Rattle.base_lists.specs.Table.{update, update-same}
 use Rattle.base_lists.proofs.ListLaws.{among-left, among-last, which-pick}
-use Rattle.model.specs.Store.{Open, Holding, Collected, Prepared, Installed, Ended, IndexRead, Write, ReadRecord, Txn, Store, rank, phaseOpen, phaseHolding}
+use Rattle.model.specs.Store.{Phase, Open, Holding, Collected, Prepared, Installed, Ended, IndexRead, Write, ReadRecord, Txn, Store, rank, phaseOpen, phaseHolding}
 use Rattle.model.specs.Store.{phaseCollected, phasePrepared, phaseInstalled, bucketIn, keyIn, bucketOf}
 use Rattle.model.specs.Seeing.{versionOf, keyAt, pending, matches, Live}
 use Rattle.model.specs.Steps.{withPhase, becomes, hasRead, captured, collected, foundRows, recordsAfter, readTxn, readDone, written, readBuckets, neededBuckets}
 use Rattle.model.specs.Steps.{prepared, installed}
 use Rattle.model.specs.Contents.{Content, contentOf, shownTo, liveRow, pendingWrite}
 use Rattle.model.specs.Refusals.{Step, capture, collect, rows, write, prepare, install, end, validate, txnOf, byAnother}
-use Rattle.model.specs.Machine.{Stepped, at, accepted, step}
+use Rattle.model.specs.Machine.{Stepped, at, actor, accepted, step}
 use Rattle.model.specs.Given.{number}
 use Rattle.model.proofs.Phases.{open-is, holding-is, collected-is, prepared-is, installed-is}
 use Rattle.model.proofs.Move.{step-move}
@@ -32,7 +32,7 @@ use Rattle.model.proofs.Conditions.{the-one, another}
 use Rattle.model.proofs.Refused.{capture-0, rows-0, write-0, prepare-0, validate-0, collect-0, install-0, end-0}
 use Rattle.model.proofs.Outcomes.{done-does}
 use Rattle.model.proofs.LiveRows.{live-set, live-install}
-use Rattle.model_in_turn.specs.Done.{returned, Entry, entryOf}
+use Rattle.model_in_turn.specs.Done.{returned, Entry, whose, entryOf}
 use Rattle.model_in_turn.proofs.ByItself.{rowsIn, readIn, recordRows, addBucket, Local, phased, writing, Plays, plays-capture, plays-collect, plays-rows}
 use Rattle.model_in_turn.proofs.ByItself.{plays-write, plays-validate, plays-prepare, plays-install, plays-end, Played, then, Agreeing, played-switch}
 use Rattle.model_in_turn.proofs.Returned.{found-is, read-is, records-is}
@@ -58,6 +58,13 @@ module _ (s : Store) (g : Good s) (i n : ℕ) (script : List Entry) (x : Local) 
   rank-of : (k : ℕ) → rank (txnOf s n .phase) ≡ k → rank (x .phase) ≡ k
   rank-of k e = sym (ap rank (f .phase-is)) ∙ (ap (λ (v : Txn). rank (v .phase)) (sym txn-of) ∙ e)
 
+  -- an accepted step: the store that it leaves, and its entry
+  stored : (a : Step) → number s a ≡ 0 → step s a .store ≡ accepted s a .store
+  stored a ok = ap (λ v. v .store) (done-does s a ok)
+
+  entered : (a : Step) → number s a ≡ 0 → entryOf s a ≡ record { who = whose s a; what = a; read = returned s (actor a) (accepted s a .answer) }
+  entered a ok = ap (λ (v : Stepped). record { who = whose s a; what = a; read = returned s (actor a) (v .answer) }) (done-does s a ok)
+
   -- its place goes on, before it prepares
   follow-set : (s′ : Store) (w : Txn) (y : Local) (script′ : List Entry) → s′ .sizes ≡ s .sizes → s′ .chains ≡ s .chains → s′ .txns ≡ update (s .txns) i w
       → rank (x .phase) < phasePrepared → rank (y .phase) < phasePrepared
@@ -78,6 +85,26 @@ module _ (s : Store) (g : Good s) (i n : ℕ) (script : List Entry) (x : Local) 
         late = λ l r. absurd (omega arith);
         kept = λ l q o. rw (zs, cs, here) (ke q o);
         reads-in = λ q o. rw (zs, here) (ke q o .bucket-in);
+      }
+
+  -- its place goes on in another phase, from where it prepares
+  follow-phase : (s′ : Store) (ph : Phase) (script′ : List Entry) (m′ : ℕ → Content) → s′ .sizes ≡ s .sizes
+      → s′ .txns ≡ update (s .txns) i (withPhase (s .txns i) ph) → phasePrepared ≤ rank ph
+      → Played (s .sizes) m′ n script′ (phased x ph) → ((r : ℕ) → m′ r ≡ liveRow s′ r) → Follow s′ i n script′ (phased x ph) m′
+  follow-phase s′ ph script′ m′ zs ts b pl lives =
+      let here : s′ .txns i ≡ withPhase (s .txns i) ph = ap (λ h. h i) ts ∙ update-same (s .txns) i _ in
+      record {
+        number-is = ap (λ (v : Txn). v .number) here ∙ f .number-is;
+        alive = f .alive;
+        phase-is = ap (λ (v : Txn). v .phase) here;
+        buckets-are = ap (λ (v : Txn). bucketsOf (v .reads)) here ∙ f .buckets-are;
+        writes-are = ap (λ (v : Txn). v .writes) here ∙ f .writes-are;
+        records-are = ap (λ (v : Txn). map (λ (r : ReadRecord). r .row) (v .records)) here ∙ f .records-are;
+        plays = rw zs pl;
+        early = λ l r. absurd (omega arith);
+        late = λ l r. lives r;
+        kept = λ l q o. absurd (omega arith);
+        reads-in = λ q o. rw (zs, here) (f .reads-in q o);
       }
 
   -- what was kept stays kept
@@ -117,14 +144,11 @@ module _ (s : Store) (g : Good s) (i n : ℕ) (script : List Entry) (x : Local) 
         f .buckets-are,
       ) at (capture-0 s n k .0 ok .1 .1 .1 .1)
 
-      does : step s (capture n k) ≡ accepted s (capture n k)
-      does = done-does s (capture n k) ok
-
       store-is : step s (capture n k) .store ≡ captured s i k
-      store-is = ap (λ v. v .store) does ∙ ap (λ j. captured s j k) placed
+      store-is = stored (capture n k) ok ∙ ap (λ j. captured s j k) placed
 
       entry-is : entryOf s (capture n k) ≡ record { who = n; what = capture n k; read = [] }
-      entry-is = ap (λ (v : Stepped). record { who = n; what = capture n k; read = returned s n (v .answer) }) does
+      entry-is = entered (capture n k) ok
 
   pub own-collect : number s (collect n) ≡ 0 → (y : Local) × Followed (step s (collect n) .store) i n (script ++ (entryOf s (collect n) ∷ [])) y
   unfolding accepted
@@ -142,14 +166,11 @@ module _ (s : Store) (g : Good s) (i n : ℕ) (script : List Entry) (x : Local) 
       second : rank (x .phase) ≡ phaseHolding
       second = rank-of 2 (collect-0 s n .0 ok .2)
 
-      does : step s (collect n) ≡ accepted s (collect n)
-      does = done-does s (collect n) ok
-
       store-is : step s (collect n) .store ≡ collected s i
-      store-is = ap (λ v. v .store) does ∙ ap (collected s) placed
+      store-is = stored (collect n) ok ∙ ap (collected s) placed
 
       entry-is : entryOf s (collect n) ≡ record { who = n; what = collect n; read = [] }
-      entry-is = ap (λ (v : Stepped). record { who = n; what = collect n; read = returned s n (v .answer) }) does
+      entry-is = entered (collect n) ok
 
   pub own-rows : (room : ℕ) → number s (rows n room) ≡ 0 → (y : Local) × Followed (step s (rows n room) .store) i n (script ++ (entryOf s (rows n room) ∷ [])) y
   unfolding accepted
@@ -203,17 +224,14 @@ module _ (s : Store) (g : Good s) (i n : ℕ) (script : List Entry) (x : Local) 
       fit : length (recordRows (x .writes) (x .records) (foundRows s (s .txns i))) ≤ mostRecords
       fit = rw (sym recorded, length-map (recordsAfter s (s .txns i)) (λ (r : ReadRecord). r .row)) (rw txn-of at (rows-0 s n room .0 ok .1 .1))
 
-      does : step s (rows n room) ≡ accepted s (rows n room)
-      does = done-does s (rows n room) ok
-
       store-is : step s (rows n room) .store ≡ readDone s i
-      store-is = ap (λ v. v .store) does ∙ ap (readDone s) placed
+      store-is = stored (rows n room) ok ∙ ap (readDone s) placed
 
       good′ : Good (readDone s i)
       good′ = rw store-is at (good-move s _ g (step-move s (rows n room)))
 
       entry-is : entryOf s (rows n room) ≡ record { who = n; what = rows n room; read = read }
-      entry-is = ap (λ (v : Stepped). record { who = n; what = rows n room; read = returned s n (v .answer) }) does
+      entry-is = entered (rows n room) ok
           ∙ ap (λ (w : Txn). record { who = n; what = rows n room; read = map (λ r. (r, shownTo (s .chains) w r)) (foundRows s w) }) txn-of
 
       there : (r : ℕ) → r < s .sizes .rows → pending (s .txns i .writes) r ≡ false
@@ -252,25 +270,21 @@ module _ (s : Store) (g : Good s) (i n : ℕ) (script : List Entry) (x : Local) 
   unfolding accepted
   own-write r c ok =
       let d = write-0 s n r c .0 ok in
-      let does = done-does s (write n r c) ok in
       let first = rank-of phaseOpen (d .0 .2) in
       appended (write n r c) (pendingWrite r c)
-      (ap (λ v. v .store) does ∙ ap (λ j. written s j (pendingWrite r c)) placed)
-      (ap (λ (v : Stepped). record { who = n; what = write n r c; read = returned s n (v .answer) }) does)
+      (stored (write n r c) ok ∙ ap (λ j. written s j (pendingWrite r c)) placed) (entered (write n r c) ok)
       first (plays-write r c (open-is (x .phase) first) (d .1 .1 .0) (rw (txn-of, f .writes-are) at (d .1 .1 .1)))
 
   pub own-validate : number s (validate n) ≡ 0 → (y : Local) × Followed (step s (validate n) .store) i n (script ++ (entryOf s (validate n) ∷ [])) y
   unfolding accepted
   own-validate ok =
       let c = validate-0 s n .0 ok in
-      let does = done-does s (validate n) ok in
       let first = rank-of 1 (c .0 .2) in
-      let entry-is : entryOf s (validate n) ≡ record { who = n; what = validate n; read = [] } =
-      ap (λ (v : Stepped). record { who = n; what = validate n; read = returned s n (v .answer) }) does in (
+      let entry-is : entryOf s (validate n) ≡ record { who = n; what = validate n; read = [] } = entered (validate n) ok in (
         x,
         (
           m,
-          rw (ap (λ v. v .store) does, entry-is) (record {
+          rw (stored (validate n) ok, entry-is) (record {
             number-is = f .number-is;
             alive = f .alive;
             phase-is = f .phase-is;
@@ -292,19 +306,9 @@ module _ (s : Store) (g : Good s) (i n : ℕ) (script : List Entry) (x : Local) 
     phased x Prepared,
     (
       liveRow s,
-      rw (store-is, entry-is) (record {
-        number-is = ap (λ (v : Txn). v .number) here ∙ f .number-is;
-        alive = f .alive;
-        phase-is = ap (λ (v : Txn). v .phase) here;
-        buckets-are = ap (λ (v : Txn). bucketsOf (v .reads)) here ∙ f .buckets-are;
-        writes-are = ap (λ (v : Txn). v .writes) here ∙ f .writes-are;
-        records-are = ap (λ (v : Txn). map (λ (r : ReadRecord). r .row) (v .records)) here ∙ f .records-are;
-        plays = then (played-switch (s .sizes) m (liveRow s) n script x agree (f .plays)) (plays-prepare (open-is (x .phase) first));
-        early = λ l r. absurd (omega arith);
-        late = λ l r. sym (live-set s (prepared s i) i _ refl refl (λ l e. omega (arith, first′)) (λ e. omega arith) g good′ r);
-        kept = λ l q o. absurd (omega arith);
-        reads-in = λ q o. rw here (f .reads-in q o);
-      }),
+      rw (store-is, entry-is) (follow-phase (prepared s i) Prepared _ (liveRow s) refl refl (omega arith)
+          (then (played-switch (s .sizes) m (liveRow s) n script x agree (f .plays)) (plays-prepare (open-is (x .phase) first)))
+          (λ r. sym (live-set s (prepared s i) i _ refl refl (λ l e. omega (arith, first′)) (λ e. omega arith) g good′ r))),
     ),
   )
     where
@@ -314,20 +318,14 @@ module _ (s : Store) (g : Good s) (i n : ℕ) (script : List Entry) (x : Local) 
       first′ : rank (s .txns i .phase) ≡ phaseOpen
       first′ = ap rank (f .phase-is) ∙ first
 
-      here : prepared s i .txns i ≡ withPhase (s .txns i) Prepared
-      here = update-same (s .txns) i _
-
-      does : step s (prepare n) ≡ accepted s (prepare n)
-      does = done-does s (prepare n) ok
-
       store-is : step s (prepare n) .store ≡ prepared s i
-      store-is = ap (λ v. v .store) does ∙ ap (prepared s) placed
+      store-is = stored (prepare n) ok ∙ ap (prepared s) placed
 
       good′ : Good (prepared s i)
       good′ = rw store-is at (good-move s _ g (step-move s (prepare n)))
 
       entry-is : entryOf s (prepare n) ≡ record { who = n; what = prepare n; read = [] }
-      entry-is = ap (λ (v : Stepped). record { who = n; what = prepare n; read = returned s n (v .answer) }) does
+      entry-is = entered (prepare n) ok
 
       clear : Cleared (s .chains) (s .index) (s .txns i)
       clear = cleared (s .chains) (s .index) (s .txns i) (clear-number _ (rw txn-of at (prepare-0 s n .0 ok .1 .1 .0)))
@@ -345,39 +343,23 @@ module _ (s : Store) (g : Good s) (i n : ℕ) (script : List Entry) (x : Local) 
     phased x Installed,
     (
       m,
-      rw (store-is, entry-is) (record {
-        number-is = ap (λ (v : Txn). v .number) here ∙ f .number-is;
-        alive = f .alive;
-        phase-is = ap (λ (v : Txn). v .phase) here;
-        buckets-are = ap (λ (v : Txn). bucketsOf (v .reads)) here ∙ f .buckets-are;
-        writes-are = ap (λ (v : Txn). v .writes) here ∙ f .writes-are;
-        records-are = ap (λ (v : Txn). map (λ (r : ReadRecord). r .row) (v .records)) here ∙ f .records-are;
-        plays = then (f .plays) (plays-install (prepared-is (x .phase) fourth));
-        early = λ l r. absurd (omega arith);
-        late = λ l r. f .late (omega (arith, fourth)) r ∙ sym (live-install s i g good′ live-it (ap rank (f .phase-is) ∙ fourth) r);
-        kept = λ l q o. absurd (omega arith);
-        reads-in = λ q o. rw here (f .reads-in q o);
-      }),
+      rw (store-is, entry-is) (follow-phase (installed s i) Installed _ m refl refl (omega arith)
+          (then (f .plays) (plays-install (prepared-is (x .phase) fourth)))
+          (λ r. f .late (omega (arith, fourth)) r ∙ sym (live-install s i g good′ live-it (ap rank (f .phase-is) ∙ fourth) r))),
     ),
   )
     where
       fourth : rank (x .phase) ≡ phasePrepared
       fourth = rank-of 4 (install-0 s n .0 ok .2)
 
-      here : installed s i .txns i ≡ withPhase (s .txns i) Installed
-      here = update-same (s .txns) i _
-
-      does : step s (install n) ≡ accepted s (install n)
-      does = done-does s (install n) ok
-
       store-is : step s (install n) .store ≡ installed s i
-      store-is = ap (λ v. v .store) does ∙ ap (installed s) placed
+      store-is = stored (install n) ok ∙ ap (installed s) placed
 
       good′ : Good (installed s i)
       good′ = rw store-is at (good-move s _ g (step-move s (install n)))
 
       entry-is : entryOf s (install n) ≡ record { who = n; what = install n; read = [] }
-      entry-is = ap (λ (v : Stepped). record { who = n; what = install n; read = returned s n (v .answer) }) does
+      entry-is = entered (install n) ok
 
   -- at its end all that it did holds over the rows as they are then, before its own writes
   pub own-end : number s (end n) ≡ 0
@@ -386,16 +368,13 @@ module _ (s : Store) (g : Good s) (i n : ℕ) (script : List Entry) (x : Local) 
   unfolding accepted
   own-end ok =
       let fifth = rank-of 5 (end-0 s n .0 ok .2) in
-      let does = done-does s (end n) ok in
-      let entry-is : entryOf s (end n) ≡ record { who = n; what = end n; read = [] } =
-      ap (λ (v : Stepped). record { who = n; what = end n; read = returned s n (v .answer) }) does in (
+      let entry-is : entryOf s (end n) ≡ record { who = n; what = end n; read = [] } = entered (end n) ok in (
         phased x Ended,
         rw entry-is
             (then (played-switch (s .sizes) m (liveRow s) n script x (λ q o r u p. let e = f .late (omega (arith, fifth)) r in
             ((λ c. sym e), (λ c. sym e))) (f .plays)) (plays-end (installed-is (x .phase) fifth))),
         refl,
         sym (f .writes-are),
-        ap (λ v. v .store) does
-            ∙ ap (λ j. becomes s j Ended) placed,
+        stored (end n) ok ∙ ap (λ j. becomes s j Ended) placed,
         ap rank (f .phase-is) ∙ fifth,
       )
