@@ -20,8 +20,8 @@ use Rattle.call.proofs.open.Tie as tie
 abbrev entered : tie.After-can-open → tie.Start
 entered c = c .before .before .before .before .before
 
-abbrev tested : tie.After-tables-lent → tie.After-can-open
-tested c = c .before .before .before .before .before
+abbrev opened : tie.After-tables-lent → tie.Else1
+opened c = c .before .before .before .before
 
 -- sizes and clock are within their limits, or not
 openable : (c : tie.Else1) → let a = entered (c .before) .args in canOpen (sizesView (a .sizes)) (a .clock) ≡ true
@@ -31,16 +31,17 @@ unopenable : (c : tie.Then1) → let a = entered (c .before) .args in canOpen (s
 unopenable c = sym (c .before .can-open .ensures) ∙ not-true _ (c .if1 .taken)
 
 -- every table has the words that its size names, or one has not
-lent : (c : tie.Else2) → let a = entered (tested (c .before)) .args in
+lent : (c : tie.Else2) → let a = entered (opened (c .before) .before) .args in
     tablesLent (a .rows .now) (a .versions .now) (a .buckets .now) (a .lists .now) (a .sizes) ≡ true
 lent c = sym (c .before .tables-lent .ensures) ∙ not-false _ (c .if2 .left)
 
-unlent : (c : tie.Then2) → let a = entered (tested (c .before)) .args in
+unlent : (c : tie.Then2) → let a = entered (opened (c .before) .before) .args in
     tablesLent (a .rows .now) (a .versions .now) (a .buckets .now) (a .lists .now) (a .sizes) ≡ false
 unlent c = sym (c .before .tables-lent .ensures) ∙ not-true _ (c .if2 .taken)
 
 -- so each has room to be cleared
-roomy : (c : tie.Else2) → let a = entered (tested (c .before)) .args in Roomy (a .rows .now) (a .versions .now) (a .buckets .now) (a .lists .now) (a .sizes)
+roomy : (c : tie.Else2) → let a = entered (opened (c .before) .before) .args in
+    Roomy (a .rows .now) (a .versions .now) (a .buckets .now) (a .lists .now) (a .sizes)
 roomy c = lent-roomy _ _ _ _ _ (lent c)
 
 -- the way back from each cleared table
@@ -79,7 +80,7 @@ same-length-3 c = search needs
 
 returns-2 : tie.Need-returns-2
 unfolding openOf
-returns-2 c = rw (openable (c .before .before .before .before .before .before), unlent (c .before), c .refused-open2 .ensures)
+returns-2 c = rw (openable (opened (c .before .before)), unlent (c .before), c .refused-open2 .ensures)
 
 mul-clear : tie.Need-mul-clear
 mul-clear c = let r = roomy (c .before) in omega arith
@@ -122,13 +123,13 @@ returns-3 c =
     let rows-cleared = versions-cleared .before .before .before .before in
     let passed = rows-cleared .before .before in
     rw (
-      openable (passed .before .before .before .before .before),
+      openable (opened (passed .before)),
       lent passed,
       c .fresh .ensures,
       rows-cleared .clear .ensures,
       versions-cleared .clear2 .ensures,
       buckets-cleared .clear3 .ensures,
-      add-one (entered (tested (passed .before)) .args .sizes .versions),
+      add-one (entered (opened (passed .before) .before) .args .sizes .versions),
     )
 
 pub open-spec : {M : Type 1} → statement M
