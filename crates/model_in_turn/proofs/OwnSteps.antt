@@ -11,8 +11,8 @@ use Rattle.base_limits.specs.Limits.{mostRows, mostIndexReads, mostRecords}
 use Rattle.base_lists.specs.Lists.{member, Among}
 use Rattle.base_lists.specs.Table.{update, update-same}
 use Rattle.base_lists.proofs.ListLaws.{among-left, among-last, which-pick}
-use Rattle.model.specs.Store.{Phase, Open, Holding, Collected, Prepared, Installed, Ended, IndexRead, Write, ReadRecord, Txn, Store, rank, phaseOpen, phaseHolding}
-use Rattle.model.specs.Store.{phaseCollected, phasePrepared, phaseInstalled, bucketIn, keyIn, bucketOf}
+use Rattle.model.specs.Store.{Open, Holding, Collected, Prepared, Installed, Ended, IndexRead, Write, ReadRecord, Txn, Store, rank, phaseOpen, phaseHolding}
+use Rattle.model.specs.Store.{Phase, phaseCollected, phasePrepared, phaseInstalled, bucketIn, keyIn, bucketOf}
 use Rattle.model.specs.Seeing.{versionOf, keyAt, pending, matches, Live}
 use Rattle.model.specs.Steps.{withPhase, becomes, hasRead, captured, collected, foundRows, recordsAfter, readTxn, readDone, written, readBuckets, neededBuckets}
 use Rattle.model.specs.Steps.{prepared, installed}
