@@ -8,7 +8,7 @@ use mathlib.Core.List.{List}
 use native.Mathlib.Omega.{arith}
 use lib.Dec.{eqb, leb}
 use lib.ListN.{length}
-use borrow.Author.Tests.{ne-eqb}
+use borrow.Author.Tests.{ne-eqb, le-leb}
 use Rattle.base_limits.specs.Limits.{mostLive}
 use Rattle.base_lists.specs.Table.{update}
 use Rattle.base_numbers.specs.Numbers.{oneMore}
@@ -32,7 +32,7 @@ use Rattle.txn.specs.View.{phaseView, rowsPart, versionsPart, bucketsPart, chai
 use Rattle.txn.specs.Methods.{idleOf, refusedOf}
 use Rattle.txn.specs.declared.Transaction.{Transaction}
 use Rattle.txn_places.proofs.Laws.{default-any}
-use Rattle.txn_needs.specs.Needs.{rowsWritten}
+use Rattle.txn_needs.specs.Needs.{writtenBy}
 use Rattle.finish_publish.specs.Publish.{publishOf, abortOf}
 use Rattle.step.specs.Steps.{Moved, publishStep, publishedFrom, inPublished, inAborted}
 use Rattle.step.specs.Words.{Words, view, txnAt, placeFor, Sized}
@@ -45,7 +45,7 @@ use Rattle.step_bridge.proofs.Freeing.{freedAt, clear-all, clear-length}
 use Rattle.step_bridge.proofs.Needing.{row-in}
 use Rattle.step_bridge.proofs.Pushing.{install-same}
 use Rattle.step_bridge.proofs.Aborting.{late-test, freedList, freed-in, freed-buckets, abort-chains, abort-index, ended-at}
-use Rattle.step_bridge.proofs.Publishing.{rowsAfter, bucketsAfter, stamped, stamped-is, freed-is, rows-long, buckets-long, publish-chains, publish-index}
+use Rattle.step_bridge.proofs.Publishing.{rowsAfter, bucketsAfter, stamped, stamped-is, rows-long, buckets-long, publish-chains, publish-index, phase-ended}
 use Rattle.step_bridge.proofs.Publishing.{holders-freed, claims-freed, clock-below}
 use Rattle.step_bridge.proofs.Writing.{end-same, put-same, erase-same}
 use Rattle.step_bridge.proofs.Judging.{validate-same}
@@ -129,8 +129,7 @@ module _ (w : Words) (z : Sized w) (g : Shaped w) (n : ℕ) where
       (cond b (record { reply = refusedOf (txnAt w (standing w n)) (refusalNumber WrongPhase); rows = w .tables .rows; buckets = w .tables .buckets })
       (record {
         reply = record { answer = tell.Done; txn = idleOf (txnAt w (standing w n) .slot) };
-        rows = clearClaims (w .tables .rows) (txnAt w (standing w n) .number)
-            (rowsWritten (w .tables .lists) (txnAt w (standing w n) .slot) (txnAt w (standing w n) .«writes_n»));
+        rows = clearClaims (w .tables .rows) (txnAt w (standing w n) .number) (writtenBy (w .tables .lists) (txnAt w (standing w n)));
         buckets = clearHolders (w .tables .buckets) (txnAt w (standing w n) .number) (freedList w (standing w n));
       }))
       (w .clock) (w .used) (w .tables)))
@@ -140,7 +139,7 @@ module _ (w : Words) (z : Sized w) (g : Shaped w) (n : ℕ) where
   aborted-at l a false =
       let q = standing w n in
       let v = txnAt w q .number in
-      let rs = rowsWritten (w .tables .lists) (txnAt w q .slot) (txnAt w q .«writes_n») in
+      let rs = writtenBy (w .tables .lists) (txnAt w q) in
       swept-at w z q l a _ _ tell.Done machine.Done (w .clock) (w .clock) _ _ _ refl (abort-chains w v rs) (abort-index w v rs (freedList w q))
       (swept-freed w z q l a _ _ rs (freedList w q)
       (clear-all bucketWords 1 (omega arith) (w .sizes .buckets) v (w .tables .buckets) (freedList w q) (freed-in w z g q a) (z .buckets))
@@ -153,7 +152,7 @@ module _ (w : Words) (z : Sized w) (g : Shaped w) (n : ℕ) where
       (λ l d e at.
       let q = standing w n in
       asker-same w z (ask.Abort n) q at l _ _
-      (rw (freed-buckets w q z, ← late-test (rank (phaseView (txnAt w q .phase))))
+      (rw (freed-buckets w q z (w .tables .buckets), ← late-test (rank (phaseView (txnAt w q .phase))))
       (aborted-at l (live-at w n d e) (leb phaseInstalled (rank (phaseView (txnAt w q .phase)))))))
 
   -- publish
@@ -177,7 +176,8 @@ module _ (w : Words) (z : Sized w) (g : Shaped w) (n : ℕ) where
   published-at l a false e =
       let q = standing w n in
       swept-at w z q l a _ _ (tell.Stamp (w .clock)) (machine.Stamp (w .clock)) (oneMore (w .clock)) (suc (w .clock)) _ _ _
-      (one-up (w .clock) (clock-below w g q l a)) (publish-chains w z q) (publish-index w z g q a)
+      (one-up (w .clock) (clock-below w g q l a)) (publish-chains w z q)
+      (publish-index w z g q a (le-leb phaseInstalled _ (phase-ended (phaseView (txnAt w q .phase)) e)))
       (swept-freed w z q l a _ _ _ _ (holders-freed w z g q a) (claims-freed w z g q a)) (rows-long w z q) (buckets-long w z q) refl refl
 
   publish-called : SameAs w (ask.Publish n) (calledBy w (ask.Publish n))
@@ -186,7 +186,7 @@ module _ (w : Words) (z : Sized w) (g : Shaped w) (n : ℕ) where
       (λ l d e at.
       let q = standing w n in
       asker-same w z (ask.Publish n) q at l _ _
-      (rw (stamped-is w z q, freed-is w z q (stamped w q))
+      (rw (stamped-is w z q, freed-buckets w q z (stamped w q))
       (published-at l (live-at w n d e) (not (eqb (rank (phaseView (txnAt w q .phase))) phaseEnded)) refl)))
 
 -- a step that ends no record is not swept

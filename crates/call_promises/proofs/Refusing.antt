@@ -35,7 +35,7 @@ use Rattle.txn.specs.declared.Transaction.{Transaction}
 use Rattle.txn_begin.specs.Begin.{spent, beginOf}
 use Rattle.finish_install.specs.Install.{installOf}
 use Rattle.finish_publish.specs.Publish.{endOf, publishOf, abortOf}
-use Rattle.txn_needs.specs.Needs.{front, rowsWritten}
+use Rattle.txn_needs.specs.Needs.{front}
 use Rattle.txn_needs.specs.Holders.{anyTaken, anyClaimed}
 use Rattle.write_verdict.specs.Judged.{verdictOf}
 use Rattle.write_prepare.specs.Prepare.{readsTakenIn, validateOf, isClear, lacks, neededInto, mostNeeded, prepareWith, prepareOf}
@@ -212,18 +212,17 @@ module _ (b : Tables) (p : Place) where
   validate-kept : (n : ℕ) → KeptBy (ask.Validate n) (doneBy b p (ask.Validate n))
   unfolding validateOf
   validate-kept n = guard (wrongPhase t phaseOpen) (λ e. rw e (inl refl))
-      (λ e. rw e (guard (readsTakenIn (b .buckets) (b .lists) (t .slot) (t .«reads_n») (t .number)) (λ e. rw e (inl refl)) (λ e. rw e refl)))
+      (λ e. rw e (guard (readsTakenIn (b .buckets) (b .lists) t) (λ e. rw e (inl refl)) (λ e. rw e refl)))
 
   prepare-kept : (n : ℕ) → KeptBy (ask.Prepare n) (doneBy b p (ask.Prepare n))
   unfolding prepareOf prepareWith
   prepare-kept n =
       guard (wrongPhase t phaseOpen) (λ e. rw e (inl refl))
-      (λ e. rw e (guard (anyTaken (b .buckets) (t .number)
-      (front (neededInto (b .rows) (b .versions) (b .lists) (z .buckets) (t .slot) (t .«reads_n») (t .«writes_n») (replicate mostNeeded 0))))
+      (λ e. rw e (guard (anyTaken (b .buckets) (front (neededInto (b .rows) (b .versions) (b .lists) (z .buckets) t (replicate mostNeeded 0))) (t .number))
       (λ e. rw e (inl refl))
-      (λ e. rw e (guard (anyClaimed (b .rows) (t .number) (rowsWritten (b .lists) (t .slot) (t .«writes_n»))) (λ e. rw e (inl refl))
+      (λ e. rw e (guard (anyClaimed (b .rows) (b .lists) t) (λ e. rw e (inl refl))
       (λ e. rw e (guard (isClear (verdictOf (b .versions) (b .buckets) (b .lists) t))
-      (λ e. rw e (guard (lacks (b .rows) (b .versions) (b .lists) (p .others .prepared) (t .slot) (t .«writes_n») used (z .versions)) (λ e. rw e (inl refl))
+      (λ e. rw e (guard (lacks (b .rows) (b .versions) (b .lists) (p .extent) (p .others .prepared) t) (λ e. rw e (inl refl))
       (λ e. rw e refl)))
       (λ e. rw e (inl refl))))))))
 

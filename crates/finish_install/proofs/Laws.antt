@@ -15,8 +15,8 @@ use Rattle.txn_needs.specs.Versions.{versionsInto}
 use Rattle.finish_install.specs.Install.{Chains, pushedRows, toInstall, installed, installOf}
 
 -- the right phase, the rows, and their versions
-pub install-made : (lists : List ℕ) (t : Transaction) (c c′ : Chains) (st : Listed) → eqb (rank (phaseView (t .phase))) 4 ≡ true → st
-    ≡ versionsInto (c .rows) (c .versions) lists (t .slot) (t .«writes_n») (replicate mostWrites 0)
-    → c′ ≡ pushedRows lists (t .slot) (t .«writes_n») (t .number) c (take (st .n) (st .out)) → installed t c′ ≡ installOf lists t c
+pub install-made : (c : Chains) (lists : List ℕ) (t : Transaction) (c′ : Chains) (st : Listed) → eqb (rank (phaseView (t .phase))) 4 ≡ true
+    → st ≡ versionsInto (c .rows) (c .versions) lists (t .slot) (t .«writes_n») (replicate mostWrites 0)
+    → c′ ≡ pushedRows c lists t (take (st .n) (st .out)) → installed t c′ ≡ installOf c lists t
 unfolding installOf toInstall
-install-made lists t c c′ st p e m = rw (p, m, e)
+install-made c lists t c′ st p e m = rw (p, m, e)

@@ -42,16 +42,18 @@ pub record Chains : Type 0 where
   pub used : ℕ
 
 -- one row: the new version is its head, and the old head's xmax = number
-unfoldable pub pushedRow : List ℕ → ℕ → ℕ → ℕ → Chains → ℕ → Chains
-pushedRow lists slot n number c r = record {
+unfoldable pub pushedRow : Chains → List ℕ → Transaction → ℕ → Chains
+pushedRow c lists t r = record {
   rows = setHead (c .rows) r (oneMore (c .used));
-  versions = setXmax (versionStored (c .versions) (oneMore (c .used)) number (headOf (c .rows) r) (lastWriteOf lists slot n r)) (headOf (c .rows) r) number;
+  versions = setXmax
+      (versionStored (c .versions) (oneMore (c .used)) (t .number) (headOf (c .rows) r) (lastWriteOf lists (t .slot) (t .«writes_n») r))
+      (headOf (c .rows) r) (t .number);
   used = oneMore (c .used);
 }
 
-unfoldable pub pushedRows : List ℕ → ℕ → ℕ → ℕ → Chains → List ℕ → Chains
-pushedRows lists slot n number c [] = c
-pushedRows lists slot n number c (r ∷ rs) = pushedRows lists slot n number (pushedRow lists slot n number c r) rs
+unfoldable pub pushedRows : Chains → List ℕ → Transaction → List ℕ → Chains
+pushedRows c lists t [] = c
+pushedRows c lists t (r ∷ rs) = pushedRows (pushedRow c lists t r) lists t rs
 
 -- all that install leaves
 pub record Left : Type 0 where
@@ -60,15 +62,15 @@ pub record Left : Type 0 where
   pub versions : List ℕ
 
 -- the distinct pending rows of a transaction that get a version, as install lists them
-unfoldable pub toInstall : List ℕ → Transaction → Chains → Listed
-toInstall lists t c = versionsInto (c .rows) (c .versions) lists (t .slot) (t .«writes_n») (replicate mostWrites 0)
+unfoldable pub toInstall : Chains → List ℕ → Transaction → Listed
+toInstall c lists t = versionsInto (c .rows) (c .versions) lists (t .slot) (t .«writes_n») (replicate mostWrites 0)
 
 abbrev pub installed : Transaction → Chains → Left
 installed t c = record { reply = record { answer = tell.Done; txn = withPhase t phase.Installed; used = c .used }; rows = c .rows; versions = c .versions }
 
 -- wrong phase; else each of those rows gets its version
-unfoldable pub installOf : List ℕ → Transaction → Chains → Left
-installOf lists t c =
+unfoldable pub installOf : Chains → List ℕ → Transaction → Left
+installOf c lists t =
     cond (not (eqb (rank (phaseView (t .phase))) phasePrepared))
     (record { reply = record { answer = tell.Refused (refusalNumber WrongPhase); txn = t; used = c .used }; rows = c .rows; versions = c .versions })
-    (installed t (pushedRows lists (t .slot) (t .«writes_n») (t .number) c (front (toInstall lists t c))))
+    (installed t (pushedRows c lists t (front (toInstall c lists t))))

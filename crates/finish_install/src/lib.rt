@@ -64,20 +64,18 @@ fn push_row(
     rows: &mut [u64],
     versions: &mut [u64],
     lists: &[u64],
-    slot: u32,
-    count: u32,
-    number: u64,
+    t: Transaction,
     row: u64,
     used: u64,
 ) -> u64
     ensures { λ r. ⌜ record { rows = now (rows .exit); versions = now (versions .exit); used = r }
-        ≡ pushedRow (now (lists .entry)) slot count number (record { rows = now (rows .entry); versions = now (versions .entry); used = used }) row ⌝ }
+        ≡ pushedRow (record { rows = now (rows .entry); versions = now (versions .entry); used = used }) (now (lists .entry)) t row ⌝ }
 {
     let p = one_more(used);
     let head = head_at(rows, row as usize);
-    let w = last_write(lists, slot, count, row);
-    store_version(versions, p as usize, number, head, w);
-    set_xmax(versions, head as usize, number);
+    let w = last_write(lists, t.slot, t.writes_n, row);
+    store_version(versions, p as usize, t.number, head, w);
+    set_xmax(versions, head as usize, t.number);
     set_head(rows, row as usize, p);
     p
 }
@@ -87,16 +85,14 @@ fn push_all_rows(
     rows: &mut [u64],
     versions: &mut [u64],
     lists: &[u64],
-    slot: u32,
-    count: u32,
-    number: u64,
+    t: Transaction,
     list: &[u64],
     n: usize,
     used: u64,
 ) -> u64
     ensures { λ r. ⌜ record { rows = now (rows .exit); versions = now (versions .exit); used = r }
-        ≡ pushedRows (now (lists .entry)) slot count number (record { rows = now (rows .entry); versions = now (versions .entry); used = used })
-        (take n (now (list .entry))) ⌝ }
+        ≡ pushedRows (record { rows = now (rows .entry); versions = now (versions .entry); used = used }) (now (lists .entry)) t (take n (now (list .entry)))
+        ⌝ }
 {
     let mut last = used;
     let mut i = 0;
@@ -104,7 +100,7 @@ fn push_all_rows(
         if n <= i {
             return last;
         }
-        last = push_row(rows, versions, lists, slot, count, number, list[i], last);
+        last = push_row(rows, versions, lists, t, list[i], last);
         i += 1;
     }
     last
@@ -119,7 +115,7 @@ pub fn install(
     t: Transaction,
 ) -> Installed
     ensures { λ r. ⌜ record { reply = r; rows = now (rows .exit); versions = now (versions .exit) }
-        ≡ installOf (now (lists .entry)) t (record { rows = now (rows .entry); versions = now (versions .entry); used = used }) ⌝ }
+        ≡ installOf (record { rows = now (rows .entry); versions = now (versions .entry); used = used }) (now (lists .entry)) t ⌝ }
 {
     let phase = t.phase;
     if phase_rank(phase) != PREPARED {
@@ -131,17 +127,7 @@ pub fn install(
     }
     let mut list = [0u64; MOST_PENDING];
     let n = version_rows(rows, versions, lists, t.slot, t.writes_n, &mut list);
-    let last = push_all_rows(
-        rows,
-        versions,
-        lists,
-        t.slot,
-        t.writes_n,
-        t.number,
-        &list,
-        n,
-        used,
-    );
+    let last = push_all_rows(rows, versions, lists, t, &list, n, used);
     let txn = t.with_phase(Phase::Installed);
     Installed {
         answer: Answer::Done,

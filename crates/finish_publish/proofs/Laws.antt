@@ -2,9 +2,12 @@
 -- Assumes nothing.
 use Prim.Native.Nat.{ℕ}
 use mathlib.Core.Path.{_≡_}
-use mathlib.Core.Bool.{Bool}
 use mathlib.Core.List.{List, [], _∷_, _++_}
 use lib.ListN.{take, replicate}
+use Rattle.model.specs.Store.{bucketIn}
+use Rattle.base_protocol.specs.declared.Extent.{Extent}
+use Rattle.txn.specs.View.{phaseView}
+use Rattle.txn.specs.declared.Transaction.{Transaction}
 use Rattle.txn_needs.specs.Needs.{Listed, pushOne, pushAll, readsNeed, writesNeed, writesChange}
 use Rattle.table.specs.Fields.{clearHolders, setStamps}
 use Rattle.txn_needs.proofs.Laws.{push-append}
@@ -16,17 +19,17 @@ three : (st₀ st₁ st₂ st₃ : Listed) (x : ℕ) (xs ys : List ℕ) → st�
 unfolding pushAll
 three st₀ st₁ st₂ st₃ x xs ys a b d = rw (d, b, a, push-append)
 
-module _ (rows versions lists : List ℕ) (count : ℕ) where
-  pub freed-made : (installed : Bool) (bucket slot reads writes number : ℕ) (buckets : List ℕ) (st₁ st₂ st₃ : Listed)
-      → st₁ ≡ pushOne (record { out = replicate mostHeld 0; n = 0 }) bucket
-      → st₂ ≡ pushAll st₁ (readsNeed lists slot reads)
-      → st₃ ≡ pushAll st₂ (writesNeed rows versions lists count installed slot writes)
-      → clearHolders buckets number (take (st₃ .n) (st₃ .out)) ≡ freedIn rows versions lists count installed bucket slot reads writes number buckets
+module _ (rows versions buckets lists : List ℕ) where
+  pub freed-made : (count : ℕ) (t : Transaction) (st₁ st₂ st₃ : Listed)
+      → st₁ ≡ pushOne (record { out = replicate mostHeld 0; n = 0 }) (bucketIn (phaseView (t .phase)))
+      → st₂ ≡ pushAll st₁ (readsNeed lists t)
+      → st₃ ≡ pushAll st₂ (writesNeed rows versions lists count t)
+      → clearHolders buckets (t .number) (take (st₃ .n) (st₃ .out)) ≡ freedIn rows versions buckets lists count t
   unfolding freedIn neededIn
-  freed-made installed bucket slot reads writes number buckets st₁ st₂ st₃ a b d = rw (three _ st₁ st₂ st₃ bucket _ _ a b d)
+  freed-made count t st₁ st₂ st₃ a b d = rw (three _ st₁ st₂ st₃ _ _ _ a b d)
 
-  pub stamped-made : (number slot writes stamp : ℕ) (buckets : List ℕ) (st : Listed)
-      → st ≡ pushAll (record { out = replicate mostHeld 0; n = 0 }) (writesChange rows versions lists count number slot writes)
-      → setStamps buckets stamp (take (st .n) (st .out)) ≡ stampedIn rows versions lists count number slot writes stamp buckets
+  pub stamped-made : (e : Extent) (t : Transaction) (st : Listed)
+      → st ≡ pushAll (record { out = replicate mostHeld 0; n = 0 }) (writesChange rows versions lists (e .sizes .buckets) t)
+      → setStamps buckets (e .clock) (take (st .n) (st .out)) ≡ stampedIn rows versions buckets lists e t
   unfolding stampedIn
-  stamped-made number slot writes stamp buckets st e = rw e
+  stamped-made e t st d = rw d

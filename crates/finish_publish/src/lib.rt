@@ -2,6 +2,7 @@
 use base_limits::MOST_INDEX_READS;
 use base_limits::MOST_WRITES;
 use base_protocol::Answer;
+use base_protocol::Extent;
 use base_protocol::WRONG_PHASE;
 use table::lists::write_row_at;
 use table::set_posted;
@@ -24,7 +25,7 @@ use txn_needs::push_writes;
 use txn_needs::release_all;
 use txn_needs::unclaim_all;
 ghost use mathlib.Core.Path.{_≡_};
-ghost use Rattle.txn_needs.specs.Needs.{rowsWritten};
+ghost use Rattle.txn_needs.specs.Needs.{writtenBy};
 ghost use Rattle.finish_publish.specs.Publish.{endOf, postedOne, postedAll, stampedIn, freedIn, publishOf, abortOf};
 
 // Words for the buckets of all index reads and of the old and the new keys of all pending writes, and for the one that Holding carries.
@@ -45,53 +46,41 @@ pub fn end(t: Transaction) -> Answered
 }
 
 // The posting of one row follows its new key.
-fn post(rows: &mut [u64], lists: &[u64], slot: u32, count: u32, row: u64)
-    ensures { λ _. ⌜ now (rows .exit) ≡ postedOne (now (lists .entry)) slot count (now (rows .entry)) row ⌝ }
+fn post(rows: &mut [u64], lists: &[u64], t: Transaction, row: u64)
+    ensures { λ _. ⌜ now (rows .exit) ≡ postedOne (now (rows .entry)) (now (lists .entry)) t row ⌝ }
 {
-    let key = new_key(lists, slot, count, row);
+    let key = new_key(lists, t.slot, t.writes_n, row);
     set_posted(rows, row as usize, key.keyed);
     set_posted_key(rows, row as usize, key.key);
 }
 
 // Postings follow the new keys.
-fn post_all(rows: &mut [u64], lists: &[u64], slot: u32, count: u32)
-    ensures { λ _. ⌜ now (rows .exit) ≡ postedAll (now (lists .entry)) slot count (now (rows .entry)) (rowsWritten (now (lists .entry)) slot count) ⌝ }
+fn post_all(rows: &mut [u64], lists: &[u64], t: Transaction)
+    ensures { λ _. ⌜ now (rows .exit) ≡ postedAll (now (rows .entry)) (now (lists .entry)) t (writtenBy (now (lists .entry)) t) ⌝ }
 {
     let mut i: u32 = 0;
-    while i < count {
-        post(rows, lists, slot, count, write_row_at(lists, slot, i));
+    while i < t.writes_n {
+        post(rows, lists, t, write_row_at(lists, t.slot, i));
         i += 1;
     }
 }
 
-// Only where a version was made and old and new key differ do both their buckets get the stamp.
+// Only where a version was made and old and new key differ do both their buckets get the clock as their stamp.
 fn stamp_changes(
     rows: &[u64],
     versions: &[u64],
     buckets: &mut [u64],
     lists: &[u64],
-    bucket_count: u64,
-    number: u64,
-    slot: u32,
-    count: u32,
-    stamp: u64,
+    extent: Extent,
+    t: Transaction,
 )
-    ensures { λ _. ⌜ now (buckets .exit) ≡ stampedIn (now (rows .entry)) (now (versions .entry)) (now (lists .entry)) «bucket_count» number slot count
-        stamp (now (buckets .entry)) ⌝ }
+    ensures { λ _. ⌜ now (buckets .exit)
+        ≡ stampedIn (now (rows .entry)) (now (versions .entry)) (now (buckets .entry)) (now (lists .entry)) extent t ⌝ }
 {
+    let sizes = extent.sizes;
     let mut list = [0u64; MOST_HELD];
-    let n = push_changes(
-        rows,
-        versions,
-        lists,
-        bucket_count,
-        number,
-        slot,
-        count,
-        &mut list,
-        0,
-    );
-    set_stamps(buckets, &list, n, stamp);
+    let n = push_changes(rows, versions, lists, sizes.buckets, t, &mut list);
+    set_stamps(buckets, &list, n, extent.clock);
 }
 
 // Frees what the transaction needs of the buckets: the one that Holding carries, the index reads', the old and the new keys'.
@@ -101,31 +90,17 @@ fn free_needed(
     buckets: &mut [u64],
     lists: &[u64],
     bucket_count: u64,
-    installed: bool,
-    bucket: u64,
-    slot: u32,
-    reads_n: u32,
-    writes_n: u32,
-    number: u64,
+    t: Transaction,
 )
-    ensures { λ _. ⌜ now (buckets .exit) ≡ freedIn (now (rows .entry)) (now (versions .entry)) (now (lists .entry)) «bucket_count» installed bucket slot
-        «reads_n» «writes_n» number (now (buckets .entry)) ⌝ }
+    ensures { λ _. ⌜ now (buckets .exit)
+        ≡ freedIn (now (rows .entry)) (now (versions .entry)) (now (buckets .entry)) (now (lists .entry)) «bucket_count» t ⌝ }
 {
+    let phase = t.phase;
     let mut list = [0u64; MOST_HELD];
-    let held = push(&mut list, 0, bucket);
-    let read = push_reads(lists, slot, reads_n, &mut list, held);
-    let n = push_writes(
-        rows,
-        versions,
-        lists,
-        bucket_count,
-        installed,
-        slot,
-        writes_n,
-        &mut list,
-        read,
-    );
-    release_all(buckets, &list, n, number);
+    let held = push(&mut list, 0, bucket_in(phase));
+    let read = push_reads(lists, t, &mut list, held);
+    let n = push_writes(rows, versions, lists, bucket_count, t, &mut list, read);
+    release_all(buckets, &list, n, t.number);
 }
 
 // Publish (Ended): the stamp is the clock; buckets and claims are freed, the record ends.
@@ -134,45 +109,23 @@ pub fn publish(
     versions: &[u64],
     buckets: &mut [u64],
     lists: &[u64],
-    bucket_count: u64,
-    clock: u64,
+    extent: Extent,
     t: Transaction,
 ) -> Answered
-    ensures { λ r. ⌜ record { reply = r; rows = now (rows .exit); buckets = now (buckets .exit) } ≡ publishOf (now (versions .entry)) (now (lists .entry))
-        «bucket_count» clock t (now (rows .entry)) (now (buckets .entry)) ⌝ }
+    ensures { λ r. ⌜ record { reply = r; rows = now (rows .exit); buckets = now (buckets .exit) }
+        ≡ publishOf (now (rows .entry)) (now (versions .entry)) (now (buckets .entry)) (now (lists .entry)) extent t ⌝ }
 {
     let phase = t.phase;
+    let sizes = extent.sizes;
     if phase_rank(phase) != ENDED {
         return refused(t, WRONG_PHASE);
     }
-    stamp_changes(
-        rows,
-        versions,
-        buckets,
-        lists,
-        bucket_count,
-        t.number,
-        t.slot,
-        t.writes_n,
-        clock,
-    );
-    free_needed(
-        rows,
-        versions,
-        buckets,
-        lists,
-        bucket_count,
-        true,
-        bucket_in(phase),
-        t.slot,
-        t.reads_n,
-        t.writes_n,
-        t.number,
-    );
-    post_all(rows, lists, t.slot, t.writes_n);
-    unclaim_all(rows, lists, t.slot, t.writes_n, t.number);
+    stamp_changes(rows, versions, buckets, lists, extent, t);
+    free_needed(rows, versions, buckets, lists, sizes.buckets, t);
+    post_all(rows, lists, t);
+    unclaim_all(rows, lists, t);
     Answered {
-        answer: Answer::Stamp(clock),
+        answer: Answer::Stamp(extent.clock),
         txn: idle(t.slot),
     }
 }
@@ -186,27 +139,15 @@ pub fn abort(
     bucket_count: u64,
     t: Transaction,
 ) -> Answered
-    ensures { λ r. ⌜ record { reply = r; rows = now (rows .exit); buckets = now (buckets .exit) } ≡ abortOf (now (versions .entry)) (now (lists .entry))
-        «bucket_count» t (now (rows .entry)) (now (buckets .entry)) ⌝ }
+    ensures { λ r. ⌜ record { reply = r; rows = now (rows .exit); buckets = now (buckets .exit) }
+        ≡ abortOf (now (rows .entry)) (now (versions .entry)) (now (buckets .entry)) (now (lists .entry)) «bucket_count» t ⌝ }
 {
     let phase = t.phase;
     if phase_rank(phase) >= INSTALLED {
         return refused(t, WRONG_PHASE);
     }
-    free_needed(
-        rows,
-        versions,
-        buckets,
-        lists,
-        bucket_count,
-        false,
-        bucket_in(phase),
-        t.slot,
-        t.reads_n,
-        t.writes_n,
-        t.number,
-    );
-    unclaim_all(rows, lists, t.slot, t.writes_n, t.number);
+    free_needed(rows, versions, buckets, lists, bucket_count, t);
+    unclaim_all(rows, lists, t);
     Answered {
         answer: Answer::Done,
         txn: idle(t.slot),

@@ -11,8 +11,7 @@ use Rattle.step.specs.declared.Stepped.{Stepped}
 use Rattle.step.specs.Steps.{Published, withClock, clockAfter, publishStep}
 
 pub published : (rows₀ versions buckets₀ lists : List ℕ) (e : Extent) (t : Transaction) (rows buckets : List ℕ) (a : Answered) (after : ℕ) (r : Stepped)
-    → _≡_ {A = publish.Left} (record { reply = a; rows = rows; buckets = buckets })
-    (publish.publishOf versions lists (e .sizes .buckets) (e .clock) t rows₀ buckets₀)
+    → _≡_ {A = publish.Left} (record { reply = a; rows = rows; buckets = buckets }) (publish.publishOf rows₀ versions buckets₀ lists e t)
     → after ≡ clockAfter (a .answer) (e .clock) → r ≡ withClock a after (e .used)
     → _≡_ {A = Published} (record { stepped = r; rows = rows; buckets = buckets }) (publishStep rows₀ versions buckets₀ lists e t)
 unfolding publishStep

@@ -52,8 +52,7 @@ abbrev pub publishedFrom : publish.Left → ℕ → ℕ → Published
 publishedFrom l clock used = record { stepped = withClock (l .reply) (clockAfter (l .reply .answer) clock) used; rows = l .rows; buckets = l .buckets }
 
 unfoldable pub publishStep : List ℕ → List ℕ → List ℕ → List ℕ → Extent → Transaction → Published
-publishStep rows versions buckets lists e t =
-    publishedFrom (publish.publishOf versions lists (e .sizes .buckets) (e .clock) t rows buckets) (e .clock) (e .used)
+publishStep rows versions buckets lists e t = publishedFrom (publish.publishOf rows versions buckets lists e t) (e .clock) (e .used)
 
 -- the lent tables, and the lent row list
 pub record Tables : Type 0 where
@@ -125,15 +124,15 @@ doneBy b p (ask.Erase n r) =
     inLists (methods.writeOf (p .txn) (b .lists) (p .extent .sizes .rows) (record { row = r; keyed = 0; key = 0; payload = 0 })) (p .extent .clock)
     (p .extent .used) b
 doneBy b p (ask.Prepare n) =
-    inPrepared (prepare.prepareOf (b .versions) (b .lists) (p .extent .sizes .buckets) (p .extent .sizes .versions) (p .extent .used) (p .others .prepared)
-    (p .txn) (b .rows) (b .buckets)) (p .extent .clock) (p .extent .used) b
+    inPrepared (prepare.prepareOf (b .rows) (b .versions) (b .buckets) (b .lists) (p .extent) (p .others .prepared) (p .txn)) (p .extent .clock)
+    (p .extent .used) b
 doneBy b p (ask.Install n) =
-    inInstalled (install.installOf (b .lists) (p .txn) (record { rows = b .rows; versions = b .versions; used = p .extent .used })) (p .extent .clock) b
+    inInstalled (install.installOf (record { rows = b .rows; versions = b .versions; used = p .extent .used }) (b .lists) (p .txn)) (p .extent .clock) b
 doneBy b p (ask.End n) = stays (withClock (publish.endOf (p .txn)) (p .extent .clock) (p .extent .used)) b
 doneBy b p (ask.Publish n) = inPublished (publishStep (b .rows) (b .versions) (b .buckets) (b .lists) (p .extent) (p .txn)) b
 doneBy b p (ask.Validate n) = stays (withClock (prepare.validateOf (b .versions) (b .buckets) (b .lists) (p .txn)) (p .extent .clock) (p .extent .used)) b
 doneBy b p (ask.Abort n) =
-    inAborted (publish.abortOf (b .versions) (b .lists) (p .extent .sizes .buckets) (p .txn) (b .rows) (b .buckets)) (p .extent .clock) (p .extent .used) b
+    inAborted (publish.abortOf (b .rows) (b .versions) (b .buckets) (b .lists) (p .extent .sizes .buckets) (p .txn)) (p .extent .clock) (p .extent .used) b
 
 -- no live transaction has this number; else the step
 unfoldable pub stepOf : Tables → Place → Step → Moved

@@ -103,16 +103,7 @@ fn step_publish(
     ensures { λ r. ⌜ record { stepped = r; rows = now (rows .exit); buckets = now (buckets .exit) }
         ≡ publishStep (now (rows .entry)) (now (versions .entry)) (now (buckets .entry)) (now (lists .entry)) extent t ⌝ }
 {
-    let sizes = extent.sizes;
-    let a = publish(
-        rows,
-        versions,
-        buckets,
-        lists,
-        sizes.buckets,
-        extent.clock,
-        t,
-    );
+    let a = publish(rows, versions, buckets, lists, extent, t);
     let answer = a.answer;
     let after = published_clock(answer, extent.clock);
     with_clock(a, after, extent.used)
@@ -188,17 +179,7 @@ pub fn step(
         } => with_clock(t.put(lists, sizes.rows, row, key, payload), clock, used),
         Step::Erase { number: _, row } => with_clock(t.erase(lists, sizes.rows, row), clock, used),
         Step::Prepare { number: _ } => with_clock(
-            prepare(
-                rows,
-                versions,
-                buckets,
-                lists,
-                sizes.buckets,
-                sizes.versions,
-                used,
-                prepared,
-                t,
-            ),
+            prepare(rows, versions, buckets, lists, extent, prepared, t),
             clock,
             used,
         ),

@@ -37,8 +37,9 @@ use Rattle.txn.specs.View.{phaseView, rowsPart, versionsPart, bucketsPart, chai
 use Rattle.txn.specs.Methods.{idleOf, refusedOf}
 use Rattle.txn.specs.declared.Transaction.{Transaction}
 use Rattle.txn_needs.specs.declared.Key.{Key}
-use Rattle.txn_needs.specs.Keys.{oldKeyOf, newKeyOf}
-use Rattle.txn_needs.specs.Needs.{bucketsFor, readsNeed, rowsWritten, writeNeeds}
+use Rattle.txn_needs.specs.declared.Keys.{Keys}
+use Rattle.txn_needs.specs.Keys.{keysOf}
+use Rattle.txn_needs.specs.Needs.{bucketsFor, keysNeed, readsNeed, writtenBy}
 use Rattle.table.specs.Fields.{rowWords, bucketWords, clearHolders, clearClaims}
 use Rattle.finish_publish.specs.Publish.{neededIn, freedIn, abortOf}
 use Rattle.step.specs.Steps.{inAborted}
@@ -51,7 +52,7 @@ use Rattle.step_bridge.proofs.Listing.{listed-all}
 use Rattle.step_bridge.proofs.Judging.{needs-length, read-in}
 use Rattle.step_bridge.proofs.Tabled.{InRange}
 use Rattle.step_bridge.proofs.Freeing.{freed-release, clear-all, clear-other, clear-length}
-use Rattle.step_bridge.proofs.Needing.{listedNeeds, row-in, pending-row, needed-listed}
+use Rattle.step_bridge.proofs.Needing.{rowNeeds, listedNeeds, row-in, pending-row, needed-listed}
 
 -- one bucket for a key, at most, and in range
 for-few : (count : ℕ) (k : Key) → length (bucketsFor count k) ≤ 1
@@ -76,25 +77,21 @@ unfolding join
 join-few f [] h = omega arith
 join-few f (r ∷ rs) h = rw (length-append (f r) (join f rs)) (omega (arith, h r, join-few f rs h))
 
-pub needs-few : (rows versions xs : List ℕ) (count : ℕ) (installed : Bool) (slot n r : ℕ) → length (writeNeeds rows versions xs count installed slot n r) ≤ 2
-unfolding writeNeeds
-needs-few rows versions xs count installed slot n r =
-    rw length-append (omega (arith, for-few count (oldKeyOf rows versions installed r), for-few count (newKeyOf xs slot n r)))
+pub needs-few : (count : ℕ) (k : Keys) → length (keysNeed count k) ≤ 2
+unfolding keysNeed
+needs-few count k = rw length-append (omega (arith, for-few count (k .old), for-few count (k .new)))
 
-pub needs-in : (rows versions xs : List ℕ) (count : ℕ) (installed : Bool) (slot n r : ℕ) → 1 ≤ count
-    → InRange count (writeNeeds rows versions xs count installed slot n r)
-unfolding writeNeeds
-needs-in rows versions xs count installed slot n r h i m =
-    let old = oldKeyOf rows versions installed r in
-    let new = newKeyOf xs slot n r in
-    ⊎-elim (λ a. for-in count old h i a) (λ a. for-in count new h i a) (among-cases i (bucketsFor count old) (bucketsFor count new) m)
+pub needs-in : (count : ℕ) (k : Keys) → 1 ≤ count → InRange count (keysNeed count k)
+unfolding keysNeed
+needs-in count k h i m =
+    ⊎-elim (λ a. for-in count (k .old) h i a) (λ a. for-in count (k .new) h i a) (among-cases i (bucketsFor count (k .old)) (bucketsFor count (k .new)) m)
 
 -- wrong phase, as both test it
 pub late-test : (r : ℕ) → leb 5 r ≡ not (ltb r 5)
 late-test r = elim (decLt r 5) [ yes l ↦ rw (lt-leb 5 r l, lt-ltb r 5 l) | no l ↦ let h : 5 ≤ r = omega (arith, l) in rw (le-leb 5 r h, le-ltb r 5 h) ]
 
 module _ (w : Words) (p : ℕ) where
-  pub writes-few : length (rowsWritten (w .tables .lists) (txnAt w p .slot) (txnAt w p .«writes_n»)) ≡ txnAt w p .«writes_n»
+  pub writes-few : length (writtenBy (w .tables .lists) (txnAt w p)) ≡ txnAt w p .«writes_n»
   writes-few = length-map (lists.writesOf (w .tables .lists) (txnAt w p .slot) (txnAt w p .«writes_n»)) (λ (x : Write). x .row)
       ∙ list-length lists.writeOf (lists.writes .w) (lists.startOf lists.writes (txnAt w p .slot)) (w .tables .lists) (txnAt w p .«writes_n»)
 
@@ -108,21 +105,19 @@ module _ (w : Words) (p : ℕ) where
         s .writes,
         writes-few,
         needs-length (w .tables .lists) (txnAt w p),
-        join-few (writeNeeds (w .tables .rows) (w .tables .versions) (w .tables .lists) (w .sizes .buckets) false (txnAt w p .slot)
-            (txnAt w p .«writes_n»)) (rowsWritten (w .tables .lists) (txnAt w p .slot) (txnAt w p .«writes_n»))
-            (λ r. needs-few (w .tables .rows) (w .tables .versions) (w .tables .lists) (w .sizes .buckets) false (txnAt w p .slot) (txnAt w p .«writes_n») r),
+        join-few (rowNeeds w p) (writtenBy (w .tables .lists) (txnAt w p))
+            (λ r. needs-few (w .sizes .buckets) (keysOf (w .tables .rows) (w .tables .versions) (w .tables .lists) (txnAt w p) r)),
       ))
 
-  -- the buckets that abort frees
+  -- the buckets that an abort or a publish frees
   abbrev pub freedList : List ℕ
   freedList = bucketIn (phaseView (txnAt w p .phase)) ∷ listedNeeds w p
 
-  pub freed-buckets : Sized w
-      → freedIn (w .tables .rows) (w .tables .versions) (w .tables .lists) (w .sizes .buckets) false (bucketIn (phaseView (txnAt w p .phase)))
-      (txnAt w p .slot) (txnAt w p .«reads_n») (txnAt w p .«writes_n») (txnAt w p .number) (w .tables .buckets)
-      ≡ clearHolders (w .tables .buckets) (txnAt w p .number) freedList
+  pub freed-buckets : Sized w → (bs : List ℕ)
+      → freedIn (w .tables .rows) (w .tables .versions) bs (w .tables .lists) (w .sizes .buckets) (txnAt w p)
+      ≡ clearHolders bs (txnAt w p .number) freedList
   unfolding freedIn neededIn
-  freed-buckets z = ap (λ (bs : List ℕ). clearHolders (w .tables .buckets) (txnAt w p .number) bs) (listed-all 49 freedList (omega (arith, listed-few z)))
+  freed-buckets z bs = ap (λ (hs : List ℕ). clearHolders bs (txnAt w p .number) hs) (listed-all 49 freedList (omega (arith, listed-few z)))
 
 pub count-pos : (w : Words) → Shaped w → 1 ≤ w .sizes .buckets
 count-pos w g = good-sized (view w .sizes) (g .sizes) .buckets-pos
@@ -131,14 +126,11 @@ module _ (w : Words) (z : Sized w) (g : Shaped w) (p : ℕ) (l : 1 ≤ txnAt w p
   -- what is listed is in range
   pub listed-in : InRange (w .sizes .buckets) (listedNeeds w p)
   listed-in b m =
-      let needs-of = writeNeeds (w .tables .rows) (w .tables .versions) (w .tables .lists) (w .sizes .buckets) false (txnAt w p .slot)
-      (txnAt w p .«writes_n») in
-      let rs = rowsWritten (w .tables .lists) (txnAt w p .slot) (txnAt w p .«writes_n») in
+      let rs = writtenBy (w .tables .lists) (txnAt w p) in
       ⊎-elim (λ n. read-in w z g p l b n)
-      (λ n. let a = join-which needs-of rs b n in
-      needs-in (w .tables .rows) (w .tables .versions) (w .tables .lists) (w .sizes .buckets) false (txnAt w p .slot) (txnAt w p .«writes_n») (a .0)
-      (count-pos w g) b (a .2))
-      (among-cases b (readsNeed (w .tables .lists) (txnAt w p .slot) (txnAt w p .«reads_n»)) (join needs-of rs) m)
+      (λ n. let a = join-which (rowNeeds w p) rs b n in
+      needs-in (w .sizes .buckets) (keysOf (w .tables .rows) (w .tables .versions) (w .tables .lists) (txnAt w p) (a .0)) (count-pos w g) b (a .2))
+      (among-cases b (readsNeed (w .tables .lists) (txnAt w p)) (join (rowNeeds w p) rs) m)
 
   pub freed-in : InRange (w .sizes .buckets) (freedList w p)
   freed-in b (inl e) = rw e (g .in-store p l .bucket-in)
@@ -155,7 +147,7 @@ module _ (w : Words) (z : Sized w) (g : Good (view w)) (p : ℕ) (l : 1 ≤ txnA
     where
       wanted : Wants (view w .sizes) (view w .index .posted) (view w .txns p) b → Among b (freedList w p)
       wanted (inl h) = inl (sym (ap bucketIn (h .1)))
-      wanted (inr h) = inr (needed-listed w z sh p l b
+      wanted (inr h) = inr (needed-listed w z sh p l (lt-leb phaseInstalled _ r) b
           (rw (join-same (λ q. keyBuckets (view w .sizes) (view w .index .posted q) ++ keyBuckets (view w .sizes) (newKey (view w .txns p) q))
           (λ q. keyBuckets (view w .sizes) (oldKey (view w .chains) q) ++ keyBuckets (view w .sizes) (newKey (view w .txns p) q))
           (pendingRows (view w .sizes) (view w .txns p .writes))
@@ -165,7 +157,7 @@ module _ (w : Words) (z : Sized w) (g : Good (view w)) (p : ℕ) (l : 1 ≤ txnA
           → Among b (freedList w p)
       by o = wanted (rw (g .numbers .distinct p (o .0) l (sym e ∙ o .1)) (o .2))
 
-  pub own-rows : (r : ℕ) → view w .held .claim r ≡ txnAt w p .number → Among r (rowsWritten (w .tables .lists) (txnAt w p .slot) (txnAt w p .«writes_n»))
+  pub own-rows : (r : ℕ) → view w .held .claim r ≡ txnAt w p .number → Among r (writtenBy (w .tables .lists) (txnAt w p))
   own-rows r e =
       let o = g .holders .claims .owner r (λ q. omega (arith, q)) in
       let d = g .numbers .distinct p (o .0) l (sym e ∙ o .1) in
@@ -174,12 +166,12 @@ module _ (w : Words) (z : Sized w) (g : Good (view w)) (p : ℕ) (l : 1 ≤ txnA
   -- the words after freeing, as the model has them
   abort-held : rank (phaseView (txnAt w p .phase)) < phaseInstalled
       → heldView (rowsPart (sizesView (w .sizes))
-      (clearClaims (w .tables .rows) (txnAt w p .number) (rowsWritten (w .tables .lists) (txnAt w p .slot) (txnAt w p .«writes_n»))))
+      (clearClaims (w .tables .rows) (txnAt w p .number) (writtenBy (w .tables .lists) (txnAt w p))))
       (bucketsPart (sizesView (w .sizes)) (clearHolders (w .tables .buckets) (txnAt w p .number) (freedList w p)))
       ≡ freed (view w .held) (txnAt w p .number)
   abort-held r =
       let n = txnAt w p .number in
-      let rs = rowsWritten (w .tables .lists) (txnAt w p .slot) (txnAt w p .«writes_n») in
+      let rs = writtenBy (w .tables .lists) (txnAt w p) in
       rw (
         clear-all rowWords 1 (omega arith) (w .sizes .rows) n (w .tables .rows) rs (λ q m. row-in w z sh p l q m) (z .rows),
         freed-release n (view w .held .claim) rs own-rows,
@@ -248,7 +240,7 @@ module _ (w : Words) (z : Sized w) (g : Good (view w)) (n : ℕ) where
       (record {
         reply = record { answer = tell.Done; txn = idleOf (txnAt w (standing w n) .slot) };
         rows = clearClaims (w .tables .rows) (txnAt w (standing w n) .number)
-            (rowsWritten (w .tables .lists) (txnAt w (standing w n) .slot) (txnAt w (standing w n) .«writes_n»));
+            (writtenBy (w .tables .lists) (txnAt w (standing w n)));
         buckets = clearHolders (w .tables .buckets) (txnAt w (standing w n) .number) (freedList w (standing w n));
       }))
       (w .clock) (w .used) (w .tables))
@@ -258,7 +250,7 @@ module _ (w : Words) (z : Sized w) (g : Good (view w)) (n : ℕ) where
   aborted-at l a false e =
       let q = standing w n in
       let t = txnAt w q in
-      let rs = rowsWritten (w .tables .lists) (t .slot) (t .«writes_n») in
+      let rs = writtenBy (w .tables .lists) t in
       ended-at w z q l _ _ tell.Done machine.Done (w .clock) (w .clock) _ _ _ refl (abort-chains w (t .number) rs)
       (abort-index w (t .number) rs (freedList w q)) (abort-held w z g q a (leb-false 5 (rank (phaseView (t .phase))) e))
       (clear-length rowWords 1 (t .number) (w .tables .rows) rs) (clear-length bucketWords 1 (t .number) (w .tables .buckets) (freedList w q)) refl refl
@@ -270,5 +262,5 @@ module _ (w : Words) (z : Sized w) (g : Good (view w)) (n : ℕ) where
       (λ l d e.
       let q = standing w n in
       let a : 1 ≤ txnAt w q .number = live-at w n d e in
-      rw (freed-buckets w q z, ← late-test (rank (phaseView (txnAt w q .phase))))
+      rw (freed-buckets w q z (w .tables .buckets), ← late-test (rank (phaseView (txnAt w q .phase))))
       (aborted-at l a (leb phaseInstalled (rank (phaseView (txnAt w q .phase)))) refl))

@@ -7,10 +7,9 @@ use mathlib.Core.Logic.{inl, inr, ⊎-elim}
 use mathlib.Core.List.{List, [], _∷_, _++_}
 use native.Mathlib.Omega.{arith}
 use lib.Dec.{leb}
-use lib.ListN.{length, length-append}
+use lib.ListN.{length}
 use borrow.Author.Tests.{leb-true, le-leb, eqb-true, eq-eqb}
 use Rattle.base_lists.specs.Lists.{join, Among}
-use Rattle.base_lists.specs.Table.{cond-elim}
 use Rattle.base_lists.proofs.ListLaws.{and-l, and-r, among-left, among-right, among-cases, join-which, which-join}
 use Rattle.model.specs.Store.{bucketIn, rank, phaseInstalled, sameKey}
 use Rattle.model.specs.Steps.{keyBefore, newKey, keyBuckets, readBuckets, changedBuckets, pendingRows, madeRows, headedBy}
@@ -21,31 +20,31 @@ use Rattle.model.proofs.Good.{Good, right-shape}
 use Rattle.table.specs.Fields as fields
 use Rattle.txn.specs.View.{phaseView}
 use Rattle.txn_needs.specs.Keys as words
-use Rattle.txn_needs.specs.Keys.{keyOf, oldKeyOf, newKeyOf}
-use Rattle.txn_needs.specs.Needs.{readsNeed, rowsWritten, writeNeeds, writeChanges}
+use Rattle.txn_needs.specs.declared.Keys.{Keys}
+use Rattle.txn_needs.specs.Keys.{keyOf, oldKeyOf, newKeyOf, isInstalled, keysOf, noKeys, sameKeys, changedKeys}
+use Rattle.txn_needs.specs.Needs.{bucketsFor, keysNeed, readsNeed, writtenBy, writeChanges}
 use Rattle.step.specs.Words.{Words, view, txnAt, Sized}
 use Rattle.step_bridge.proofs.Shaped.{Shaped, shaped}
 use Rattle.step_bridge.proofs.Places.{sized-at}
-use Rattle.step_bridge.proofs.Judging.{reads-need, needs-length, read-in}
+use Rattle.step_bridge.proofs.Judging.{reads-need}
 use Rattle.step_bridge.proofs.Tabled.{InRange}
 use Rattle.step_bridge.proofs.Keyed.{new-key-same}
 use Rattle.step_bridge.proofs.Headed.{head-same, version-field, version-key, headed-same}
-use Rattle.step_bridge.proofs.Needing.{key-buckets, headed, row-in, row-pending, pending-row}
+use Rattle.step_bridge.proofs.Needing.{key-buckets, rowNeeds, listedNeeds, headed, row-in, row-pending, pending-row}
 use Rattle.step_bridge.proofs.Aborting.{join-few, needs-few, needs-in, count-pos, writes-few}
 
--- what the words need for a row, and what they stamp, after install
-abbrev pub rowNeeds : Words → ℕ → ℕ → List ℕ
-rowNeeds w p r = writeNeeds (w .tables .rows) (w .tables .versions) (w .tables .lists) (w .sizes .buckets) true (txnAt w p .slot) (txnAt w p .«writes_n») r
+-- the rows that the words write, and what they stamp for one
+abbrev pub rowsOf : Words → ℕ → List ℕ
+rowsOf w p = writtenBy (w .tables .lists) (txnAt w p)
 
 abbrev pub rowChanges : Words → ℕ → ℕ → List ℕ
-rowChanges w p r = writeChanges (w .tables .rows) (w .tables .versions) (w .tables .lists) (w .sizes .buckets) (txnAt w p .number) (txnAt w p .slot)
-    (txnAt w p .«writes_n») r
+rowChanges w p r = writeChanges (w .tables .rows) (w .tables .versions) (w .tables .lists) (w .sizes .buckets) (txnAt w p) r
 
-abbrev pub rowsOf : Words → ℕ → List ℕ
-rowsOf w p = rowsWritten (w .tables .lists) (txnAt w p .slot) (txnAt w p .«writes_n»)
-
-abbrev pub listedAfter : Words → ℕ → List ℕ
-listedAfter w p = readsNeed (w .tables .lists) (txnAt w p .slot) (txnAt w p .«reads_n») ++ join (rowNeeds w p) (rowsOf w p)
+-- none of no keys
+changed-needs : (count : ℕ) (k : Keys) (b : Bool) → keysNeed count (cond b noKeys k) ≡ cond b [] (keysNeed count k)
+unfolding keysNeed bucketsFor
+changed-needs count k true = refl
+changed-needs count k false = refl
 
 -- r is a pending row that got a version
 abbrev Got : Words → ℕ → ℕ → Type 0
@@ -59,7 +58,7 @@ changes w p r = cond (sameKey (keyBefore (view w .chains) r) (newKey (view w .tx
 abbrev gotRows : Words → ℕ → List ℕ
 gotRows w p = madeRows (view w .sizes) (view w .chains) (txnAt w p .number) (view w .txns p .writes)
 
-module _ (w : Words) (z : Sized w) (g : Shaped w) (p : ℕ) (l : 1 ≤ txnAt w p .number) where
+module _ (w : Words) (z : Sized w) (g : Shaped w) (p : ℕ) (l : 1 ≤ txnAt w p .number) (k : isInstalled (txnAt w p .phase) ≡ true) where
   got-row : (r : ℕ) → Got w p r → Among r (rowsOf w p)
   got-row r m = pending-row w z g p r (made-writes (view w .sizes) (view w .chains) (view w .txns p) r m)
 
@@ -84,35 +83,39 @@ module _ (w : Words) (z : Sized w) (g : Shaped w) (p : ℕ) (l : 1 ≤ txnAt w p
 
   after-needs : (r : ℕ) → Got w p r → rowNeeds w p r ≡ keyBuckets (view w .sizes) (keyBefore (view w .chains) r)
       ++ keyBuckets (view w .sizes) (newKey (view w .txns p) r)
-  unfolding writeNeeds
+  unfolding keysNeed keysOf
   after-needs r m =
       let a = key-buckets (view w .sizes) (oldKeyOf (w .tables .rows) (w .tables .versions) true r) in
       let b = key-buckets (view w .sizes) (newKeyOf (w .tables .lists) (txnAt w p .slot) (txnAt w p .«writes_n») r) in
-      rw (← a, ← b, before-same r m, new-key-same (w .tables .lists) (txnAt w p) (sized-at w z p .writes) r)
+      rw (k, ← a, ← b, before-same r m, new-key-same (w .tables .lists) (txnAt w p) (sized-at w z p .writes) r)
+
+  after-same : (r : ℕ) → Got w p r → sameKeys (keysOf (w .tables .rows) (w .tables .versions) (w .tables .lists) (txnAt w p) r)
+      ≡ sameKey (keyBefore (view w .chains) r) (newKey (view w .txns p) r)
+  unfolding keysOf
+  after-same r m = rw (k, before-same r m, new-key-same (w .tables .lists) (txnAt w p) (sized-at w z p .writes) r)
 
   got-headed : (r : ℕ) → Got w p r → headedBy (view w .chains) (txnAt w p .number) r ≡ true
   unfolding headedBy
   got-headed r m = let o = made-head (view w .sizes) (view w .chains) (view w .txns p) r m in rw (le-leb 1 _ (o .0), eq-eqb _ _ (o .1))
 
   after-changes : (r : ℕ) → Got w p r → rowChanges w p r ≡ changes w p r
-  unfolding writeChanges
-  after-changes r m = rw (
-    row-headed r (row-in w z g p l r (got-row r m)),
-    got-headed r m,
-    before-same r m,
-    new-key-same (w .tables .lists) (txnAt w p) (sized-at w z p .writes) r,
-    after-needs r m,
-  )
+  unfolding changedKeys
+  after-changes r m =
+      let keys = keysOf (w .tables .rows) (w .tables .versions) (w .tables .lists) (txnAt w p) r in
+      rw (row-headed r (row-in w z g p l r (got-row r m)), got-headed r m)
+      (changed-needs (w .sizes .buckets) keys (sameKeys keys) ∙ (ap (λ (b : Bool). cond b [] (rowNeeds w p r)) (after-same r m)
+      ∙ ap (λ (bs : List ℕ). cond (sameKey (keyBefore (view w .chains) r) (newKey (view w .txns p) r)) [] bs) (after-needs r m)))
 
   -- a row that stamps got a version
   change-got : (r b : ℕ) → Among r (rowsOf w p) → Among b (rowChanges w p r) → Got w p r
-  unfolding writeChanges headedBy
+  unfolding changedKeys keysNeed bucketsFor headedBy
   change-got r b a m = go (headedBy (view w .chains) (txnAt w p .number) r) refl (rw (row-headed r (row-in w z g p l r a)) at m)
     where
+      keys : Keys
+      keys = keysOf (w .tables .rows) (w .tables .versions) (w .tables .lists) (txnAt w p) r
+
       go : (h : Bool) → headedBy (view w .chains) (txnAt w p .number) r ≡ h
-          → Among b (cond (not h) []
-          (cond (sameKey (keyOf (oldKeyOf (w .tables .rows) (w .tables .versions) true r))
-          (keyOf (newKeyOf (w .tables .lists) (txnAt w p .slot) (txnAt w p .«writes_n») r))) [] (rowNeeds w p r))) → Got w p r
+          → Among b (keysNeed (w .sizes .buckets) (cond (not h) noKeys (cond (sameKeys keys) noKeys keys))) → Got w p r
       go true e o = which-made (view w .sizes) (view w .chains) (view w .txns p) r (row-pending w z g p l r a)
           (leb-true 1 (view w .chains .head r) (and-l (leb 1 (view w .chains .head r)) _ e)) (eqb-true _ _ (and-r (leb 1 (view w .chains .head r)) _ e))
       go false e o = absurd o
@@ -135,8 +138,11 @@ module _ (w : Words) (z : Sized w) (g : Good (view w)) (p : ℕ) (l : 1 ≤ txnA
   abbrev sh : Shaped w
   sh = shaped w z (right-shape (view w) g)
 
+  abbrev done : isInstalled (txnAt w p .phase) ≡ true
+  done = le-leb phaseInstalled _ k
+
   -- all that the number holds is listed
-  pub held-listed : (b : ℕ) → view w .held .holder b ≡ txnAt w p .number → Among b (bucketIn (phaseView (txnAt w p .phase)) ∷ listedAfter w p)
+  pub held-listed : (b : ℕ) → view w .held .holder b ≡ txnAt w p .number → Among b (bucketIn (phaseView (txnAt w p .phase)) ∷ listedNeeds w p)
   unfolding needs keyBuckets
   held-listed b e = by (g .holders .buckets .owner b (λ q. omega (arith, q)))
     where
@@ -146,69 +152,40 @@ module _ (w : Words) (z : Sized w) (g : Good (view w)) (p : ℕ) (l : 1 ≤ txnA
       -- a row that erases nothing wants no bucket
       row-listed : (r : ℕ) → Among r (pendingRows (view w .sizes) (view w .txns p .writes)) → Among b (rowWants r) → Among b (join (rowNeeds w p) (rowsOf w p))
       row-listed r a m = ⊎-elim
-          (λ d. which-join (rowNeeds w p) (rowsOf w p) b r (got-row w z sh p l r d) (rw (after-needs w z sh p l r d, g .written .mine p r l k d .before) m))
+          (λ d. which-join (rowNeeds w p) (rowsOf w p) b r (got-row w z sh p l done r d)
+          (rw (after-needs w z sh p l done r d, g .written .mine p r l k d .before) m))
           (λ q. absurd (rw (q .1, q .0 .1) at m))
           (posted-either (view w) (g .numbers) (g .holders) (g .written) p r l k a)
 
       rows-listed : Among b (join rowWants (pendingRows (view w .sizes) (view w .txns p .writes))) → Among b (join (rowNeeds w p) (rowsOf w p))
       rows-listed m = let o = join-which rowWants (pendingRows (view w .sizes) (view w .txns p .writes)) b m in row-listed (o .0) (o .1) (o .2)
 
-      wanted : Wants (view w .sizes) (view w .index .posted) (view w .txns p) b → Among b (bucketIn (phaseView (txnAt w p .phase)) ∷ listedAfter w p)
+      wanted : Wants (view w .sizes) (view w .index .posted) (view w .txns p) b → Among b (bucketIn (phaseView (txnAt w p .phase)) ∷ listedNeeds w p)
       wanted (inl h) = inl (sym (ap bucketIn (h .1)))
       wanted (inr h) = inr (⊎-elim
-          (λ a. among-left b (readsNeed (w .tables .lists) (txnAt w p .slot) (txnAt w p .«reads_n»)) _ (rw (reads-need (w .tables .lists) (txnAt w p)) at a))
-          (λ a. among-right b (readsNeed (w .tables .lists) (txnAt w p .slot) (txnAt w p .«reads_n»)) _ (rows-listed a))
+          (λ a. among-left b (readsNeed (w .tables .lists) (txnAt w p)) _ (rw (reads-need (w .tables .lists) (txnAt w p)) at a))
+          (λ a. among-right b (readsNeed (w .tables .lists) (txnAt w p)) _ (rows-listed a))
           (among-cases b (readBuckets (view w .txns p))
           (join (λ r. keyBuckets (view w .sizes) (view w .index .posted r) ++ keyBuckets (view w .sizes) (newKey (view w .txns p) r))
           (pendingRows (view w .sizes) (view w .txns p .writes))) (h .1)))
 
       by : (j : ℕ) × (view w .held .holder b ≡ view w .txns j .number) × Wants (view w .sizes) (view w .index .posted) (view w .txns j) b
-          → Among b (bucketIn (phaseView (txnAt w p .phase)) ∷ listedAfter w p)
+          → Among b (bucketIn (phaseView (txnAt w p .phase)) ∷ listedNeeds w p)
       by o = wanted (rw (g .numbers .distinct p (o .0) l (sym e ∙ o .1)) (o .2))
 
-module _ (w : Words) (z : Sized w) (p : ℕ) where
-  -- the lists fit in the words for them
-  pub after-few : length (listedAfter w p) ≤ 48
-  after-few =
-      let s = sized-at w z p in
-      rw length-append (omega (
-        arith,
-        s .reads,
-        s .writes,
-        writes-few w p,
-        needs-length (w .tables .lists) (txnAt w p),
-        join-few (rowNeeds w p) (rowsOf w p)
-            (λ r. needs-few (w .tables .rows) (w .tables .versions) (w .tables .lists) (w .sizes .buckets) true (txnAt w p .slot) (txnAt w p .«writes_n») r),
-      ))
+module _ (w : Words) (p : ℕ) where
+  -- the keys that stamp
+  abbrev keysChanged : ℕ → Keys
+  keysChanged r = changedKeys (w .tables .rows) (w .tables .versions) (w .tables .lists) (txnAt w p) r
 
-  change-few : (r : ℕ) → length (rowChanges w p r) ≤ 2
-  unfolding writeChanges
-  change-few r = cond-elim (λ (bs : List ℕ). length bs ≤ 2) (not (words.headedBy (w .tables .rows) (w .tables .versions) (txnAt w p .number) r)) [] _
-      (λ t. omega arith) (λ t. cond-elim (λ (bs : List ℕ). length bs ≤ 2)
-      (sameKey (keyOf (oldKeyOf (w .tables .rows) (w .tables .versions) true r))
-      (keyOf (newKeyOf (w .tables .lists) (txnAt w p .slot) (txnAt w p .«writes_n») r))) [] (rowNeeds w p r) (λ t. omega arith)
-      (λ t. needs-few (w .tables .rows) (w .tables .versions) (w .tables .lists) (w .sizes .buckets) true (txnAt w p .slot) (txnAt w p .«writes_n») r))
+  -- what is stamped fits in the words for it, and is in range
+  pub changes-few : Sized w → length (join (rowChanges w p) (rowsOf w p)) ≤ 48
+  changes-few z = omega (
+    arith,
+    join-few (rowChanges w p) (rowsOf w p) (λ r. needs-few (w .sizes .buckets) (keysChanged r)),
+    writes-few w p,
+    sized-at w z p .writes,
+  )
 
-  pub changes-few : length (join (rowChanges w p) (rowsOf w p)) ≤ 48
-  changes-few = omega (arith, join-few (rowChanges w p) (rowsOf w p) change-few, writes-few w p, sized-at w z p .writes)
-
-module _ (w : Words) (z : Sized w) (g : Shaped w) (p : ℕ) where
-  -- and are in range
-  needs-range : (r : ℕ) → InRange (w .sizes .buckets) (rowNeeds w p r)
-  needs-range r = needs-in (w .tables .rows) (w .tables .versions) (w .tables .lists) (w .sizes .buckets) true (txnAt w p .slot) (txnAt w p .«writes_n») r
-      (count-pos w g)
-
-  pub after-in : 1 ≤ txnAt w p .number → InRange (w .sizes .buckets) (listedAfter w p)
-  after-in l b m = ⊎-elim (λ a. read-in w z g p l b a) (λ a. let o = join-which (rowNeeds w p) (rowsOf w p) b a in
-      needs-range (o .0) b (o .2)) (among-cases b (readsNeed (w .tables .lists) (txnAt w p .slot) (txnAt w p .«reads_n»)) (join (rowNeeds w p) (rowsOf w p)) m)
-
-  change-in : (r : ℕ) → InRange (w .sizes .buckets) (rowChanges w p r)
-  unfolding writeChanges
-  change-in r = cond-elim (λ (bs : List ℕ). InRange (w .sizes .buckets) bs)
-      (not (words.headedBy (w .tables .rows) (w .tables .versions) (txnAt w p .number) r)) [] _ (λ t i m. absurd m)
-      (λ t. cond-elim (λ (bs : List ℕ). InRange (w .sizes .buckets) bs)
-      (sameKey (keyOf (oldKeyOf (w .tables .rows) (w .tables .versions) true r))
-      (keyOf (newKeyOf (w .tables .lists) (txnAt w p .slot) (txnAt w p .«writes_n») r))) [] (rowNeeds w p r) (λ t i m. absurd m) (λ t. needs-range r))
-
-  pub changes-in : InRange (w .sizes .buckets) (join (rowChanges w p) (rowsOf w p))
-  changes-in b m = let o = join-which (rowChanges w p) (rowsOf w p) b m in change-in (o .0) b (o .2)
+  pub changes-in : Shaped w → InRange (w .sizes .buckets) (join (rowChanges w p) (rowsOf w p))
+  changes-in g b m = let o = join-which (rowChanges w p) (rowsOf w p) b m in needs-in (w .sizes .buckets) (keysChanged (o .0)) (count-pos w g) b (o .2)

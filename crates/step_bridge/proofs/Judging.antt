@@ -44,11 +44,11 @@ pub reads-length : (xs : List ℕ) (t : Transaction) → length (readsIn xs t) �
 reads-length xs t = length-map (lists.readsOf xs (t .slot) (t .«reads_n»)) readView
     ∙ list-length lists.readOf (lists.reads .w) (lists.startOf lists.reads (t .slot)) xs (t .«reads_n»)
 
-pub reads-need : (xs : List ℕ) (t : Transaction) → readBuckets (txnView xs t) ≡ readsNeed xs (t .slot) (t .«reads_n»)
+pub reads-need : (xs : List ℕ) (t : Transaction) → readBuckets (txnView xs t) ≡ readsNeed xs t
 unfolding readBuckets
 reads-need xs t = map-map (λ (r : model.IndexRead). r .bucket) readView (lists.readsOf xs (t .slot) (t .«reads_n»))
 
-pub needs-length : (xs : List ℕ) (t : Transaction) → length (readsNeed xs (t .slot) (t .«reads_n»)) ≡ t .«reads_n»
+pub needs-length : (xs : List ℕ) (t : Transaction) → length (readsNeed xs t) ≡ t .«reads_n»
 needs-length xs t = length-map (lists.readsOf xs (t .slot) (t .«reads_n»)) (λ (r : IndexRead). r .bucket)
     ∙ list-length lists.readOf (lists.reads .w) (lists.startOf lists.reads (t .slot)) xs (t .«reads_n»)
 
@@ -58,7 +58,7 @@ module _ (w : Words) (z : Sized w) (g : Shaped w) where
   unfolding byAnother
   taken-same n b h = rw (part-field bucketWords 1 (w .sizes .buckets) (w .tables .buckets) b (omega arith) h)
 
-  pub read-in : (p : ℕ) → 1 ≤ txnAt w p .number → (b : ℕ) → Among b (readsNeed (w .tables .lists) (txnAt w p .slot) (txnAt w p .«reads_n»))
+  pub read-in : (p : ℕ) → 1 ≤ txnAt w p .number → (b : ℕ) → Among b (readsNeed (w .tables .lists) (txnAt w p))
       → b < w .sizes .buckets
   read-in p l b m =
       let rs = lists.readsOf (w .tables .lists) (txnAt w p .slot) (txnAt w p .«reads_n») in
@@ -66,17 +66,17 @@ module _ (w : Words) (z : Sized w) (g : Shaped w) where
       rw (a .2) (g .in-store p l .reads-in (readView (a .0)) (among-map readView rs (a .0) (a .1)))
 
   pub reads-taken : (p : ℕ) → 1 ≤ txnAt w p .number
-      → readsTakenIn (w .tables .buckets) (w .tables .lists) (txnAt w p .slot) (txnAt w p .«reads_n») (txnAt w p .number)
+      → readsTakenIn (w .tables .buckets) (w .tables .lists) (txnAt w p)
       ≡ some-of (byAnother (view w .held .holder) (txnAt w p .number)) (readBuckets (view w .txns p))
   unfolding readsTakenIn
   reads-taken p l =
       let t = txnAt w p in
       rw (
-        listed-all 48 (readsNeed (w .tables .lists) (t .slot) (t .«reads_n»)) (omega (arith, needs-length (w .tables .lists) t, sized-at w z p .reads)),
+        listed-all 48 (readsNeed (w .tables .lists) t) (omega (arith, needs-length (w .tables .lists) t, sized-at w z p .reads)),
         reads-need (w .tables .lists) t,
       )
       (some-same (λ b. takenBy (holderOf (w .tables .buckets) b) (t .number)) (byAnother (view w .held .holder) (t .number))
-      (readsNeed (w .tables .lists) (t .slot) (t .«reads_n»)) (λ b m. taken-same (t .number) b (read-in p l b m)))
+      (readsNeed (w .tables .lists) t) (λ b m. taken-same (t .number) b (read-in p l b m)))
 
   -- the verdict
   pub verdict-same : (p : ℕ) → 1 ≤ txnAt w p .number → verdictOf (w .tables .versions) (w .tables .buckets) (w .tables .lists) (txnAt w p)

@@ -26,8 +26,8 @@ use Rattle.table.specs.declared.lists.Write.{Write}
 use Rattle.table.proofs.Parts.{part-field}
 use Rattle.txn.specs.View.{writeView}
 use Rattle.txn_needs.specs.declared.Key.{Key}
-use Rattle.txn_needs.specs.Keys.{keyOf, oldKeyOf, newKeyOf}
-use Rattle.txn_needs.specs.Needs.{bucketsFor, readsNeed, rowsWritten, writeNeeds, writesNeed}
+use Rattle.txn_needs.specs.Keys.{keyOf, oldKeyOf, newKeyOf, isInstalled, keysOf}
+use Rattle.txn_needs.specs.Needs.{bucketsFor, keysNeed, readsNeed, rowsWritten, writtenBy, writeNeeds}
 use Rattle.step.specs.Words.{Words, view, txnAt, Sized}
 use Rattle.step_bridge.proofs.Shaped.{Shaped}
 use Rattle.step_bridge.proofs.Places.{sized-at}
@@ -75,10 +75,12 @@ key-buckets z k = by (eqb (k .keyed) 0)
     by true = refl
     by false = refl
 
--- the buckets that the words list for the index reads and the pending rows
+-- the buckets that the words list for a pending row, and for the index reads and every pending row
+abbrev pub rowNeeds : Words → ℕ → ℕ → List ℕ
+rowNeeds w p r = writeNeeds (w .tables .rows) (w .tables .versions) (w .tables .lists) (w .sizes .buckets) (txnAt w p) r
+
 abbrev pub listedNeeds : Words → ℕ → List ℕ
-listedNeeds w p = readsNeed (w .tables .lists) (txnAt w p .slot) (txnAt w p .«reads_n») ++ writesNeed (w .tables .rows) (w .tables .versions)
-    (w .tables .lists) (w .sizes .buckets) false (txnAt w p .slot) (txnAt w p .«writes_n»)
+listedNeeds w p = readsNeed (w .tables .lists) (txnAt w p) ++ join (rowNeeds w p) (writtenBy (w .tables .lists) (txnAt w p))
 
 module _ (w : Words) (z : Sized w) (g : Shaped w) where
   -- heads and pointers are in the parts that the sizes name
@@ -92,15 +94,15 @@ module _ (w : Words) (z : Sized w) (g : Shaped w) where
   pub rows-most : w .sizes .rows ≤ mostBuckets
   rows-most = omega (arith, good-sized (view w .sizes) (g .sizes) .rows-most)
 
-  -- what is needed for one pending row
-  pub row-needs : (p r : ℕ) → r < w .sizes .rows
-      → writeNeeds (w .tables .rows) (w .tables .versions) (w .tables .lists) (w .sizes .buckets) false (txnAt w p .slot) (txnAt w p .«writes_n») r
-      ≡ keyBuckets (view w .sizes) (oldKey (view w .chains) r) ++ keyBuckets (view w .sizes) (newKey (view w .txns p) r)
-  unfolding writeNeeds
-  row-needs p r h =
+  -- what is needed for one pending row, before install
+  pub row-needs : (p r : ℕ) → isInstalled (txnAt w p .phase) ≡ false → r < w .sizes .rows
+      → rowNeeds w p r ≡ keyBuckets (view w .sizes) (oldKey (view w .chains) r) ++ keyBuckets (view w .sizes) (newKey (view w .txns p) r)
+  unfolding keysNeed keysOf
+  row-needs p r k h =
       let a = key-buckets (view w .sizes) (oldKeyOf (w .tables .rows) (w .tables .versions) false r) in
       let b = key-buckets (view w .sizes) (newKeyOf (w .tables .lists) (txnAt w p .slot) (txnAt w p .«writes_n») r) in
       rw (
+        k,
         ← a,
         ← b,
         old-key-same (view w .sizes) (w .tables .rows) (w .tables .versions) (w .used) headed r h,
@@ -108,7 +110,7 @@ module _ (w : Words) (z : Sized w) (g : Shaped w) where
       )
 
   -- the rows of the pending writes are the pending rows
-  pub row-in : (p : ℕ) → 1 ≤ txnAt w p .number → (r : ℕ) → Among r (rowsWritten (w .tables .lists) (txnAt w p .slot) (txnAt w p .«writes_n»))
+  pub row-in : (p : ℕ) → 1 ≤ txnAt w p .number → (r : ℕ) → Among r (writtenBy (w .tables .lists) (txnAt w p))
       → r < w .sizes .rows
   row-in p l r m =
       let ws = lists.writesOf (w .tables .lists) (txnAt w p .slot) (txnAt w p .«writes_n») in
@@ -118,41 +120,39 @@ module _ (w : Words) (z : Sized w) (g : Shaped w) where
   pub writes-in : (p : ℕ) → 1 ≤ txnAt w p .number → WritesIn (view w .sizes) (w .tables .lists) (txnAt w p)
   writes-in p l = record { few = sized-at w z p .writes; below = row-in p l }
 
-  pub row-pending : (p : ℕ) → 1 ≤ txnAt w p .number → (r : ℕ) → Among r (rowsWritten (w .tables .lists) (txnAt w p .slot) (txnAt w p .«writes_n»))
+  pub row-pending : (p : ℕ) → 1 ≤ txnAt w p .number → (r : ℕ) → Among r (writtenBy (w .tables .lists) (txnAt w p))
       → Among r (pendingRows (view w .sizes) (view w .txns p .writes))
   row-pending p l r m = written-pending (w .tables .lists) (txnAt w p .slot) (txnAt w p .«writes_n») (view w .sizes) r (row-in p l r m) m
 
   pub pending-row : (p r : ℕ) → Among r (pendingRows (view w .sizes) (view w .txns p .writes))
-      → Among r (rowsWritten (w .tables .lists) (txnAt w p .slot) (txnAt w p .«writes_n»))
+      → Among r (writtenBy (w .tables .lists) (txnAt w p))
   pending-row p r m = pending-written (w .tables .lists) (txnAt w p .slot) (txnAt w p .«writes_n») (view w .sizes) r m
 
   -- they are those that the model needs
-  pub needed-listed : (p : ℕ) → 1 ≤ txnAt w p .number → (b : ℕ) → Among b (neededBuckets (view w) (view w .txns p)) → Among b (listedNeeds w p)
+  pub needed-listed : (p : ℕ) → 1 ≤ txnAt w p .number → isInstalled (txnAt w p .phase) ≡ false → (b : ℕ)
+      → Among b (neededBuckets (view w) (view w .txns p)) → Among b (listedNeeds w p)
   unfolding neededBuckets
-  needed-listed p l b m = ⊎-elim
-      (λ n. among-left b (readsNeed (w .tables .lists) (txnAt w p .slot) (txnAt w p .«reads_n»)) _ (rw (reads-need (w .tables .lists) (txnAt w p)) at n))
+  needed-listed p l k b m = ⊎-elim
+      (λ n. among-left b (readsNeed (w .tables .lists) (txnAt w p)) _ (rw (reads-need (w .tables .lists) (txnAt w p)) at n))
       (λ n.
       let a = join-which (λ r. keyBuckets (view w .sizes) (oldKey (view w .chains) r) ++ keyBuckets (view w .sizes) (newKey (view w .txns p) r))
       (pendingRows (view w .sizes) (view w .txns p .writes)) b n in
       let r = pending-row p (a .0) (a .1) in
-      among-right b (readsNeed (w .tables .lists) (txnAt w p .slot) (txnAt w p .«reads_n»)) _
-      (which-join (writeNeeds (w .tables .rows) (w .tables .versions) (w .tables .lists) (w .sizes .buckets) false (txnAt w p .slot)
-      (txnAt w p .«writes_n»)) (rowsWritten (w .tables .lists) (txnAt w p .slot) (txnAt w p .«writes_n»)) b (a .0) r
-      (rw (row-needs p (a .0) (row-in p l (a .0) r)) (a .2))))
+      among-right b (readsNeed (w .tables .lists) (txnAt w p)) _
+      (which-join (rowNeeds w p) (writtenBy (w .tables .lists) (txnAt w p)) b (a .0) r (rw (row-needs p (a .0) k (row-in p l (a .0) r)) (a .2))))
       (among-cases b (readBuckets (view w .txns p))
       (join (λ r. keyBuckets (view w .sizes) (oldKey (view w .chains) r) ++ keyBuckets (view w .sizes) (newKey (view w .txns p) r))
       (pendingRows (view w .sizes) (view w .txns p .writes))) m)
 
-  pub listed-needed : (p : ℕ) → 1 ≤ txnAt w p .number → (b : ℕ) → Among b (listedNeeds w p) → Among b (neededBuckets (view w) (view w .txns p))
+  pub listed-needed : (p : ℕ) → 1 ≤ txnAt w p .number → isInstalled (txnAt w p .phase) ≡ false → (b : ℕ)
+      → Among b (listedNeeds w p) → Among b (neededBuckets (view w) (view w .txns p))
   unfolding neededBuckets
-  listed-needed p l b m = ⊎-elim
+  listed-needed p l k b m = ⊎-elim
       (λ n. among-left b (readBuckets (view w .txns p)) _ (rw (reads-need (w .tables .lists) (txnAt w p)) n))
       (λ n.
-      let a = join-which (writeNeeds (w .tables .rows) (w .tables .versions) (w .tables .lists) (w .sizes .buckets) false (txnAt w p .slot)
-      (txnAt w p .«writes_n»)) (rowsWritten (w .tables .lists) (txnAt w p .slot) (txnAt w p .«writes_n»)) b n in
+      let a = join-which (rowNeeds w p) (writtenBy (w .tables .lists) (txnAt w p)) b n in
       among-right b (readBuckets (view w .txns p)) _
       (which-join (λ r. keyBuckets (view w .sizes) (oldKey (view w .chains) r) ++ keyBuckets (view w .sizes) (newKey (view w .txns p) r))
       (pendingRows (view w .sizes) (view w .txns p .writes)) b (a .0) (row-pending p l (a .0) (a .1))
-      (rw (row-needs p (a .0) (row-in p l (a .0) (a .1))) at (a .2))))
-      (among-cases b (readsNeed (w .tables .lists) (txnAt w p .slot) (txnAt w p .«reads_n»))
-      (writesNeed (w .tables .rows) (w .tables .versions) (w .tables .lists) (w .sizes .buckets) false (txnAt w p .slot) (txnAt w p .«writes_n»)) m)
+      (rw (row-needs p (a .0) k (row-in p l (a .0) (a .1))) at (a .2))))
+      (among-cases b (readsNeed (w .tables .lists) (txnAt w p)) (join (rowNeeds w p) (writtenBy (w .tables .lists) (txnAt w p))) m)

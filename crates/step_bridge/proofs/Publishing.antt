@@ -3,19 +3,18 @@
 use Prim.Native.Nat.{ℕ, suc, _*_, _≤_, _<_}
 use mathlib.Core.Path.{_≡_, refl, ap, _∙_, fun-ext}
 use mathlib.Core.Bool.{Bool, true, false, cond, not}
-use mathlib.Core.Logic.{inl, inr}
 use mathlib.Core.Option.{Option, none, some}
 use mathlib.Core.List.{List, _∷_}
 use native.Mathlib.Omega.{arith}
 use lib.Dec.{eqb}
 use lib.ListN.{length}
-use borrow.Author.Tests.{eqb-true, not-false}
+use borrow.Author.Tests.{eqb-true, not-false, le-leb}
 use Rattle.base_limits.specs.Limits.{mostLive, lastNumber}
 use Rattle.base_lists.specs.Lists.{member, pick, join, Among}
 use Rattle.base_lists.specs.Table.{updateAll}
 use Rattle.base_lists.proofs.ListLaws.{same-test, member-among, among-member, which-pick}
 use Rattle.model.specs.Store as model
-use Rattle.model.specs.Store.{bucketIn, rank, phaseInstalled, phaseEnded}
+use Rattle.model.specs.Store.{rank, phaseInstalled, phaseEnded}
 use Rattle.model.specs.Seeing.{live}
 use Rattle.model.specs.Steps.{pendingRows, repost, changedBuckets, publishedIndex, freed}
 use Rattle.model.specs.Refusals.{refusalNumber, WrongPhase, liveCount, refusal}
@@ -32,25 +31,25 @@ use Rattle.txn.specs.Methods.{idleOf, refusedOf}
 use Rattle.base_numbers.specs.Numbers.{oneMore}
 use Rattle.base_numbers.proofs.Laws.{one-up}
 use Rattle.table.specs.Fields.{rowWords, bucketWords, setStamps, clearHolders, clearClaims}
-use Rattle.finish_publish.specs.Publish.{postedAll, stampedIn, neededIn, freedIn, publishOf}
+use Rattle.txn_needs.specs.Keys.{isInstalled}
+use Rattle.finish_publish.specs.Publish.{postedAll, stampedIn, publishOf}
 use Rattle.step.specs.Steps.{publishStep, publishedFrom, inPublished}
 use Rattle.step.specs.Words.{Words, view, txnAt, extentIn, Sized}
 use Rattle.step_bridge.proofs.Shaped.{Shaped, shaped}
 use Rattle.step_bridge.proofs.Places.{standing, sized-at, live-at}
 use Rattle.step_bridge.proofs.Same.{two-held, SameAt, Same, refused-same, later-tests, by-place}
 use Rattle.step_bridge.proofs.Listing.{listed-all}
-use Rattle.step_bridge.proofs.Tabled.{part, InRange, set-all, set-other, set-length}
+use Rattle.step_bridge.proofs.Tabled.{part, set-all, set-other, set-length}
 use Rattle.step_bridge.proofs.Freeing.{freedAt, freed-release, clear-all, clear-other, clear-length}
 use Rattle.step_bridge.proofs.Keyed.{new-key-same}
 use Rattle.step_bridge.proofs.Needing.{all-same, row-in, row-pending, pending-row}
-use Rattle.step_bridge.proofs.Aborting.{own-rows, ended-at}
+use Rattle.step_bridge.proofs.Aborting.{freedList, freed-buckets, freed-in, own-rows, ended-at}
 use Rattle.step_bridge.proofs.Reposting.{keys-by, postings, posted-all, posted-length, posted-other}
-use Rattle.step_bridge.proofs.Changing.{rowChanges, rowsOf, listedAfter, changed-to, changed-back, held-listed, after-few, after-in, changes-few}
-use Rattle.step_bridge.proofs.Changing.{changes-in}
+use Rattle.step_bridge.proofs.Changing.{rowChanges, rowsOf, changed-to, changed-back, held-listed, changes-few, changes-in}
 
 -- what publish leaves of the rows and of the buckets
 abbrev rowsPosted : Words → ℕ → List ℕ
-rowsPosted w p = postedAll (w .tables .lists) (txnAt w p .slot) (txnAt w p .«writes_n») (w .tables .rows) (rowsOf w p)
+rowsPosted w p = postedAll (w .tables .rows) (w .tables .lists) (txnAt w p) (rowsOf w p)
 
 abbrev pub rowsAfter : Words → ℕ → List ℕ
 rowsAfter w p = clearClaims (rowsPosted w p) (txnAt w p .number) (rowsOf w p)
@@ -58,55 +57,40 @@ rowsAfter w p = clearClaims (rowsPosted w p) (txnAt w p .number) (rowsOf w p)
 abbrev changesOf : Words → ℕ → List ℕ
 changesOf w p = join (rowChanges w p) (rowsOf w p)
 
-abbrev heldOf : Words → ℕ → List ℕ
-heldOf w p = bucketIn (phaseView (txnAt w p .phase)) ∷ listedAfter w p
-
 abbrev pub stamped : Words → ℕ → List ℕ
 stamped w p = setStamps (w .tables .buckets) (w .clock) (changesOf w p)
 
 abbrev pub bucketsAfter : Words → ℕ → List ℕ
-bucketsAfter w p = clearHolders (stamped w p) (txnAt w p .number) (heldOf w p)
+bucketsAfter w p = clearHolders (stamped w p) (txnAt w p .number) (freedList w p)
 
 module _ (w : Words) (z : Sized w) (p : ℕ) where
-  -- the words list what they stamp and what they free
-  pub stamped-is : stampedIn (w .tables .rows) (w .tables .versions) (w .tables .lists) (w .sizes .buckets) (txnAt w p .number) (txnAt w p .slot)
-      (txnAt w p .«writes_n») (w .clock) (w .tables .buckets) ≡ stamped w p
+  -- the words list what they stamp
+  pub stamped-is : stampedIn (w .tables .rows) (w .tables .versions) (w .tables .buckets) (w .tables .lists) (extentIn w) (txnAt w p) ≡ stamped w p
   unfolding stampedIn
-  stamped-is = ap (λ (bs : List ℕ). setStamps (w .tables .buckets) (w .clock) bs) (listed-all 49 (changesOf w p) (omega (arith, changes-few w z p)))
-
-  pub freed-is : (bs : List ℕ)
-      → freedIn (w .tables .rows) (w .tables .versions) (w .tables .lists) (w .sizes .buckets) true (bucketIn (phaseView (txnAt w p .phase)))
-      (txnAt w p .slot) (txnAt w p .«reads_n») (txnAt w p .«writes_n») (txnAt w p .number) bs
-      ≡ clearHolders bs (txnAt w p .number) (heldOf w p)
-  unfolding freedIn neededIn
-  freed-is bs = ap (λ (hs : List ℕ). clearHolders bs (txnAt w p .number) hs) (listed-all 49 (heldOf w p) (omega (arith, after-few w z p)))
+  stamped-is = ap (λ (bs : List ℕ). setStamps (w .tables .buckets) (w .clock) bs) (listed-all 49 (changesOf w p) (omega (arith, changes-few w p z)))
 
   posted-room : rowWords * w .sizes .rows ≤ length (rowsPosted w p)
-  posted-room = rw (posted-length (w .tables .lists) (txnAt w p .slot) (txnAt w p .«writes_n») (w .sizes .rows) (rowsOf w p) (w .tables .rows)) (z .rows)
+  posted-room = rw (posted-length (w .tables .lists) (txnAt w p) (w .sizes .rows) (rowsOf w p) (w .tables .rows)) (z .rows)
 
   stamped-room : bucketWords * w .sizes .buckets ≤ length (stamped w p)
   stamped-room = rw (set-length bucketWords 0 (w .clock) (w .tables .buckets) (changesOf w p)) (z .buckets)
 
   pub rows-long : length (rowsAfter w p) ≡ length (w .tables .rows)
   rows-long = clear-length rowWords 1 (txnAt w p .number) (rowsPosted w p) (rowsOf w p)
-      ∙ posted-length (w .tables .lists) (txnAt w p .slot) (txnAt w p .«writes_n») (w .sizes .rows) (rowsOf w p) (w .tables .rows)
+      ∙ posted-length (w .tables .lists) (txnAt w p) (w .sizes .rows) (rowsOf w p) (w .tables .rows)
 
   pub buckets-long : length (bucketsAfter w p) ≡ length (w .tables .buckets)
-  buckets-long = clear-length bucketWords 1 (txnAt w p .number) (stamped w p) (heldOf w p)
+  buckets-long = clear-length bucketWords 1 (txnAt w p .number) (stamped w p) (freedList w p)
       ∙ set-length bucketWords 0 (w .clock) (w .tables .buckets) (changesOf w p)
 
   pub publish-chains : chainsView (rowsPart (sizesView (w .sizes)) (rowsAfter w p)) (versionsPart (sizesView (w .sizes)) (w .tables .versions)) (w .used)
       ≡ view w .chains
   publish-chains = rw (
     clear-other rowWords 1 (omega arith) (w .sizes .rows) (txnAt w p .number) (rowsPosted w p) (rowsOf w p) 0 (omega arith) (omega arith),
-    posted-other (w .tables .lists) (txnAt w p .slot) (txnAt w p .«writes_n») (w .sizes .rows) (rowsOf w p) (w .tables .rows) 0 (omega arith),
+    posted-other (w .tables .lists) (txnAt w p) (w .sizes .rows) (rowsOf w p) (w .tables .rows) 0 (omega arith),
   )
 
 module _ (w : Words) (z : Sized w) (g : Shaped w) (p : ℕ) (l : 1 ≤ txnAt w p .number) where
-  held-in : InRange (w .sizes .buckets) (heldOf w p)
-  held-in b (inl e) = rw e (g .in-store p l .bucket-in)
-  held-in b (inr m) = after-in w z g p l b m
-
   -- postings follow the new keys
   publish-posted : postings (w .sizes .rows) (rowsAfter w p) ≡ repost (view w .txns p) (pendingRows (view w .sizes) (view w .txns p .writes))
       (view w .index .posted)
@@ -116,7 +100,7 @@ module _ (w : Words) (z : Sized w) (g : Shaped w) (p : ℕ) (l : 1 ≤ txnAt w p
       let ps = pendingRows (view w .sizes) (view w .txns p .writes) in
       keys-by _ _ _ _ (clear-other rowWords 1 (omega arith) (w .sizes .rows) n (rowsPosted w p) (rowsOf w p) 2 (omega arith) (omega arith))
       (clear-other rowWords 1 (omega arith) (w .sizes .rows) n (rowsPosted w p) (rowsOf w p) 3 (omega arith) (omega arith))
-      ∙ (fun-ext λ q. posted-all (w .tables .lists) (txnAt w p .slot) (txnAt w p .«writes_n») (w .sizes .rows) (rowsOf w p) (w .tables .rows)
+      ∙ (fun-ext λ q. posted-all (w .tables .lists) (txnAt w p) (w .sizes .rows) (rowsOf w p) (w .tables .rows)
       (λ r m. row-in w z g p l r m) (z .rows) q
       ∙ rw (
         new-key-same (w .tables .lists) (txnAt w p) (sized-at w z p .writes) q,
@@ -124,17 +108,19 @@ module _ (w : Words) (z : Sized w) (g : Shaped w) (p : ℕ) (l : 1 ≤ txnAt w p
             (λ e. among-member q (rowsOf w p) (pending-row w z g p q (member-among q ps e))),
       ))
 
-  publish-stamps : field bucketWords 0 (part bucketWords (w .sizes .buckets) (bucketsAfter w p))
+  publish-stamps : isInstalled (txnAt w p .phase) ≡ true
+      → field bucketWords 0 (part bucketWords (w .sizes .buckets) (bucketsAfter w p))
       ≡ updateAll (view w .index .stamp) (changedBuckets (view w) (view w .txns p))
       (w .clock)
-  publish-stamps = clear-other bucketWords 1 (omega arith) (w .sizes .buckets) (txnAt w p .number) (stamped w p) (heldOf w p) 0 (omega arith) (omega arith)
-      ∙ (set-all bucketWords 0 (omega arith) (w .sizes .buckets) (w .clock) (w .tables .buckets) (changesOf w p) (changes-in w z g p) (z .buckets)
-      ∙ all-same (view w .index .stamp) (changesOf w p) (changedBuckets (view w) (view w .txns p)) (w .clock) (λ b m. changed-to w z g p l b m)
-      (λ b m. changed-back w z g p l b m))
+  publish-stamps k = clear-other bucketWords 1 (omega arith) (w .sizes .buckets) (txnAt w p .number) (stamped w p) (freedList w p) 0 (omega arith) (omega arith)
+      ∙ (set-all bucketWords 0 (omega arith) (w .sizes .buckets) (w .clock) (w .tables .buckets) (changesOf w p) (changes-in w p g) (z .buckets)
+      ∙ all-same (view w .index .stamp) (changesOf w p) (changedBuckets (view w) (view w .txns p)) (w .clock) (λ b m. changed-to w z g p l k b m)
+      (λ b m. changed-back w z g p l k b m))
 
-  pub publish-index : indexView (rowsPart (sizesView (w .sizes)) (rowsAfter w p)) (bucketsPart (sizesView (w .sizes)) (bucketsAfter w p))
+  pub publish-index : isInstalled (txnAt w p .phase) ≡ true
+      → indexView (rowsPart (sizesView (w .sizes)) (rowsAfter w p)) (bucketsPart (sizesView (w .sizes)) (bucketsAfter w p))
       ≡ publishedIndex (view w) (view w .txns p)
-  publish-index = two _ _ _ _ publish-stamps publish-posted
+  publish-index k = two _ _ _ _ (publish-stamps k) publish-posted
     where
       two : (f f′ : ℕ → ℕ) (h h′ : ℕ → Option ℕ) → f ≡ f′ → h ≡ h′
           → _≡_ {A = model.Index} (record { stamp = f; posted = h }) (record { stamp = f′; posted = h′ })
@@ -142,17 +128,17 @@ module _ (w : Words) (z : Sized w) (g : Shaped w) (p : ℕ) (l : 1 ≤ txnAt w p
 
   -- what is listed is freed
   pub holders-freed : field bucketWords 1 (part bucketWords (w .sizes .buckets) (bucketsAfter w p))
-      ≡ freedAt (txnAt w p .number) (view w .held .holder) (heldOf w p)
+      ≡ freedAt (txnAt w p .number) (view w .held .holder) (freedList w p)
   holders-freed =
-      clear-all bucketWords 1 (omega arith) (w .sizes .buckets) (txnAt w p .number) (stamped w p) (heldOf w p) held-in (stamped-room w z p)
-      ∙ ap (λ (f : ℕ → ℕ). freedAt (txnAt w p .number) f (heldOf w p))
+      clear-all bucketWords 1 (omega arith) (w .sizes .buckets) (txnAt w p .number) (stamped w p) (freedList w p) (freed-in w z g p l) (stamped-room w z p)
+      ∙ ap (λ (f : ℕ → ℕ). freedAt (txnAt w p .number) f (freedList w p))
       (set-other bucketWords 0 (omega arith) (w .sizes .buckets) (w .clock) (w .tables .buckets) (changesOf w p) 1 (omega arith) (omega arith))
 
   pub claims-freed : field rowWords 1 (part rowWords (w .sizes .rows) (rowsAfter w p)) ≡ freedAt (txnAt w p .number) (view w .held .claim) (rowsOf w p)
   claims-freed =
       clear-all rowWords 1 (omega arith) (w .sizes .rows) (txnAt w p .number) (rowsPosted w p) (rowsOf w p) (λ r m. row-in w z g p l r m) (posted-room w z p)
       ∙ ap (λ (f : ℕ → ℕ). freedAt (txnAt w p .number) f (rowsOf w p))
-      (posted-other (w .tables .lists) (txnAt w p .slot) (txnAt w p .«writes_n») (w .sizes .rows) (rowsOf w p) (w .tables .rows) 1 (omega arith))
+      (posted-other (w .tables .lists) (txnAt w p) (w .sizes .rows) (rowsOf w p) (w .tables .rows) 1 (omega arith))
 
 -- who is live keeps the clock below the last number
 some-long : (xs : List ℕ) (x : ℕ) → Among x xs → 1 ≤ length xs
@@ -168,7 +154,7 @@ clock-below w g p l a = omega (
 )
 
 -- in phase Ended all is installed
-phase-ended : (x : model.Phase) → not (eqb (rank x) phaseEnded) ≡ false → phaseInstalled ≤ rank x
+pub phase-ended : (x : model.Phase) → not (eqb (rank x) phaseEnded) ≡ false → phaseInstalled ≤ rank x
 phase-ended x e = let r : rank x ≡ phaseEnded = eqb-true (rank x) phaseEnded (not-false (eqb (rank x) phaseEnded) e) in omega arith
 
 module _ (w : Words) (z : Sized w) (g : Good (view w)) (n : ℕ) (l : standing w n < mostLive) (a : 1 ≤ txnAt w (standing w n) .number) where
@@ -180,7 +166,7 @@ module _ (w : Words) (z : Sized w) (g : Good (view w)) (n : ℕ) (l : standing w
       ≡ freed (view w .held) (txnAt w (standing w n) .number)
   publish-held k =
       let p = standing w n in
-      two-held _ _ _ _ (holders-freed w z sh p a ∙ freed-release (txnAt w p .number) (view w .held .holder) (heldOf w p) (held-listed w z g p a k))
+      two-held _ _ _ _ (holders-freed w z sh p a ∙ freed-release (txnAt w p .number) (view w .held .holder) (freedList w p) (held-listed w z g p a k))
       (claims-freed w z sh p a ∙ freed-release (txnAt w p .number) (view w .held .claim) (rowsOf w p) (own-rows w z g p a))
 
   published-at : (b : Bool) → not (eqb (rank (phaseView (txnAt w (standing w n) .phase))) phaseEnded) ≡ b
@@ -202,15 +188,15 @@ module _ (w : Words) (z : Sized w) (g : Good (view w)) (n : ℕ) (l : standing w
       let q = standing w n in
       let k = phase-ended (phaseView (txnAt w q .phase)) e in
       ended-at w z q l _ _ (tell.Stamp (w .clock)) (machine.Stamp (w .clock)) (oneMore (w .clock)) (suc (w .clock)) _ _ _
-      (one-up (w .clock) (clock-below w sh q l a)) (publish-chains w z q) (publish-index w z sh q a) (publish-held k) (rows-long w z q)
-      (buckets-long w z q) refl refl
+      (one-up (w .clock) (clock-below w sh q l a)) (publish-chains w z q)
+      (publish-index w z sh q a (le-leb phaseInstalled _ k)) (publish-held k) (rows-long w z q) (buckets-long w z q) refl refl
 
   published-place : SameAt w (standing w n)
       (inPublished (publishStep (w .tables .rows) (w .tables .versions) (w .tables .buckets) (w .tables .lists) (extentIn w) (txnAt w (standing w n)))
       (w .tables))
       (carried (view w) (asked (ask.Publish n)) (refusal (later-tests (view w) (asked (ask.Publish n)))))
   unfolding publishStep publishOf refusal
-  published-place = rw (stamped-is w z (standing w n), freed-is w z (standing w n) (stamped w (standing w n)))
+  published-place = rw (stamped-is w z (standing w n), freed-buckets w (standing w n) z (stamped w (standing w n)))
       (published-at (not (eqb (rank (phaseView (txnAt w (standing w n) .phase))) phaseEnded)) refl)
 
 -- changed buckets are stamped, postings moved, buckets and claims freed, and the record ends

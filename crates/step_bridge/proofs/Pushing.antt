@@ -72,35 +72,35 @@ pub record Fit (z : model.Sizes) (c : install.Chains) : Type 0 where
   pub heads : (r : ℕ) → chainsOf z c .head r ≤ c .used
 
 -- lengths stay, and so do the other fields of the rows
-module _ (xs : List ℕ) (s n number : ℕ) where
-  pushed-rows-length : (c : install.Chains) (r : ℕ) → length (pushedRow xs s n number c r .rows) ≡ length (c .rows)
+module _ (xs : List ℕ) (t : Transaction) where
+  pushed-rows-length : (c : install.Chains) (r : ℕ) → length (pushedRow c xs t r .rows) ≡ length (c .rows)
   unfolding pushedRow
   pushed-rows-length c r = field-length rowWords 0 (c .rows) r (oneMore (c .used))
 
-  pushed-versions-length : (c : install.Chains) (r : ℕ) → length (pushedRow xs s n number c r .versions) ≡ length (c .versions)
+  pushed-versions-length : (c : install.Chains) (r : ℕ) → length (pushedRow c xs t r .versions) ≡ length (c .versions)
   unfolding pushedRow versionStored
   pushed-versions-length c r = simp field-length
 
-  pub all-rows-length : (rs : List ℕ) (c : install.Chains) → length (pushedRows xs s n number c rs .rows) ≡ length (c .rows)
+  pub all-rows-length : (rs : List ℕ) (c : install.Chains) → length (pushedRows c xs t rs .rows) ≡ length (c .rows)
   unfolding pushedRows
   all-rows-length [] c = refl
-  all-rows-length (r ∷ rs) c = all-rows-length rs (pushedRow xs s n number c r) ∙ pushed-rows-length c r
+  all-rows-length (r ∷ rs) c = all-rows-length rs (pushedRow c xs t r) ∙ pushed-rows-length c r
 
-  pub all-versions-length : (rs : List ℕ) (c : install.Chains) → length (pushedRows xs s n number c rs .versions) ≡ length (c .versions)
+  pub all-versions-length : (rs : List ℕ) (c : install.Chains) → length (pushedRows c xs t rs .versions) ≡ length (c .versions)
   unfolding pushedRows
   all-versions-length [] c = refl
-  all-versions-length (r ∷ rs) c = all-versions-length rs (pushedRow xs s n number c r) ∙ pushed-versions-length c r
+  all-versions-length (r ∷ rs) c = all-versions-length rs (pushedRow c xs t r) ∙ pushed-versions-length c r
 
   one-row-other : (m k : ℕ) → k < 4 → k ≢ 0 → (c : install.Chains) (r : ℕ)
-      → field rowWords k (part rowWords m (pushedRow xs s n number c r .rows)) ≡ field rowWords k (part rowWords m (c .rows))
+      → field rowWords k (part rowWords m (pushedRow c xs t r .rows)) ≡ field rowWords k (part rowWords m (c .rows))
   unfolding pushedRow
   one-row-other m k h d c r = part-other rowWords 0 m (c .rows) r (oneMore (c .used)) k h (omega arith) d
 
   pub all-rows-other : (m k : ℕ) → k < 4 → k ≢ 0 → (rs : List ℕ) (c : install.Chains)
-      → field rowWords k (part rowWords m (pushedRows xs s n number c rs .rows)) ≡ field rowWords k (part rowWords m (c .rows))
+      → field rowWords k (part rowWords m (pushedRows c xs t rs .rows)) ≡ field rowWords k (part rowWords m (c .rows))
   unfolding pushedRows
   all-rows-other m k h d [] c = refl
-  all-rows-other m k h d (r ∷ rs) c = all-rows-other m k h d rs (pushedRow xs s n number c r) ∙ one-row-other m k h d c r
+  all-rows-other m k h d (r ∷ rs) c = all-rows-other m k h d rs (pushedRow c xs t r) ∙ one-row-other m k h d c r
 
 -- what one has reserved is among what all have
 reserved-has : (z : model.Sizes) (c : model.Chains) (ts : ℕ → model.Txn) (n i : ℕ) → i < n → reservedBy z c (ts i) ≤ reserved z c ts n
@@ -111,7 +111,7 @@ reserved-has z c ts (suc n) i h = elim (ℕ-discrete i n) [ yes e ↦ rw e (omeg
 module _ (z : model.Sizes) (small : z .versions ≤ mostVersions) (xs : List ℕ) (t : Transaction) (few : t .«writes_n» ≤ mostWrites) where
   -- one row
   push-view : (c : install.Chains) (r : ℕ) → r < z .rows → c .used < z .versions → Fit z c
-      → chainsOf z (pushedRow xs (t .slot) (t .«writes_n») (t .number) c r)
+      → chainsOf z (pushedRow c xs t r)
       ≡ push (t .number) r (newKey (txnView xs t) r) (writtenPayload (lastWrite (writesIn xs t) r)) (chainsOf z c)
   unfolding pushedRow
   push-view c r hr hu f =
@@ -130,7 +130,7 @@ module _ (z : model.Sizes) (small : z .versions ≤ mostVersions) (xs : List ℕ
       (stored-keys m (c .versions) p (t .number) h x hp hh (f .versions) ∙ ap (λ (k : Option ℕ). update (chainsOf z c .key) p k) (last-key xs t few r))
       (stored-payload m (c .versions) p (t .number) h x hp hh (f .versions) ∙ ap (λ (k : ℕ). update (chainsOf z c .payload) p k) (last-payload xs t few r)))
 
-  push-fit : (c : install.Chains) (r : ℕ) → r < z .rows → c .used < z .versions → Fit z c → Fit z (pushedRow xs (t .slot) (t .«writes_n») (t .number) c r)
+  push-fit : (c : install.Chains) (r : ℕ) → r < z .rows → c .used < z .versions → Fit z c → Fit z (pushedRow c xs t r)
   push-fit c r hr hu f = let e = push-view c r hr hu f in record {
     rows = rw rows-length (f .rows);
     versions = rw versions-length (f .versions);
@@ -138,21 +138,21 @@ module _ (z : model.Sizes) (small : z .versions ≤ mostVersions) (xs : List ℕ
         (update-elim (λ y. y ≤ suc (c .used)) (chainsOf z c .head) r (suc (c .used)) q (λ d. omega arith) (λ d. omega (arith, f .heads q)));
   }
     where
-      rows-length : length (pushedRow xs (t .slot) (t .«writes_n») (t .number) c r .rows) ≡ length (c .rows)
-      rows-length = pushed-rows-length xs (t .slot) (t .«writes_n») (t .number) c r
+      rows-length : length (pushedRow c xs t r .rows) ≡ length (c .rows)
+      rows-length = pushed-rows-length xs t c r
 
-      versions-length : length (pushedRow xs (t .slot) (t .«writes_n») (t .number) c r .versions) ≡ length (c .versions)
-      versions-length = pushed-versions-length xs (t .slot) (t .«writes_n») (t .number) c r
+      versions-length : length (pushedRow c xs t r .versions) ≡ length (c .versions)
+      versions-length = pushed-versions-length xs t c r
 
   -- all rows, one after another
   pub pushed-view : (rs : List ℕ) (c : install.Chains) → InRange (z .rows) rs → c .used + length rs ≤ z .versions → Fit z c
-      → chainsOf z (pushedRows xs (t .slot) (t .«writes_n») (t .number) c rs) ≡ pushAll (txnView xs t) rs (chainsOf z c)
+      → chainsOf z (pushedRows c xs t rs) ≡ pushAll (txnView xs t) rs (chainsOf z c)
   unfolding pushedRows pushAll
   pushed-view [] c h u f = refl
   pushed-view (r ∷ rs) c h u f =
       let hr = h r (inl refl) in
       let e = push-view c r hr (omega arith) f in
-      pushed-view rs (pushedRow xs (t .slot) (t .«writes_n») (t .number) c r) (λ i m. h i (inr m)) (omega (arith, ap (λ (d : model.Chains). d .used) e))
+      pushed-view rs (pushedRow c xs t r) (λ i m. h i (inr m)) (omega (arith, ap (λ (d : model.Chains). d .used) e))
       (push-fit c r hr (omega arith) f)
       ∙ ap (λ (d : model.Chains). pushAll (txnView xs t) rs d) e
 
@@ -162,8 +162,7 @@ chainsIn w = record { rows = w .tables .rows; versions = w .tables .versions; us
 
 -- all that install leaves, by its rows
 abbrev after-rows : Words → ℕ → install.Chains
-after-rows w p = pushedRows (w .tables .lists) (txnAt w p .slot) (txnAt w p .«writes_n») (txnAt w p .number) (chainsIn w)
-    (versionRows (view w .sizes) (view w .chains) (view w .txns p .writes))
+after-rows w p = pushedRows (chainsIn w) (w .tables .lists) (txnAt w p) (versionRows (view w .sizes) (view w .chains) (view w .txns p .writes))
 
 module _ (w : Words) (z : Sized w) (g : Shaped w) (n : ℕ) (l : standing w n < mostLive) (a : 1 ≤ txnAt w (standing w n) .number) where
   install-chains : rank (phaseView (txnAt w (standing w n) .phase)) ≡ phasePrepared
@@ -188,15 +187,15 @@ module _ (w : Words) (z : Sized w) (g : Shaped w) (n : ℕ) (l : standing w n < 
       let t = txnAt w (standing w n) in
       let ps = versionRows (view w .sizes) (view w .chains) (view w .txns (standing w n) .writes) in
       rw (
-        all-rows-other (w .tables .lists) (t .slot) (t .«writes_n») (t .number) (w .sizes .rows) 2 (omega arith) (omega arith) ps (chainsIn w),
-        all-rows-other (w .tables .lists) (t .slot) (t .«writes_n») (t .number) (w .sizes .rows) 3 (omega arith) (omega arith) ps (chainsIn w),
+        all-rows-other (w .tables .lists) t (w .sizes .rows) 2 (omega arith) (omega arith) ps (chainsIn w),
+        all-rows-other (w .tables .lists) t (w .sizes .rows) 3 (omega arith) (omega arith) ps (chainsIn w),
       )
 
   install-held : heldView (rowsPart (sizesView (w .sizes)) (after-rows w (standing w n) .rows)) (bucketsPart (sizesView (w .sizes)) (w .tables .buckets))
       ≡ view w .held
   install-held =
       let t = txnAt w (standing w n) in
-      rw (all-rows-other (w .tables .lists) (t .slot) (t .«writes_n») (t .number) (w .sizes .rows) 1 (omega arith) (omega arith)
+      rw (all-rows-other (w .tables .lists) t (w .sizes .rows) 1 (omega arith) (omega arith)
       (versionRows (view w .sizes) (view w .chains) (view w .txns (standing w n) .writes)) (chainsIn w))
 
   installed-at : (b : Bool) → not (eqb (rank (phaseView (txnAt w (standing w n) .phase))) phasePrepared) ≡ b
@@ -229,11 +228,11 @@ module _ (w : Words) (z : Sized w) (g : Shaped w) (n : ℕ) (l : standing w n < 
         answer = refl;
         lent = refl;
         sized = sized-set w z q l _ _ _ _ (sized-phase q t phase.Installed (sized-at w z q))
-            (all-rows-length (w .tables .lists) (t .slot) (t .«writes_n») (t .number) ps (chainsIn w))
-            (all-versions-length (w .tables .lists) (t .slot) (t .«writes_n») (t .number) ps (chainsIn w)) refl refl;
+            (all-rows-length (w .tables .lists) t ps (chainsIn w))
+            (all-versions-length (w .tables .lists) t ps (chainsIn w)) refl refl;
       }
 
-  installed-place : SameAt w (standing w n) (inInstalled (installOf (w .tables .lists) (txnAt w (standing w n)) (chainsIn w)) (w .clock) (w .tables))
+  installed-place : SameAt w (standing w n) (inInstalled (installOf (chainsIn w) (w .tables .lists) (txnAt w (standing w n))) (w .clock) (w .tables))
       (carried (view w) (asked (ask.Install n)) (refusal (later-tests (view w) (asked (ask.Install n)))))
   unfolding installOf toInstall refusal
   installed-place =

@@ -17,6 +17,8 @@ use Rattle.table.specs.Fields.{rowWords}
 use Rattle.table.specs.Words.{field, setField}
 use Rattle.table.proofs.Laws.{field-length}
 use Rattle.txn.specs.View.{keyView}
+use Rattle.txn.specs.declared.Transaction.{Transaction}
+use Rattle.txn_needs.specs.declared.Key.{Key}
 use Rattle.txn_needs.specs.Keys.{keyOf, newKeyOf}
 use Rattle.finish_publish.specs.Publish.{postedOne, postedAll}
 use Rattle.step_bridge.proofs.Tabled.{part, part-update, part-other, InRange}
@@ -40,12 +42,15 @@ both f h q = keyView (f q) (h q)
 pub keys-by : (f f′ h h′ : ℕ → ℕ) → f ≡ f′ → h ≡ h′ → both f h ≡ both f′ h′
 keys-by f f′ h h′ a b = ap (λ (g : ℕ → ℕ). both g h) a ∙ ap (λ (g : ℕ → ℕ). both f′ g) b
 
-module _ (xs : List ℕ) (s n m : ℕ) where
+module _ (xs : List ℕ) (t : Transaction) (m : ℕ) where
+  abbrev keyNew : ℕ → Key
+  keyNew r = newKeyOf xs (t .slot) (t .«writes_n») r
+
   posted-one : (rows : List ℕ) (r : ℕ) → r < m → rowWords * m ≤ length rows
-      → postings m (postedOne xs s n rows r) ≡ update (postings m rows) r (keyOf (newKeyOf xs s n r))
+      → postings m (postedOne rows xs t r) ≡ update (postings m rows) r (keyOf (keyNew r))
   unfolding postedOne
   posted-one rows r h l =
-      let k = newKeyOf xs s n r in
+      let k = keyNew r in
       keys-by _ _ _ _
       (part-other rowWords 3 m (setField rowWords 2 rows r (k .keyed)) r (k .key) 2 (omega arith) (omega arith) (omega arith)
       ∙ part-update rowWords 2 m rows r (k .keyed) (omega arith) h l)
@@ -53,40 +58,40 @@ module _ (xs : List ℕ) (s n m : ℕ) where
       ∙ ap (λ (f : ℕ → ℕ). update f r (k .key)) (part-other rowWords 2 m rows r (k .keyed) 3 (omega arith) (omega arith) (omega arith)))
       ∙ two-words (field rowWords 2 (part rowWords m rows)) (field rowWords 3 (part rowWords m rows)) r (k .keyed) (k .key)
 
-  one-length : (rows : List ℕ) (r : ℕ) → length (postedOne xs s n rows r) ≡ length rows
+  one-length : (rows : List ℕ) (r : ℕ) → length (postedOne rows xs t r) ≡ length rows
   unfolding postedOne
-  one-length rows r = field-length rowWords 3 (setField rowWords 2 rows r (newKeyOf xs s n r .keyed)) r (newKeyOf xs s n r .key)
-      ∙ field-length rowWords 2 rows r (newKeyOf xs s n r .keyed)
+  one-length rows r = field-length rowWords 3 (setField rowWords 2 rows r (keyNew r .keyed)) r (keyNew r .key)
+      ∙ field-length rowWords 2 rows r (keyNew r .keyed)
 
-  one-other : (rows : List ℕ) (r k : ℕ) → k < 2 → field rowWords k (part rowWords m (postedOne xs s n rows r)) ≡ field rowWords k (part rowWords m rows)
+  one-other : (rows : List ℕ) (r k : ℕ) → k < 2 → field rowWords k (part rowWords m (postedOne rows xs t r)) ≡ field rowWords k (part rowWords m rows)
   unfolding postedOne
-  one-other rows r k h = part-other rowWords 3 m (setField rowWords 2 rows r (newKeyOf xs s n r .keyed)) r (newKeyOf xs s n r .key) k
+  one-other rows r k h = part-other rowWords 3 m (setField rowWords 2 rows r (keyNew r .keyed)) r (keyNew r .key) k
       (omega arith) (omega arith) (omega arith)
-      ∙ part-other rowWords 2 m rows r (newKeyOf xs s n r .keyed) k (omega arith) (omega arith) (omega arith)
+      ∙ part-other rowWords 2 m rows r (keyNew r .keyed) k (omega arith) (omega arith) (omega arith)
 
   pub posted-all : (rs rows : List ℕ) → InRange m rs → rowWords * m ≤ length rows → (q : ℕ)
-      → postings m (postedAll xs s n rows rs) q ≡ cond (member q rs) (keyOf (newKeyOf xs s n q)) (postings m rows q)
+      → postings m (postedAll rows xs t rs) q ≡ cond (member q rs) (keyOf (keyNew q)) (postings m rows q)
   unfolding postedAll member
   posted-all [] rows h l q = refl
   posted-all (r ∷ rs) rows h l q =
-      posted-all rs (postedOne xs s n rows r) (λ i a. h i (inr a)) (rw (one-length rows r) l) q
-      ∙ (ap (λ (f : ℕ → Option ℕ). cond (member q rs) (keyOf (newKeyOf xs s n q)) (f q)) (posted-one rows r (h r (inl refl)) l)
+      posted-all rs (postedOne rows xs t r) (λ i a. h i (inr a)) (rw (one-length rows r) l) q
+      ∙ (ap (λ (f : ℕ → Option ℕ). cond (member q rs) (keyOf (keyNew q)) (f q)) (posted-one rows r (h r (inl refl)) l)
       ∙ by (ℕ-discrete q r) (member q rs))
     where
-      by : Dec (q ≡ r) → (b : Bool) → cond b (keyOf (newKeyOf xs s n q)) (update (postings m rows) r (keyOf (newKeyOf xs s n r)) q)
-          ≡ cond (eqb q r || b) (keyOf (newKeyOf xs s n q)) (postings m rows q)
+      by : Dec (q ≡ r) → (b : Bool) → cond b (keyOf (keyNew q)) (update (postings m rows) r (keyOf (keyNew r)) q)
+          ≡ cond (eqb q r || b) (keyOf (keyNew q)) (postings m rows q)
       by (yes e) true = rw (eq-eqb q r e)
-      by (yes e) false = rw (e, eq-eqb r r refl, update-same (postings m rows) r (keyOf (newKeyOf xs s n r)))
+      by (yes e) false = rw (e, eq-eqb r r refl, update-same (postings m rows) r (keyOf (keyNew r)))
       by (no d) true = rw (ne-eqb q r d)
-      by (no d) false = rw (ne-eqb q r d, update-other (postings m rows) r (keyOf (newKeyOf xs s n r)) q d)
+      by (no d) false = rw (ne-eqb q r d, update-other (postings m rows) r (keyOf (keyNew r)) q d)
 
-  pub posted-length : (rs rows : List ℕ) → length (postedAll xs s n rows rs) ≡ length rows
+  pub posted-length : (rs rows : List ℕ) → length (postedAll rows xs t rs) ≡ length rows
   unfolding postedAll
   posted-length [] rows = refl
-  posted-length (r ∷ rs) rows = posted-length rs (postedOne xs s n rows r) ∙ one-length rows r
+  posted-length (r ∷ rs) rows = posted-length rs (postedOne rows xs t r) ∙ one-length rows r
 
   pub posted-other : (rs rows : List ℕ) (k : ℕ) → k < 2
-      → field rowWords k (part rowWords m (postedAll xs s n rows rs)) ≡ field rowWords k (part rowWords m rows)
+      → field rowWords k (part rowWords m (postedAll rows xs t rs)) ≡ field rowWords k (part rowWords m rows)
   unfolding postedAll
   posted-other [] rows k h = refl
-  posted-other (r ∷ rs) rows k h = posted-other rs (postedOne xs s n rows r) k h ∙ one-other rows r k h
+  posted-other (r ∷ rs) rows k h = posted-other rs (postedOne rows xs t r) k h ∙ one-other rows r k h

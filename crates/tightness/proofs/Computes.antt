@@ -12,8 +12,8 @@ use Rattle.table_scans.specs.Scans.{firstFrom, lastBelow}
 use Rattle.table_chain.specs.Chain.{stepFrom, walkFor, walkFrom, firstVisible}
 use Rattle.txn.specs.Methods.{holdOf, captureAt, writeOf, collectOf}
 use Rattle.txn_places.specs.Places.{missesOf, placeFrom, liveFrom}
-use Rattle.txn_needs.specs.Keys.{versionKey, oldKeyOf, newKeyOf, getsVersionOf, headedBy}
-use Rattle.txn_needs.specs.Needs.{pushOne, pushAll, bucketsFor, writeNeeds, writeChanges}
+use Rattle.txn_needs.specs.Keys.{versionKey, oldKeyOf, newKeyOf, getsVersionOf, headedBy, keysOf, changedKeys}
+use Rattle.txn_needs.specs.Needs.{pushOne, pushAll, bucketsFor, keysNeed}
 use Rattle.txn_needs.specs.Versions.{rowsListed, pendingInto, kept, versionsInto, versionsIn, reservedIn}
 use Rattle.write_verdict.specs.Judged.{firstWhere}
 use Rattle.finish_install.specs.Install.{lastWriteOf, versionStored, pushedRow, pushedRows, toInstall, installOf}
@@ -37,8 +37,8 @@ use Rattle.report_lines.specs.Lines.{writtenAt}
 unfoldable pub computes : Unit {0}
 unfolding model.computes log.number log.widths log.total log.whole log.readRecord digitsStep digitsFor decimal spaced line writeThen turn replayFor
     replayFrom replay field setField setFields clearFields words listOf canonicalOf firstFrom lastBelow stepFrom walkFor walkFrom firstVisible holdOf
-    captureAt writeOf collectOf missesOf placeFrom liveFrom versionKey oldKeyOf newKeyOf getsVersionOf headedBy pushOne pushAll bucketsFor writeNeeds
-    writeChanges firstWhere oneMore rowsListed pendingInto kept versionsInto lastWriteOf versionStored pushedRow pushedRows toInstall installOf
+    captureAt writeOf collectOf missesOf placeFrom liveFrom versionKey oldKeyOf newKeyOf getsVersionOf headedBy keysOf changedKeys pushOne pushAll bucketsFor
+    keysNeed firstWhere oneMore rowsListed pendingInto kept versionsInto lastWriteOf versionStored pushedRow pushedRows toInstall installOf
     readsTakenIn validateOf versionsIn reservedIn lacks neededInto prepareWith prepareOf endOf postedOne postedAll stampedIn neededIn freedIn publishOf
     abortOf keepActive keepAll snapshotOf spent beginOf matchOf only planned recordsFor putRecords recordedOf matchedRows newRecords readingOf rowsOf
     releaseEvery unclaimEvery publishStep stepOf placeFor movedBy rangesFit headsFit txnFits placeFits tablesFit sweptFor cleared openOf decodedOf writtenAt

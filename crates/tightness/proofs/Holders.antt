@@ -13,17 +13,20 @@ use Rattle.table.specs.Fields as fields
 use Rattle.table.specs.Lists.{readsOf, writes as pending}
 use Rattle.table.specs.declared.lists.IndexRead.{IndexRead}
 use Rattle.table_scans.specs.Scans.{firstPlace}
-use Rattle.txn.specs.Methods.{takenBy}
+use Rattle.txn.specs.Methods.{withPhase, withReads, withWrites, takenBy}
+use Rattle.txn.specs.declared.Phase.{Phase}
+use Rattle.txn.specs.declared.Phase.the-variants as phase
+use Rattle.txn.specs.declared.Transaction.{Transaction}
 use Rattle.txn_needs.specs.declared.Key.{Key}
 use Rattle.txn_needs.specs.Keys as keys
-use Rattle.txn_needs.specs.Keys.{keyOf, noKey, versionKey, oldKeyOf, writtenAt, newKeyOf, getsVersionOf}
-use Rattle.txn_needs.specs.Needs.{Listed, pushOne, pushAll, bucketsFor, readsNeed, rowsWritten, writeNeeds, writesNeed, writesChange}
+use Rattle.txn_needs.specs.Keys.{keyOf, noKey, versionKey, oldKeyOf, writtenAt, newKeyOf, getsVersionOf, keysOf, sameKeys, changedKeys}
+use Rattle.txn_needs.specs.Needs.{Listed, pushOne, pushAll, bucketsFor, keysNeed, readsNeed, rowsWritten, writtenBy, writesNeed, writesChange}
 use Rattle.txn_needs.specs.Holders as spec
 use Rattle.tightness.specs.Wrong.{Excludes}
 use Rattle.tightness.proofs.Apart.{apart, bit, count}
 use Rattle.tightness.proofs.Computes.{computes}
 use Rattle.tightness.proofs.Tables.{two}
-use Rattle.tightness.proofs.Small.{starting, erases, headed, keyedBy, erasedBy, twice}
+use Rattle.tightness.proofs.Small.{live, starting, erases, headed, keyedBy, erasedBy, twice}
 
 -- row 0 of head 2 and claim 6, whose chain is version 2, of key 7, over version 1, of this key
 abbrev row : List ℕ
@@ -142,14 +145,18 @@ push (out, n, x) = pushOne (record { out = out; n = n }) x
 abbrev pushKey : List ℕ × ℕ × ℕ × Key → Listed
 pushKey (out, n, buckets, k) = pushed out n (bucketsFor buckets k)
 
-abbrev pushReads : List ℕ × ℕ × ℕ × List ℕ × ℕ → Listed
-pushReads (lists, slot, reads, out, n) = pushed out n (readsNeed lists slot reads)
+abbrev pushReads : List ℕ × Transaction × List ℕ × ℕ → Listed
+pushReads (lists, t, out, n) = pushed out n (readsNeed lists t)
 
-abbrev pushWrites : List ℕ × List ℕ × List ℕ × ℕ × Bool × ℕ × ℕ × List ℕ × ℕ → Listed
-pushWrites (rows, versions, lists, buckets, installed, slot, writes, out, n) = pushed out n (writesNeed rows versions lists buckets installed slot writes)
+abbrev pushWrites : List ℕ × List ℕ × List ℕ × ℕ × Transaction × List ℕ × ℕ → Listed
+pushWrites (rows, versions, lists, buckets, t, out, n) = pushed out n (writesNeed rows versions lists buckets t)
 
-abbrev pushChanges : List ℕ × List ℕ × List ℕ × ℕ × ℕ × ℕ × ℕ × List ℕ × ℕ → Listed
-pushChanges (rows, versions, lists, buckets, number, slot, writes, out, n) = pushed out n (writesChange rows versions lists buckets number slot writes)
+abbrev pushChanges : List ℕ × List ℕ × List ℕ × ℕ × Transaction × List ℕ → Listed
+pushChanges (rows, versions, lists, buckets, t, out) = pushed out 0 (writesChange rows versions lists buckets t)
+
+-- a transaction of this number and phase, with so many pending writes
+abbrev writes : ℕ → ℕ → Phase → Transaction
+writes number n ph = withWrites (live number ph) n
 
 -- room for four
 abbrev room : List ℕ
@@ -180,53 +187,57 @@ unfolding computes
 push-key-itself = apart (0 ∷ [], 0, 4, record { keyed = 1; key = 5 }) listed₀ refl
 
 -- `push_reads`: the stamps, not the buckets
-pub push-reads-stamps : Excludes pushReads (λ (lists, slot, reads, out, n). pushed out n (map (λ (r : IndexRead). r .stamp) (readsOf lists slot reads)))
+pub push-reads-stamps : Excludes pushReads
+    (λ (lists, t, out, n). pushed out n (map (λ (r : IndexRead). r .stamp) (readsOf lists (t .slot) (t .«reads_n»))))
 unfolding computes
-push-reads-stamps = apart (1 ∷ 4 ∷ [], 0, 1, 0 ∷ [], 0) listed₀ refl
+push-reads-stamps = apart (1 ∷ 4 ∷ [], withReads (live 1 phase.Open) 1, 0 ∷ [], 0) listed₀ refl
 
 -- `push_reads`: the last index read is left out
-pub push-reads-last-missed : Excludes pushReads (λ (lists, slot, reads, out, n). pushReads (lists, slot, reads - 1, out, n))
+pub push-reads-last-missed : Excludes pushReads (λ (lists, t, out, n). pushReads (lists, withReads t (t .«reads_n» - 1), out, n))
 unfolding computes
-push-reads-last-missed = apart (1 ∷ 4 ∷ [], 0, 1, 0 ∷ [], 0) count refl
+push-reads-last-missed = apart (1 ∷ 4 ∷ [], withReads (live 1 phase.Open) 1, 0 ∷ [], 0) count refl
 
 -- `push_writes`: the old key's bucket is not needed
 pub push-writes-new-key-only : Excludes pushWrites
-    (λ (rows, versions, lists, buckets, installed, slot, writes, out, n). pushed out n
-    (join (λ r. bucketsFor buckets (newKeyOf lists slot writes r)) (rowsWritten lists slot writes)))
+    (λ (rows, versions, lists, buckets, t, out, n). pushed out n
+    (join (λ r. bucketsFor buckets (newKeyOf lists (t .slot) (t .«writes_n») r)) (writtenBy lists t)))
 unfolding computes
-push-writes-new-key-only = apart (row, chain 6, twice, 4, true, 0, 2, room, 0) count refl
+push-writes-new-key-only = apart (row, chain 6, twice, 4, writes 2 2 phase.Installed, room, 0) count refl
 
 -- `push_writes`: a write that keeps its key needs no bucket
 pub push-writes-changed-only : Excludes pushWrites
-    (λ (rows, versions, lists, buckets, installed, slot, writes, out, n). pushChanges (rows, versions, lists, buckets, 2, slot, writes, out, n))
+    (λ (rows, versions, lists, buckets, t, out, n). pushed out n (writesChange rows versions lists buckets t))
 unfolding computes
-push-writes-changed-only = apart (row, chain 7, twice, 4, true, 0, 2, room, 0) count refl
+push-writes-changed-only = apart (row, chain 7, twice, 4, writes 2 2 phase.Installed, room, 0) count refl
+
+-- `push_writes`: the head's key is the old one, once installed too
+pub push-writes-head-key : Excludes pushWrites
+    (λ (rows, versions, lists, buckets, t, out, n). pushWrites (rows, versions, lists, buckets, withPhase t phase.Open, out, n))
+unfolding computes
+push-writes-head-key = apart (row, chain 6, twice, 4, writes 2 2 phase.Installed, room, 0) listed₀ refl
 
 -- `push_changes`: a write that keeps its key changes its bucket
-pub push-changes-kept-key-too : Excludes pushChanges
-    (λ (rows, versions, lists, buckets, number, slot, writes, out, n). pushWrites (rows, versions, lists, buckets, true, slot, writes, out, n))
+pub push-changes-kept-key-too : Excludes pushChanges (λ (rows, versions, lists, buckets, t, out). pushWrites (rows, versions, lists, buckets, t, out, 0))
 unfolding computes
-push-changes-kept-key-too = apart (row, chain 7, twice, 4, 2, 0, 2, room, 0) count refl
+push-changes-kept-key-too = apart (row, chain 7, twice, 4, writes 2 2 phase.Ended, room) count refl
 
 -- `push_changes`: the new key's bucket alone
 pub push-changes-new-key-only : Excludes pushChanges
-    (λ (rows, versions, lists, buckets, number, slot, writes, out, n). pushed out n
-    (join (λ r. cond (sameKey (oldKeyOf rows versions true r, newKeyOf lists slot writes r)) [] (bucketsFor buckets (newKeyOf lists slot writes r)))
-    (rowsWritten lists slot writes)))
+    (λ (rows, versions, lists, buckets, t, out). pushed out 0
+    (join (λ r. bucketsFor buckets (changedKeys rows versions lists t r .new)) (writtenBy lists t)))
 unfolding computes
-push-changes-new-key-only = apart (row, chain 6, twice, 4, 2, 0, 2, room, 0) count refl
+push-changes-new-key-only = apart (row, chain 6, twice, 4, writes 2 2 phase.Ended, room) count refl
 
 -- `push_changes`: a row that got no version too
 pub push-changes-unmade-too : Excludes pushChanges
-    (λ (rows, versions, lists, buckets, number, slot, writes, out, n). pushed out n
-    (join (λ r. cond (sameKey (oldKeyOf rows versions true r, newKeyOf lists slot writes r)) []
-    (writeNeeds rows versions lists buckets true slot writes r)) (rowsWritten lists slot writes)))
+    (λ (rows, versions, lists, buckets, t, out). pushed out 0
+    (join (λ r. let k = keysOf rows versions lists t r in cond (sameKeys k) [] (keysNeed buckets k)) (writtenBy lists t)))
 unfolding computes
-push-changes-unmade-too = apart (row, chain 6, erases, 4, 5, 0, 1, room, 0) count refl
+push-changes-unmade-too = apart (row, chain 6, erases, 4, writes 5 1 phase.Ended, room) count refl
 
 -- what the contracts of the functions over the first n buckets of a list ask for
 abbrev anyTaken : List ℕ × List ℕ × ℕ × ℕ → Bool
-anyTaken (buckets, list, n, number) = spec.anyTaken buckets number (take n list)
+anyTaken (buckets, list, n, number) = spec.anyTaken buckets (take n list) number
 
 abbrev releaseAll : List ℕ × List ℕ × ℕ × ℕ → List ℕ
 releaseAll (buckets, list, n, number) = fields.clearHolders buckets number (take n list)
@@ -241,7 +252,7 @@ unfolding computes
 any-taken-own = apart (two, 1 ∷ [], 1, 5) bit refl
 
 -- `any_taken`: buckets behind the first n count
-pub any-taken-behind : Excludes anyTaken (λ (buckets, list, n, number). spec.anyTaken buckets number list)
+pub any-taken-behind : Excludes anyTaken (λ (buckets, list, n, number). spec.anyTaken buckets list number)
 unfolding computes
 any-taken-behind = apart (two, 0 ∷ 1 ∷ [], 1, 6) bit refl
 
@@ -256,46 +267,44 @@ unfolding computes
 release-all-nothing = apart (two, 1 ∷ [], 1, 5) holder₁ refl
 
 -- what the contracts of the functions over the pending rows ask for
-abbrev anyClaimed : List ℕ × List ℕ × ℕ × ℕ × ℕ → Bool
-anyClaimed (rows, lists, slot, writes, number) = spec.anyClaimed rows number (rowsWritten lists slot writes)
+abbrev anyClaimed : List ℕ × List ℕ × Transaction → Bool
+anyClaimed (rows, lists, t) = spec.anyClaimed rows lists t
 
-abbrev claimAll : List ℕ × List ℕ × ℕ × ℕ × ℕ → List ℕ
-claimAll (rows, lists, slot, writes, number) = fields.setClaims rows number (rowsWritten lists slot writes)
+abbrev claimAll : List ℕ × List ℕ × Transaction → List ℕ
+claimAll (rows, lists, t) = fields.setClaims rows (t .number) (writtenBy lists t)
 
-abbrev unclaimAll : List ℕ × List ℕ × ℕ × ℕ × ℕ → List ℕ
-unclaimAll (rows, lists, slot, writes, number) = fields.clearClaims rows number (rowsWritten lists slot writes)
+abbrev unclaimAll : List ℕ × List ℕ × Transaction → List ℕ
+unclaimAll (rows, lists, t) = fields.clearClaims rows (t .number) (writtenBy lists t)
 
 abbrev claim₀ : List ℕ → ℕ
 claim₀ xs = getD xs 1 0
 
 -- `any_claimed`: the number's own rows count
-pub any-claimed-own : Excludes anyClaimed
-    (λ (rows, lists, slot, writes, number). some-of (λ r. not (eqb (fields.claimOf rows r) 0)) (rowsWritten lists slot writes))
+pub any-claimed-own : Excludes anyClaimed (λ (rows, lists, t). some-of (λ r. not (eqb (fields.claimOf rows r) 0)) (writtenBy lists t))
 unfolding computes
-any-claimed-own = apart (row, twice, 0, 1, 6) bit refl
+any-claimed-own = apart (row, twice, writes 6 1 phase.Open) bit refl
 
 -- `any_claimed`: only if every row is
-pub any-claimed-all : Excludes anyClaimed
-    (λ (rows, lists, slot, writes, number). all-of (λ r. takenBy (fields.claimOf rows r) number) (rowsWritten lists slot writes))
+pub any-claimed-all : Excludes anyClaimed (λ (rows, lists, t). all-of (λ r. takenBy (fields.claimOf rows r) (t .number)) (writtenBy lists t))
 unfolding computes
-any-claimed-all = apart (row, starting pending (0 ∷ 1 ∷ 6 ∷ 9 ∷ 1 ∷ 1 ∷ 7 ∷ 9 ∷ []), 0, 2, 5) bit refl
+any-claimed-all = apart (row, starting pending (0 ∷ 1 ∷ 6 ∷ 9 ∷ 1 ∷ 1 ∷ 7 ∷ 9 ∷ []), writes 5 2 phase.Open) bit refl
 
 -- `claim_all`: the last pending row is left out
-pub claim-all-last-missed : Excludes claimAll (λ (rows, lists, slot, writes, number). claimAll (rows, lists, slot, writes - 1, number))
+pub claim-all-last-missed : Excludes claimAll (λ (rows, lists, t). claimAll (rows, lists, withWrites t (t .«writes_n» - 1)))
 unfolding computes
-claim-all-last-missed = apart (row, twice, 0, 1, 5) claim₀ refl
+claim-all-last-missed = apart (row, twice, writes 5 1 phase.Open) claim₀ refl
 
 -- `claim_all`: the claims are freed
-pub claim-all-frees : Excludes claimAll (λ (rows, lists, slot, writes, number). claimAll (rows, lists, slot, writes, 0))
+pub claim-all-frees : Excludes claimAll (λ (rows, lists, t). fields.setClaims rows 0 (writtenBy lists t))
 unfolding computes
-claim-all-frees = apart (row, twice, 0, 1, 5) claim₀ refl
+claim-all-frees = apart (row, twice, writes 5 1 phase.Open) claim₀ refl
 
 -- `unclaim_all`: freed whoever claimed them
-pub unclaim-all-of-others : Excludes unclaimAll (λ (rows, lists, slot, writes, number). claimAll (rows, lists, slot, writes, 0))
+pub unclaim-all-of-others : Excludes unclaimAll (λ (rows, lists, t). fields.setClaims rows 0 (writtenBy lists t))
 unfolding computes
-unclaim-all-of-others = apart (row, twice, 0, 1, 5) claim₀ refl
+unclaim-all-of-others = apart (row, twice, writes 5 1 phase.Open) claim₀ refl
 
 -- `unclaim_all`: nothing is freed
-pub unclaim-all-nothing : Excludes unclaimAll (λ (rows, lists, slot, writes, number). rows)
+pub unclaim-all-nothing : Excludes unclaimAll (λ (rows, lists, t). rows)
 unfolding computes
-unclaim-all-nothing = apart (row, twice, 0, 1, 6) claim₀ refl
+unclaim-all-nothing = apart (row, twice, writes 6 1 phase.Open) claim₀ refl

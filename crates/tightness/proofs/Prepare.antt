@@ -9,6 +9,7 @@ use lib.ListN.{getD, replicate}
 use Rattle.base_limits.specs.Limits.{mostLive, mostWrites}
 use Rattle.model.specs.Store.{rank, phaseOpen}
 use Rattle.base_protocol.specs.declared.Answer.the-variants as tell
+use Rattle.base_protocol.specs.declared.Extent.{Extent}
 use Rattle.table.specs.Fields.{rowWords, setClaims}
 use Rattle.txn.specs.View.{phaseView}
 use Rattle.txn.specs.Methods.{withReads, refusedOf}
@@ -43,7 +44,7 @@ validates (versions, buckets, lists, t) = validateOf versions buckets lists t
 
 -- `validate`: the phase is not tested
 pub validate-any-phase : Excludes validates (λ (versions, buckets, lists, t).
-    cond (readsTakenIn buckets lists (t .slot) (t .«reads_n») (t .number)) (refusedOf t 7)
+    cond (readsTakenIn buckets lists t) (refusedOf t 7)
     (record { answer = tell.Judged (verdictOf versions buckets lists t); txn = t }))
 unfolding computes
 validate-any-phase = apart ([], [], [], live 1 phase.Ended) (λ (a : Answered). numberIn (a .answer)) refl
@@ -55,47 +56,49 @@ pub validate-held-read : Excludes validates (λ (versions, buckets, lists, t).
 unfolding computes
 validate-held-read = apart ([], heldBy 2, captured, reader) (λ (a : Answered). numberIn (a .answer)) refl
 
--- what prepare is given: versions, lists, the bucket count, the version count, the last used pointer, what is reserved, the record, rows and buckets
+-- what prepare is given: the tables, how far the store reaches, what is reserved, the record
 abbrev Given : Type 0
-Given = List ℕ × List ℕ × ℕ × ℕ × ℕ × List ℕ × Transaction × List ℕ × List ℕ
+Given = List ℕ × List ℕ × List ℕ × List ℕ × Extent × List ℕ × Transaction
 
 abbrev prepares : Given → Left
-prepares (versions, lists, bucketCount, versionCount, used, prepared, t, rows, buckets) =
-    prepareOf versions lists bucketCount versionCount used prepared t rows buckets
+prepares (rows, versions, buckets, lists, e, prepared, t) = prepareOf rows versions buckets lists e prepared t
 
--- in one bucket, with one version to give
-abbrev given : List ℕ → Transaction → List ℕ → List ℕ → Given
-given lists t rows buckets = ([], lists, 1, 1, 0, replicate mostLive 0, t, rows, buckets)
+-- in one bucket, with so many versions to give
+abbrev reaching : ℕ → Extent
+reaching n = record { sizes = record { rows = 1; versions = n; buckets = 1 }; clock = 2; used = 0 }
+
+abbrev given : List ℕ → List ℕ → List ℕ → Transaction → Given
+given rows buckets lists t = (rows, [], buckets, lists, reaching 1, replicate mostLive 0, t)
 
 -- `prepare`: the phase is not tested
 pub prepare-any-phase : Excludes prepares
-    (λ (versions, lists, bucketCount, versionCount, used, prepared, t, rows, buckets). prepareWith versions lists versionCount used prepared t rows
-    buckets (neededInto rows versions lists bucketCount (t .slot) (t .«reads_n») (t .«writes_n») (replicate mostNeeded 0)))
+    (λ (rows, versions, buckets, lists, e, prepared, t). prepareWith rows versions buckets lists e prepared t
+    (neededInto rows versions lists (e .sizes .buckets) t (replicate mostNeeded 0)))
 unfolding computes
-prepare-any-phase = apart (given [] (live 1 phase.Ended) [] []) (λ (l : Left). numberIn (l .reply .answer)) refl
+prepare-any-phase = apart (given [] [] [] (live 1 phase.Ended)) (λ (l : Left). numberIn (l .reply .answer)) refl
 
 -- `prepare`: the needed buckets are not taken
-pub prepare-buckets-free : Excludes prepares (λ (versions, lists, bucketCount, versionCount, used, prepared, t, rows, buckets). let l =
-    prepares (versions, lists, bucketCount, versionCount, used, prepared, t, rows, buckets) in left (l .reply) (l .rows) buckets)
+pub prepare-buckets-free : Excludes prepares (λ (rows, versions, buckets, lists, e, prepared, t). let l =
+    prepares (rows, versions, buckets, lists, e, prepared, t) in left (l .reply) (l .rows) buckets)
 unfolding computes
-prepare-buckets-free = apart (given captured reader [] (heldBy 0)) (λ (l : Left). getD (l .buckets) 1 0) refl
+prepare-buckets-free = apart (given [] (heldBy 0) captured reader) (λ (l : Left). getD (l .buckets) 1 0) refl
 
 -- `prepare`: the pending rows are not claimed
-pub prepare-rows-unclaimed : Excludes prepares (λ (versions, lists, bucketCount, versionCount, used, prepared, t, rows, buckets). let l =
-    prepares (versions, lists, bucketCount, versionCount, used, prepared, t, rows, buckets) in left (l .reply) rows (l .buckets))
+pub prepare-rows-unclaimed : Excludes prepares (λ (rows, versions, buckets, lists, e, prepared, t). let l =
+    prepares (rows, versions, buckets, lists, e, prepared, t) in left (l .reply) rows (l .buckets))
 unfolding computes
-prepare-rows-unclaimed = apart (given puts (writer phase.Open) (replicate rowWords 0) []) (λ (l : Left). getD (l .rows) 1 0) refl
+prepare-rows-unclaimed = apart (given (replicate rowWords 0) [] puts (writer phase.Open)) (λ (l : Left). getD (l .rows) 1 0) refl
 
 -- `prepare`: 13 counts an erase of nothing
-pub prepare-13-of-nothing : Excludes prepares (λ (versions, lists, bucketCount, versionCount, used, prepared, t, rows, buckets).
-    cond (ltb versionCount (used + pendingInto lists (t .slot) (t .«writes_n») (replicate mostWrites 0) .n)) (left (refusedOf t 13) rows buckets)
-    (prepares (versions, lists, bucketCount, versionCount, used, prepared, t, rows, buckets)))
+pub prepare-13-of-nothing : Excludes prepares (λ (rows, versions, buckets, lists, e, prepared, t).
+    cond (ltb (e .sizes .versions) (e .used + pendingInto lists (t .slot) (t .«writes_n») (replicate mostWrites 0) .n)) (left (refusedOf t 13) rows buckets)
+    (prepares (rows, versions, buckets, lists, e, prepared, t)))
 unfolding computes
-prepare-13-of-nothing = apart ([], erases, 1, 0, 0, replicate mostLive 0, writer phase.Open, [], []) (λ (l : Left). numberIn (l .reply .answer)) refl
+prepare-13-of-nothing = apart ([], [], [], erases, reaching 0, replicate mostLive 0, writer phase.Open) (λ (l : Left). numberIn (l .reply .answer)) refl
 
 -- `prepare`: the row of an erase of nothing is not claimed
-pub prepare-nothing-unclaimed : Excludes prepares (λ (versions, lists, bucketCount, versionCount, used, prepared, t, rows, buckets). let l =
-    prepares (versions, lists, bucketCount, versionCount, used, prepared, t, rows, buckets) in
+pub prepare-nothing-unclaimed : Excludes prepares (λ (rows, versions, buckets, lists, e, prepared, t). let l =
+    prepares (rows, versions, buckets, lists, e, prepared, t) in
     left (l .reply) (setClaims rows (t .number) (front (versionsInto rows versions lists (t .slot) (t .«writes_n») (replicate mostWrites 0)))) (l .buckets))
 unfolding computes
-prepare-nothing-unclaimed = apart (given erases (writer phase.Open) (replicate rowWords 0) []) (λ (l : Left). getD (l .rows) 1 0) refl
+prepare-nothing-unclaimed = apart (given (replicate rowWords 0) [] erases (writer phase.Open)) (λ (l : Left). getD (l .rows) 1 0) refl

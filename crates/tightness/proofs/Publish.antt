@@ -2,12 +2,13 @@
 -- Assumes nothing.
 use Prim.Native.Nat.{ℕ}
 use mathlib.Core.Path.{refl}
-use mathlib.Core.Bool.{true, cond, not}
+use mathlib.Core.Bool.{cond, not}
 use mathlib.Core.List.{List, [], _∷_}
 use lib.Dec.{eqb}
 use lib.ListN.{getD}
-use Rattle.model.specs.Store.{rank, phaseInstalled, bucketIn}
+use Rattle.model.specs.Store.{rank, phaseInstalled}
 use Rattle.base_protocol.specs.declared.Answer.the-variants as tell
+use Rattle.base_protocol.specs.declared.Extent.{Extent}
 use Rattle.txn.specs.View.{phaseView}
 use Rattle.txn.specs.Methods.{withPhase, refusedOf}
 use Rattle.txn.specs.declared.Phase.{Phase}
@@ -49,57 +50,57 @@ holder l = getD (l .buckets) 1 0
 abbrev stamp : Left → ℕ
 stamp l = getD (l .buckets) 0 0
 
--- what publish is given: versions, lists, the bucket count, the clock, the record, rows and buckets; abort has no use for the clock
+-- what publish is given: the tables, how far the store reaches, the record; abort takes of the extent only the bucket count
 abbrev Given : Type 0
-Given = List ℕ × List ℕ × ℕ × ℕ × Transaction × List ℕ × List ℕ
+Given = List ℕ × List ℕ × List ℕ × List ℕ × Extent × Transaction
 
 abbrev given : Phase → Given
-given ph = (keyedBy 1, puts, 1, 2, writer ph, claimed, held)
+given ph = (claimed, keyedBy 1, held, puts, record { sizes = record { rows = 1; versions = 1; buckets = 1 }; clock = 2; used = 1 }, writer ph)
 
 abbrev publishes : Given → Left
-publishes (versions, lists, count, clock, t, rows, buckets) = publishOf versions lists count clock t rows buckets
+publishes (rows, versions, buckets, lists, e, t) = publishOf rows versions buckets lists e t
 
 abbrev aborts : Given → Left
-aborts (versions, lists, count, clock, t, rows, buckets) = abortOf versions lists count t rows buckets
+aborts (rows, versions, buckets, lists, e, t) = abortOf rows versions buckets lists (e .sizes .buckets) t
 
 -- `publish`: the place does not become free
-pub publish-record-kept : Excludes publishes (λ (versions, lists, count, clock, t, rows, buckets). let l =
-    publishes (versions, lists, count, clock, t, rows, buckets) in
+pub publish-record-kept : Excludes publishes (λ (rows, versions, buckets, lists, e, t). let l =
+    publishes (rows, versions, buckets, lists, e, t) in
     record { reply = record { answer = l .reply .answer; txn = t }; rows = l .rows; buckets = l .buckets })
 unfolding computes
 publish-record-kept = apart (given phase.Ended) (λ (l : Left). l .reply .txn .number) refl
 
 -- `publish`: the claims stay
-pub publish-claims-kept : Excludes publishes (λ (versions, lists, count, clock, t, rows, buckets). let l =
-    publishes (versions, lists, count, clock, t, rows, buckets) in record { reply = l .reply; rows = rows; buckets = l .buckets })
+pub publish-claims-kept : Excludes publishes (λ (rows, versions, buckets, lists, e, t). let l =
+    publishes (rows, versions, buckets, lists, e, t) in record { reply = l .reply; rows = rows; buckets = l .buckets })
 unfolding computes
 publish-claims-kept = apart (given phase.Ended) claim refl
 
 -- `publish`: the buckets of changed keys are not stamped
-pub publish-unstamped : Excludes publishes (λ (versions, lists, count, clock, t, rows, buckets). let l =
-    publishes (versions, lists, count, clock, t, rows, buckets) in record {
+pub publish-unstamped : Excludes publishes (λ (rows, versions, buckets, lists, e, t). let l =
+    publishes (rows, versions, buckets, lists, e, t) in record {
       reply = l .reply;
       rows = l .rows;
-      buckets = freedIn rows versions lists count true (bucketIn (phaseView (t .phase))) (t .slot) (t .«reads_n») (t .«writes_n») (t .number) buckets;
+      buckets = freedIn rows versions buckets lists (e .sizes .buckets) t;
     })
 unfolding computes
 publish-unstamped = apart (given phase.Ended) stamp refl
 
 -- `abort`: the place does not become free
-pub abort-record-kept : Excludes aborts (λ (versions, lists, count, clock, t, rows, buckets). let l =
-    aborts (versions, lists, count, clock, t, rows, buckets) in
+pub abort-record-kept : Excludes aborts (λ (rows, versions, buckets, lists, e, t). let l =
+    aborts (rows, versions, buckets, lists, e, t) in
     record { reply = record { answer = l .reply .answer; txn = t }; rows = l .rows; buckets = l .buckets })
 unfolding computes
 abort-record-kept = apart (given phase.Open) (λ (l : Left). l .reply .txn .number) refl
 
 -- `abort`: the claims stay
-pub abort-claims-kept : Excludes aborts (λ (versions, lists, count, clock, t, rows, buckets). let l =
-    aborts (versions, lists, count, clock, t, rows, buckets) in record { reply = l .reply; rows = rows; buckets = l .buckets })
+pub abort-claims-kept : Excludes aborts (λ (rows, versions, buckets, lists, e, t). let l =
+    aborts (rows, versions, buckets, lists, e, t) in record { reply = l .reply; rows = rows; buckets = l .buckets })
 unfolding computes
 abort-claims-kept = apart (given phase.Prepared) claim refl
 
 -- `abort`: the buckets stay held
-pub abort-buckets-held : Excludes aborts (λ (versions, lists, count, clock, t, rows, buckets). let l =
-    aborts (versions, lists, count, clock, t, rows, buckets) in record { reply = l .reply; rows = l .rows; buckets = buckets })
+pub abort-buckets-held : Excludes aborts (λ (rows, versions, buckets, lists, e, t). let l =
+    aborts (rows, versions, buckets, lists, e, t) in record { reply = l .reply; rows = l .rows; buckets = buckets })
 unfolding computes
 abort-buckets-held = apart (given phase.Prepared) holder refl

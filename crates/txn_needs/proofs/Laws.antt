@@ -14,9 +14,11 @@ use lib.Seq.{drop-cons}
 use Rattle.base_lists.specs.Lists.{join}
 use Rattle.model.specs.Store.{sameKey}
 use Rattle.txn.specs.View.{keyView}
-use Rattle.table.specs.Lists.{Kind, listAt, entryAt}
+use Rattle.txn.specs.declared.Transaction.{Transaction}
+use Rattle.table.specs.Lists.{Kind, listAt, entryAt, writes, writeOf, writeAt}
+use Rattle.table.specs.declared.lists.Write.{Write}
 use Rattle.table_scans.proofs.Laws.{fields-length, fields-at}
-use Rattle.txn_needs.specs.Needs.{Listed, pushOne, pushAll}
+use Rattle.txn_needs.specs.Needs.{Listed, pushOne, pushAll, writtenBy}
 
 -- a list pushed after a list
 pub push-append : (st : Listed) (xs ys : List ℕ) → pushAll st (xs ++ ys) ≡ pushAll (pushAll st xs) ys
@@ -41,6 +43,14 @@ module _ {A : Type 0} (g : A → ℕ) (f : List ℕ → A) (k : Kind) (xs : List
   fields-done h =
       let m : length (map g (listAt f k xs s n)) ≤ i = rw (fields-length g f k xs s n) h in
       drop-of-length-le (map g (listAt f k xs s n)) m
+
+-- and of the rows of a transaction's pending writes
+module _ (lists : List ℕ) (t : Transaction) (i : ℕ) where
+  pub rows-next : (v : ℕ) → i < t .«writes_n» → v ≡ writeAt lists (t .slot) i .row → drop i (writtenBy lists t) ≡ v ∷ drop (i + 1) (writtenBy lists t)
+  rows-next v h e = fields-next (λ (w : Write). w .row) writeOf writes lists (t .slot) (t .«writes_n») i v h e
+
+  pub rows-done : t .«writes_n» ≤ i → drop i (writtenBy lists t) ≡ []
+  rows-done h = fields-done (λ (w : Write). w .row) writeOf writes lists (t .slot) (t .«writes_n») i h
 
 -- ---- one turn of a loop that lists: one number, or the list of one number
 pub push-turn : (st st′ : Listed) (l : List ℕ) (i v : ℕ) → drop i l ≡ v ∷ drop (i + 1) l → st′ ≡ pushOne st v → pushAll st (drop i l)

@@ -4,13 +4,17 @@ use mathlib.Core.Bool.{Bool, false, cond, not, _&&_, _||_}
 use mathlib.Core.Option.{Option}
 use mathlib.Core.List.{List}
 use lib.Dec.{eqb, leb}
-use Rattle.txn.specs.View.{keyView}
+use Rattle.model.specs.Store.{rank, phaseInstalled, sameKey}
+use Rattle.txn.specs.View.{keyView, phaseView}
+use Rattle.txn.specs.declared.Phase.{Phase}
+use Rattle.txn.specs.declared.Transaction.{Transaction}
 use Rattle.table_scans.specs.Scans.{latestPending}
 use Rattle.table_scans.specs.declared.Found.{Found}
 use Rattle.table_scans.specs.declared.Found.the-variants.{At, Nothing}
 use Rattle.table.specs.Fields as fields
 use Rattle.table.specs.Lists.{writeAt}
 use Rattle.txn_needs.specs.declared.Key.{Key}
+use Rattle.txn_needs.specs.declared.Keys.{Keys}
 
 -- a key as the model has it
 abbrev pub keyOf : Key → Option ℕ
@@ -42,3 +46,22 @@ getsVersionOf rows versions lists slot n r = not (eqb (oldKeyOf rows versions fa
 -- a row headed by a version of this number
 unfoldable pub headedBy : List ℕ → List ℕ → ℕ → ℕ → Bool
 headedBy rows versions n r = leb 1 (fields.headOf rows r) && eqb (fields.xminOf versions (fields.headOf rows r)) n
+
+-- the writes are installed from this phase on
+abbrev pub isInstalled : Phase → Bool
+isInstalled p = leb phaseInstalled (rank (phaseView p))
+
+-- the old and the new key of a row that a transaction writes
+unfoldable pub keysOf : List ℕ → List ℕ → List ℕ → Transaction → ℕ → Keys
+keysOf rows versions lists t r = record { old = oldKeyOf rows versions (isInstalled (t .phase)) r; new = newKeyOf lists (t .slot) (t .«writes_n») r }
+
+abbrev pub noKeys : Keys
+noKeys = record { old = noKey; new = noKey }
+
+abbrev pub sameKeys : Keys → Bool
+sameKeys k = sameKey (keyOf (k .old)) (keyOf (k .new))
+
+-- none twice where the transaction made no version or old and new key are the same
+unfoldable pub changedKeys : List ℕ → List ℕ → List ℕ → Transaction → ℕ → Keys
+changedKeys rows versions lists t r = cond (not (headedBy rows versions (t .number) r)) noKeys
+    (cond (sameKeys (keysOf rows versions lists t r)) noKeys (keysOf rows versions lists t r))

@@ -1,16 +1,17 @@
 -- The buckets that a transaction needs, listed in lent words.
 use Prim.Native.Nat.{ℕ, _+_, _%_}
-use mathlib.Core.Bool.{Bool, true, cond, not}
+use mathlib.Core.Bool.{cond}
 use mathlib.Core.List.{List, [], _∷_, _++_, map}
 use lib.Dec.{eqb, ltb}
 use lib.ListN.{length, take, set, replicate}
 use Rattle.base_lists.specs.Lists.{join}
-use Rattle.model.specs.Store.{sameKey}
 use Rattle.table.specs.Lists.{readsOf, writesOf}
 use Rattle.table.specs.declared.lists.IndexRead.{IndexRead}
 use Rattle.table.specs.declared.lists.Write.{Write}
+use Rattle.txn.specs.declared.Transaction.{Transaction}
 use Rattle.txn_needs.specs.declared.Key.{Key}
-use Rattle.txn_needs.specs.Keys.{headedBy, keyOf, oldKeyOf, newKeyOf}
+use Rattle.txn_needs.specs.declared.Keys.{Keys}
+use Rattle.txn_needs.specs.Keys.{keysOf, changedKeys}
 
 -- the first n words of a lent list are listed
 pub record Listed : Type 0 where
@@ -36,25 +37,31 @@ front l = take (l .n) (l .out)
 unfoldable pub bucketsFor : ℕ → Key → List ℕ
 bucketsFor count k = cond (eqb (k .keyed) 0) [] ((k .key % count) ∷ [])
 
--- the buckets of the index reads
-abbrev pub readsNeed : List ℕ → ℕ → ℕ → List ℕ
-readsNeed lists slot n = map (λ (r : IndexRead). r .bucket) (readsOf lists slot n)
+-- the buckets of a row's old and new key
+unfoldable pub keysNeed : ℕ → Keys → List ℕ
+keysNeed count k = bucketsFor count (k .old) ++ bucketsFor count (k .new)
 
--- the rows of the pending writes
+-- the buckets of the index reads
+abbrev pub readsNeed : List ℕ → Transaction → List ℕ
+readsNeed lists t = map (λ (r : IndexRead). r .bucket) (readsOf lists (t .slot) (t .«reads_n»))
+
+-- the rows of the first n pending writes of a slot, and of a transaction's
 abbrev pub rowsWritten : List ℕ → ℕ → ℕ → List ℕ
 rowsWritten lists slot n = map (λ (w : Write). w .row) (writesOf lists slot n)
 
--- the buckets of the old and the new key of a pending row, and of every one
-unfoldable pub writeNeeds : List ℕ → List ℕ → List ℕ → ℕ → Bool → ℕ → ℕ → ℕ → List ℕ
-writeNeeds rows versions lists count installed slot n r = bucketsFor count (oldKeyOf rows versions installed r) ++ bucketsFor count (newKeyOf lists slot n r)
+abbrev pub writtenBy : List ℕ → Transaction → List ℕ
+writtenBy lists t = rowsWritten lists (t .slot) (t .«writes_n»)
 
-abbrev pub writesNeed : List ℕ → List ℕ → List ℕ → ℕ → Bool → ℕ → ℕ → List ℕ
-writesNeed rows versions lists count installed slot n = join (writeNeeds rows versions lists count installed slot n) (rowsWritten lists slot n)
+-- the buckets of the old and the new key of a pending row, and of every one
+abbrev pub writeNeeds : List ℕ → List ℕ → List ℕ → ℕ → Transaction → ℕ → List ℕ
+writeNeeds rows versions lists count t r = keysNeed count (keysOf rows versions lists t r)
+
+abbrev pub writesNeed : List ℕ → List ℕ → List ℕ → ℕ → Transaction → List ℕ
+writesNeed rows versions lists count t = join (writeNeeds rows versions lists count t) (writtenBy lists t)
 
 -- the same, only where the transaction made a version and old and new key differ
-unfoldable pub writeChanges : List ℕ → List ℕ → List ℕ → ℕ → ℕ → ℕ → ℕ → ℕ → List ℕ
-writeChanges rows versions lists count number slot n r = cond (not (headedBy rows versions number r)) []
-    (cond (sameKey (keyOf (oldKeyOf rows versions true r)) (keyOf (newKeyOf lists slot n r))) [] (writeNeeds rows versions lists count true slot n r))
+abbrev pub writeChanges : List ℕ → List ℕ → List ℕ → ℕ → Transaction → ℕ → List ℕ
+writeChanges rows versions lists count t r = keysNeed count (changedKeys rows versions lists t r)
 
-abbrev pub writesChange : List ℕ → List ℕ → List ℕ → ℕ → ℕ → ℕ → ℕ → List ℕ
-writesChange rows versions lists count number slot n = join (writeChanges rows versions lists count number slot n) (rowsWritten lists slot n)
+abbrev pub writesChange : List ℕ → List ℕ → List ℕ → ℕ → Transaction → List ℕ
+writesChange rows versions lists count t = join (writeChanges rows versions lists count t) (writtenBy lists t)

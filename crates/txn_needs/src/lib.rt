@@ -14,14 +14,18 @@ use table::set_holder;
 use table::xmin_at;
 use table_scans::Found;
 use table_scans::latest_pending;
+use txn::INSTALLED;
+use txn::Phase;
+use txn::Transaction;
 use txn::bucket_of;
 use txn::by_another;
+use txn::phase_rank;
 ghost use mathlib.Core.Path.{_≡_};
 ghost use mathlib.Core.List.{[], _∷_};
 ghost use lib.ListN.{take};
 ghost use Rattle.model.specs.Store.{sameKey};
-ghost use Rattle.txn_needs.specs.Keys.{getsVersionOf, headedBy, keyOf, versionKey, oldKeyOf, newKeyOf};
-ghost use Rattle.txn_needs.specs.Needs.{pushOne, pushAll, bucketsFor, readsNeed, writeNeeds, writesNeed, rowsWritten, writeChanges, writesChange};
+ghost use Rattle.txn_needs.specs.Keys.{getsVersionOf, headedBy, keyOf, versionKey, isInstalled, oldKeyOf, newKeyOf, keysOf, changedKeys};
+ghost use Rattle.txn_needs.specs.Needs.{pushOne, pushAll, bucketsFor, keysNeed, readsNeed, writtenBy, writesNeed, writesChange};
 ghost use Rattle.table.specs.Fields.{setClaims, clearClaims, clearHolders};
 ghost use Rattle.txn_needs.specs.Holders.{anyTaken, anyClaimed};
 
@@ -31,6 +35,12 @@ pub mod versions; // versions.rt: the rows that get a version
 pub struct Key {
     pub keyed: u64,
     pub key: u64,
+}
+
+// The old and the new key of a pending row.
+pub struct Keys {
+    pub old: Key,
+    pub new: Key,
 }
 
 // The key of the version at a pointer; none at 0.
@@ -77,6 +87,23 @@ pub fn new_key(lists: &[u64], slot: u32, count: u32, row: u64) -> Key
     }
 }
 
+// Whether a transaction in this phase has installed its writes.
+fn is_installed(phase: Phase) -> bool
+    ensures { λ r. ⌜ r ≡ isInstalled phase ⌝ }
+{
+    phase_rank(phase) >= INSTALLED
+}
+
+// The old and the new key of a row that a transaction writes.
+fn keys_of(rows: &[u64], versions: &[u64], lists: &[u64], t: Transaction, row: u64) -> Keys
+    ensures { λ r. ⌜ r ≡ keysOf (now (rows .entry)) (now (versions .entry)) (now (lists .entry)) t row ⌝ }
+{
+    let phase = t.phase;
+    let old = old_key(rows, versions, is_installed(phase), row);
+    let new = new_key(lists, t.slot, t.writes_n, row);
+    Keys { old: old, new: new }
+}
+
 // Whether two keys are the same: none differs from any key.
 pub fn same_key(a: Key, b: Key) -> bool
     ensures { λ r. ⌜ r ≡ sameKey (keyOf a) (keyOf b) ⌝ }
@@ -111,41 +138,25 @@ pub fn push_key(out: &mut [u64], n: usize, bucket_count: u64, key: Key) -> usize
     push(out, n, bucket_of(bucket_count, key.key))
 }
 
+// The buckets of a row's old and new key.
+fn push_keys(out: &mut [u64], n: usize, bucket_count: u64, keys: Keys) -> usize
+    ensures { λ r. ⌜ record { out = now (out .exit); n = r } ≡ pushAll (record { out = now (out .entry); n = n }) (keysNeed «bucket_count» keys) ⌝ }
+{
+    let m = push_key(out, n, bucket_count, keys.old);
+    push_key(out, m, bucket_count, keys.new)
+}
+
 // The buckets of the index reads.
-pub fn push_reads(lists: &[u64], slot: u32, count: u32, out: &mut [u64], n: usize) -> usize
-    ensures { λ r. ⌜ record { out = now (out .exit); n = r }
-        ≡ pushAll (record { out = now (out .entry); n = n }) (readsNeed (now (lists .entry)) slot count) ⌝ }
+pub fn push_reads(lists: &[u64], t: Transaction, out: &mut [u64], n: usize) -> usize
+    ensures { λ r. ⌜ record { out = now (out .exit); n = r } ≡ pushAll (record { out = now (out .entry); n = n }) (readsNeed (now (lists .entry)) t) ⌝ }
 {
     let mut m = n;
     let mut i: u32 = 0;
-    while i < count {
-        m = push(out, m, read_bucket_at(lists, slot, i));
+    while i < t.reads_n {
+        m = push(out, m, read_bucket_at(lists, t.slot, i));
         i += 1;
     }
     m
-}
-
-// The buckets of the old and the new key of one pending row.
-fn push_write(
-    rows: &[u64],
-    versions: &[u64],
-    lists: &[u64],
-    bucket_count: u64,
-    installed: bool,
-    slot: u32,
-    count: u32,
-    row: u64,
-    out: &mut [u64],
-    n: usize,
-) -> usize
-    ensures { λ r. ⌜ record { out = now (out .exit); n = r }
-        ≡ pushAll (record { out = now (out .entry); n = n })
-        (writeNeeds (now (rows .entry)) (now (versions .entry)) (now (lists .entry)) «bucket_count» installed slot count row) ⌝ }
-{
-    let old = old_key(rows, versions, installed, row);
-    let new = new_key(lists, slot, count, row);
-    let m = push_key(out, n, bucket_count, old);
-    push_key(out, m, bucket_count, new)
 }
 
 // The buckets of the old and the new key of every pending row.
@@ -154,31 +165,19 @@ pub fn push_writes(
     versions: &[u64],
     lists: &[u64],
     bucket_count: u64,
-    installed: bool,
-    slot: u32,
-    count: u32,
+    t: Transaction,
     out: &mut [u64],
     n: usize,
 ) -> usize
     ensures { λ r. ⌜ record { out = now (out .exit); n = r }
         ≡ pushAll (record { out = now (out .entry); n = n })
-        (writesNeed (now (rows .entry)) (now (versions .entry)) (now (lists .entry)) «bucket_count» installed slot count) ⌝ }
+        (writesNeed (now (rows .entry)) (now (versions .entry)) (now (lists .entry)) «bucket_count» t) ⌝ }
 {
     let mut m = n;
     let mut i: u32 = 0;
-    while i < count {
-        m = push_write(
-            rows,
-            versions,
-            lists,
-            bucket_count,
-            installed,
-            slot,
-            count,
-            write_row_at(lists, slot, i),
-            out,
-            m,
-        );
+    while i < t.writes_n {
+        let keys = keys_of(rows, versions, lists, t, write_row_at(lists, t.slot, i));
+        m = push_keys(out, m, bucket_count, keys);
         i += 1;
     }
     m
@@ -214,33 +213,22 @@ pub fn gets_version(
     new.keyed != 0
 }
 
-// The buckets of the old and the new key of one pending row, where a version was made and they differ.
-fn push_change(
-    rows: &[u64],
-    versions: &[u64],
-    lists: &[u64],
-    bucket_count: u64,
-    number: u64,
-    slot: u32,
-    count: u32,
-    row: u64,
-    out: &mut [u64],
-    n: usize,
-) -> usize
-    ensures { λ r. ⌜ record { out = now (out .exit); n = r }
-        ≡ pushAll (record { out = now (out .entry); n = n })
-        (writeChanges (now (rows .entry)) (now (versions .entry)) (now (lists .entry)) «bucket_count» number slot count row) ⌝ }
+// The old and the new key of a pending row; none twice where no version was made or they are the same.
+fn changed_keys(rows: &[u64], versions: &[u64], lists: &[u64], t: Transaction, row: u64) -> Keys
+    ensures { λ r. ⌜ r ≡ changedKeys (now (rows .entry)) (now (versions .entry)) (now (lists .entry)) t row ⌝ }
 {
-    if !headed_by(rows, versions, number, row) {
-        return n;
+    let none = Keys {
+        old: Key { keyed: 0, key: 0 },
+        new: Key { keyed: 0, key: 0 },
+    };
+    if !headed_by(rows, versions, t.number, row) {
+        return none;
     }
-    let old = old_key(rows, versions, true, row);
-    let new = new_key(lists, slot, count, row);
-    if same_key(old, new) {
-        return n;
+    let keys = keys_of(rows, versions, lists, t, row);
+    if same_key(keys.old, keys.new) {
+        return none;
     }
-    let m = push_key(out, n, bucket_count, old);
-    push_key(out, m, bucket_count, new)
+    keys
 }
 
 // The buckets that a publish stamps: of the pending rows whose key changed.
@@ -249,39 +237,26 @@ pub fn push_changes(
     versions: &[u64],
     lists: &[u64],
     bucket_count: u64,
-    number: u64,
-    slot: u32,
-    count: u32,
+    t: Transaction,
     out: &mut [u64],
-    n: usize,
 ) -> usize
     ensures { λ r. ⌜ record { out = now (out .exit); n = r }
-        ≡ pushAll (record { out = now (out .entry); n = n })
-        (writesChange (now (rows .entry)) (now (versions .entry)) (now (lists .entry)) «bucket_count» number slot count) ⌝ }
+        ≡ pushAll (record { out = now (out .entry); n = 0 })
+        (writesChange (now (rows .entry)) (now (versions .entry)) (now (lists .entry)) «bucket_count» t) ⌝ }
 {
-    let mut m = n;
+    let mut n = 0;
     let mut i: u32 = 0;
-    while i < count {
-        m = push_change(
-            rows,
-            versions,
-            lists,
-            bucket_count,
-            number,
-            slot,
-            count,
-            write_row_at(lists, slot, i),
-            out,
-            m,
-        );
+    while i < t.writes_n {
+        let keys = changed_keys(rows, versions, lists, t, write_row_at(lists, t.slot, i));
+        n = push_keys(out, n, bucket_count, keys);
         i += 1;
     }
-    m
+    n
 }
 
 // Whether one of the first n buckets of a list is held by another.
 pub fn any_taken(buckets: &[u64], list: &[u64], n: usize, number: u64) -> bool
-    ensures { λ r. ⌜ r ≡ anyTaken (now (buckets .entry)) number (take n (now (list .entry))) ⌝ }
+    ensures { λ r. ⌜ r ≡ anyTaken (now (buckets .entry)) (take n (now (list .entry))) number ⌝ }
 {
     let mut i = 0;
     while i < list.len() {
@@ -297,14 +272,14 @@ pub fn any_taken(buckets: &[u64], list: &[u64], n: usize, number: u64) -> bool
 }
 
 // Whether a pending row is claimed by another.
-pub fn any_claimed(rows: &[u64], lists: &[u64], slot: u32, count: u32, number: u64) -> bool
-    ensures { λ r. ⌜ r ≡ anyClaimed (now (rows .entry)) number (rowsWritten (now (lists .entry)) slot count) ⌝ }
+pub fn any_claimed(rows: &[u64], lists: &[u64], t: Transaction) -> bool
+    ensures { λ r. ⌜ r ≡ anyClaimed (now (rows .entry)) (now (lists .entry)) t ⌝ }
 {
     let mut i: u32 = 0;
-    while i < count {
+    while i < t.writes_n {
         if by_another(
-            claim_at(rows, write_row_at(lists, slot, i) as usize),
-            number,
+            claim_at(rows, write_row_at(lists, t.slot, i) as usize),
+            t.number,
         ) {
             return true;
         }
@@ -337,12 +312,12 @@ pub fn release_all(buckets: &mut [u64], list: &[u64], n: usize, number: u64)
 }
 
 // Every pending row gets a claim.
-pub fn claim_all(rows: &mut [u64], lists: &[u64], slot: u32, count: u32, number: u64)
-    ensures { λ _. ⌜ now (rows .exit) ≡ setClaims (now (rows .entry)) number (rowsWritten (now (lists .entry)) slot count) ⌝ }
+pub fn claim_all(rows: &mut [u64], lists: &[u64], t: Transaction)
+    ensures { λ _. ⌜ now (rows .exit) ≡ setClaims (now (rows .entry)) (t .number) (writtenBy (now (lists .entry)) t) ⌝ }
 {
     let mut i: u32 = 0;
-    while i < count {
-        set_claim(rows, write_row_at(lists, slot, i) as usize, number);
+    while i < t.writes_n {
+        set_claim(rows, write_row_at(lists, t.slot, i) as usize, t.number);
         i += 1;
     }
 }
@@ -357,12 +332,12 @@ fn unclaim(rows: &mut [u64], row: u64, number: u64)
 }
 
 // Frees the claims of those pending rows that carry the number.
-pub fn unclaim_all(rows: &mut [u64], lists: &[u64], slot: u32, count: u32, number: u64)
-    ensures { λ _. ⌜ now (rows .exit) ≡ clearClaims (now (rows .entry)) number (rowsWritten (now (lists .entry)) slot count) ⌝ }
+pub fn unclaim_all(rows: &mut [u64], lists: &[u64], t: Transaction)
+    ensures { λ _. ⌜ now (rows .exit) ≡ clearClaims (now (rows .entry)) (t .number) (writtenBy (now (lists .entry)) t) ⌝ }
 {
     let mut i: u32 = 0;
-    while i < count {
-        unclaim(rows, write_row_at(lists, slot, i), number);
+    while i < t.writes_n {
+        unclaim(rows, write_row_at(lists, t.slot, i), t.number);
         i += 1;
     }
 }

@@ -10,11 +10,12 @@ use table_buckets::canonical_buckets_sort;
 use table_buckets::sorted_count;
 ghost use mathlib.Core.Path.{_≡_};
 ghost use Prim.Native.Nat.{_≤_};
-ghost use lib.ListN.{length, take};
+ghost use mathlib.Core.Bool.{cond};
+ghost use mathlib.Core.List.{[], _∷_};
+ghost use lib.ListN.{length};
 ghost use Rattle.base_limits.specs.Limits.{mostLive};
-ghost use Rattle.base_lists.specs.Lists.{join};
 ghost use Rattle.txn_needs.specs.Needs.{pushAll, rowsWritten};
-ghost use Rattle.txn_needs.specs.Versions.{pendingInto, kept, versionsInto, versionsIn, reservedIn};
+ghost use Rattle.txn_needs.specs.Versions.{pendingInto, versionsInto, versionsIn, reservedIn};
 
 // Words for the rows of all pending writes of a transaction.
 pub const MOST_PENDING: usize = MOST_WRITES as usize;
@@ -44,50 +45,13 @@ pub fn pending_rows(lists: &[u64], slot: u32, count: u32, out: &mut [u64]) -> us
 }
 
 // One row goes to a list where it gets a version.
-fn keep_row(
-    rows: &[u64],
-    versions: &[u64],
-    lists: &[u64],
-    slot: u32,
-    count: u32,
-    row: u64,
-    out: &mut [u64],
-    n: usize,
-) -> usize
-    ensures { λ r. ⌜ record { out = now (out .exit); n = r }
-        ≡ pushAll (record { out = now (out .entry); n = n }) (kept (now (rows .entry)) (now (versions .entry)) (now (lists .entry)) slot count row) ⌝ }
+fn keep_row(out: &mut [u64], n: usize, row: u64, gets: bool) -> usize
+    ensures { λ r. ⌜ record { out = now (out .exit); n = r } ≡ pushAll (record { out = now (out .entry); n = n }) (cond gets (row ∷ []) []) ⌝ }
 {
-    if gets_version(rows, versions, lists, slot, count, row) {
+    if gets {
         return push(out, n, row);
     }
     n
-}
-
-// The same for the first n rows of a list.
-fn keep_rows(
-    rows: &[u64],
-    versions: &[u64],
-    lists: &[u64],
-    slot: u32,
-    count: u32,
-    list: &[u64],
-    n: usize,
-    out: &mut [u64],
-) -> usize
-    ensures { λ r. ⌜ record { out = now (out .exit); n = r }
-        ≡ pushAll (record { out = now (out .entry); n = 0 })
-        (join (kept (now (rows .entry)) (now (versions .entry)) (now (lists .entry)) slot count) (take n (now (list .entry)))) ⌝ }
-{
-    let mut m = 0;
-    let mut i = 0;
-    while i < list.len() {
-        if n <= i {
-            return m;
-        }
-        m = keep_row(rows, versions, lists, slot, count, list[i], out, m);
-        i += 1;
-    }
-    m
 }
 
 // The distinct rows of the pending writes that get a version go ascending to the front of `out`; tells how many they are.
@@ -104,7 +68,17 @@ pub fn version_rows(
 {
     let mut list = [0u64; MOST_PENDING];
     let n = pending_rows(lists, slot, count, &mut list);
-    keep_rows(rows, versions, lists, slot, count, &list, n, out)
+    let mut m = 0;
+    let mut i = 0;
+    while i < MOST_PENDING {
+        if n <= i {
+            return m;
+        }
+        let gets = gets_version(rows, versions, lists, slot, count, list[i]);
+        m = keep_row(out, m, list[i], gets);
+        i += 1;
+    }
+    m
 }
 
 // How many distinct rows of the pending writes of a slot get a version.

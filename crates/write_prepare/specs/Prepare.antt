@@ -3,11 +3,12 @@ use Prim.Native.Nat.{ℕ, _+_}
 use mathlib.Core.Bool.{Bool, true, false, cond, not}
 use mathlib.Core.List.{List, _++_}
 use lib.Dec.{eqb, ltb}
-use lib.ListN.{getD, replicate}
+use lib.ListN.{replicate}
 use Rattle.base_limits.specs.Limits.{mostIndexReads, mostWrites, mostLive}
 use Rattle.model.specs.Store.{rank, phaseOpen}
 use Rattle.model.specs.Refusals.{WrongPhase, Taken, NoVersions, Conflict, refusalNumber}
 use Rattle.base_protocol.specs.declared.Answer.the-variants as tell
+use Rattle.base_protocol.specs.declared.Extent.{Extent}
 use Rattle.base_protocol.specs.declared.Verdict.{Verdict}
 use Rattle.base_protocol.specs.declared.Verdict.the-variants as verdict
 use Rattle.txn.specs.View.{phaseView}
@@ -15,7 +16,7 @@ use Rattle.txn.specs.Methods.{withPhase, refusedOf}
 use Rattle.txn.specs.declared.Phase.the-variants as phase
 use Rattle.txn.specs.declared.Transaction.{Transaction}
 use Rattle.txn.specs.declared.Answered.{Answered}
-use Rattle.txn_needs.specs.Needs.{Listed, pushAll, listedIn, front, readsNeed, rowsWritten, writesNeed}
+use Rattle.txn_needs.specs.Needs.{Listed, pushAll, listedIn, front, readsNeed, writtenBy, writesNeed}
 use Rattle.table.specs.Fields.{setHolders, setClaims}
 use Rattle.txn_needs.specs.Holders.{anyTaken, anyClaimed}
 use Rattle.txn_needs.specs.Versions.{versionsIn, reservedIn}
@@ -26,14 +27,14 @@ abbrev pub mostNeeded : ℕ
 mostNeeded = mostIndexReads + mostWrites + mostWrites
 
 -- a bucket of an index read is held by another
-unfoldable pub readsTakenIn : List ℕ → List ℕ → ℕ → ℕ → ℕ → Bool
-readsTakenIn buckets lists slot reads number = anyTaken buckets number (front (listedIn mostNeeded (readsNeed lists slot reads)))
+unfoldable pub readsTakenIn : List ℕ → List ℕ → Transaction → Bool
+readsTakenIn buckets lists t = anyTaken buckets (front (listedIn mostNeeded (readsNeed lists t))) (t .number)
 
 -- validate: wrong phase, a needed bucket held by another; else the verdict
 unfoldable pub validateOf : List ℕ → List ℕ → List ℕ → Transaction → Answered
 validateOf versions buckets lists t =
     cond (not (eqb (rank (phaseView (t .phase))) phaseOpen)) (refusedOf t (refusalNumber WrongPhase))
-    (cond (readsTakenIn buckets lists (t .slot) (t .«reads_n») (t .number)) (refusedOf t (refusalNumber Taken))
+    (cond (readsTakenIn buckets lists t) (refusedOf t (refusalNumber Taken))
     (record { answer = tell.Judged (verdictOf versions buckets lists t); txn = t }))
 
 -- no conflict
@@ -44,14 +45,13 @@ isClear (verdict.Row r p) = false
 isClear verdict.Mark = false
 
 -- used, reserved by others, and the own rows that get a version are above the limit
-unfoldable pub lacks : List ℕ → List ℕ → List ℕ → List ℕ → ℕ → ℕ → ℕ → ℕ → Bool
-lacks rows versions lists prepared slot n used limit =
-    ltb limit (used + reservedIn rows versions lists prepared mostLive + versionsIn rows versions lists slot n)
+unfoldable pub lacks : List ℕ → List ℕ → List ℕ → Extent → List ℕ → Transaction → Bool
+lacks rows versions lists e prepared t =
+    ltb (e .sizes .versions) (e .used + reservedIn rows versions lists prepared mostLive + versionsIn rows versions lists (t .slot) (t .«writes_n»))
 
 -- the buckets that prepare needs, listed
-unfoldable pub neededInto : List ℕ → List ℕ → List ℕ → ℕ → ℕ → ℕ → ℕ → List ℕ → Listed
-neededInto rows versions lists count slot reads writes out = pushAll (record { out = out; n = 0 })
-    (readsNeed lists slot reads ++ writesNeed rows versions lists count false slot writes)
+unfoldable pub neededInto : List ℕ → List ℕ → List ℕ → ℕ → Transaction → List ℕ → Listed
+neededInto rows versions lists count t out = pushAll (record { out = out; n = 0 }) (readsNeed lists t ++ writesNeed rows versions lists count t)
 
 -- an answer, rows and buckets
 pub record Left : Type 0 where
@@ -63,17 +63,16 @@ abbrev pub left : Answered → List ℕ → List ℕ → Left
 left a rows buckets = record { reply = a; rows = rows; buckets = buckets }
 
 -- prepare, with the needed buckets listed: wrong phase; a bucket held or a row claimed by another; a conflict; too few versions; else all is taken
-unfoldable pub prepareWith : List ℕ → List ℕ → ℕ → ℕ → List ℕ → Transaction → List ℕ → List ℕ → Listed → Left
-prepareWith versions lists limit used prepared t rows buckets needed =
-    cond (anyTaken buckets (t .number) (front needed)) (left (refusedOf t (refusalNumber Taken)) rows buckets)
-    (cond (anyClaimed rows (t .number) (rowsWritten lists (t .slot) (t .«writes_n»))) (left (refusedOf t (refusalNumber Taken)) rows buckets)
+unfoldable pub prepareWith : List ℕ → List ℕ → List ℕ → List ℕ → Extent → List ℕ → Transaction → Listed → Left
+prepareWith rows versions buckets lists e prepared t needed =
+    cond (anyTaken buckets (front needed) (t .number)) (left (refusedOf t (refusalNumber Taken)) rows buckets)
+    (cond (anyClaimed rows lists t) (left (refusedOf t (refusalNumber Taken)) rows buckets)
     (cond (not (isClear (verdictOf versions buckets lists t))) (left (refusedOf t (refusalNumber Conflict)) rows buckets)
-    (cond (lacks rows versions lists prepared (t .slot) (t .«writes_n») used limit) (left (refusedOf t (refusalNumber NoVersions)) rows buckets)
-    (left (record { answer = tell.Done; txn = withPhase t phase.Prepared }) (setClaims rows (t .number) (rowsWritten lists (t .slot) (t .«writes_n»)))
+    (cond (lacks rows versions lists e prepared t) (left (refusedOf t (refusalNumber NoVersions)) rows buckets)
+    (left (record { answer = tell.Done; txn = withPhase t phase.Prepared }) (setClaims rows (t .number) (writtenBy lists t))
     (setHolders buckets (t .number) (front needed))))))
 
-unfoldable pub prepareOf : List ℕ → List ℕ → ℕ → ℕ → ℕ → List ℕ → Transaction → List ℕ → List ℕ → Left
-prepareOf versions lists count limit used prepared t rows buckets =
+unfoldable pub prepareOf : List ℕ → List ℕ → List ℕ → List ℕ → Extent → List ℕ → Transaction → Left
+prepareOf rows versions buckets lists e prepared t =
     cond (not (eqb (rank (phaseView (t .phase))) phaseOpen)) (left (refusedOf t (refusalNumber WrongPhase)) rows buckets)
-    (prepareWith versions lists limit used prepared t rows buckets
-    (neededInto rows versions lists count (t .slot) (t .«reads_n») (t .«writes_n») (replicate mostNeeded 0)))
+    (prepareWith rows versions buckets lists e prepared t (neededInto rows versions lists (e .sizes .buckets) t (replicate mostNeeded 0)))

@@ -5,6 +5,7 @@ use base_limits::MOST_WRITES;
 use base_numbers::sum_within;
 use base_protocol::Answer;
 use base_protocol::CONFLICT;
+use base_protocol::Extent;
 use base_protocol::NO_VERSIONS;
 use base_protocol::TAKEN;
 use base_protocol::Verdict;
@@ -31,12 +32,12 @@ ghost use Rattle.write_prepare.specs.Prepare.{readsTakenIn, validateOf, 
 pub const MOST_NEEDED: usize = (MOST_INDEX_READS + MOST_WRITES + MOST_WRITES) as usize;
 
 // Whether a bucket of an index read is held by another.
-fn reads_taken(buckets: &[u64], lists: &[u64], slot: u32, reads_n: u32, number: u64) -> bool
-    ensures { λ r. ⌜ r ≡ readsTakenIn (now (buckets .entry)) (now (lists .entry)) slot «reads_n» number ⌝ }
+fn reads_taken(buckets: &[u64], lists: &[u64], t: Transaction) -> bool
+    ensures { λ r. ⌜ r ≡ readsTakenIn (now (buckets .entry)) (now (lists .entry)) t ⌝ }
 {
     let mut list = [0u64; MOST_NEEDED];
-    let n = push_reads(lists, slot, reads_n, &mut list, 0);
-    any_taken(buckets, &list, n, number)
+    let n = push_reads(lists, t, &mut list, 0);
+    any_taken(buckets, &list, n, t.number)
 }
 
 // Validate (Open): the verdict; changes nothing.
@@ -47,7 +48,7 @@ pub fn validate(versions: &[u64], buckets: &[u64], lists: &[u64], t: Transaction
     if phase_rank(phase) != OPEN {
         return refused(t, WRONG_PHASE);
     }
-    if reads_taken(buckets, lists, t.slot, t.reads_n, t.number) {
+    if reads_taken(buckets, lists, t) {
         return refused(t, TAKEN);
     }
     Answered {
@@ -77,17 +78,16 @@ fn no_versions(
     rows: &[u64],
     versions: &[u64],
     lists: &[u64],
+    extent: Extent,
     prepared: [u32; MOST_LIVE],
-    slot: u32,
-    count: u32,
-    used: u64,
-    version_count: u64,
+    t: Transaction,
 ) -> bool
-    ensures { λ r. ⌜ r ≡ lacks (now (rows .entry)) (now (versions .entry)) (now (lists .entry)) prepared slot count used «version_count» ⌝ }
+    ensures { λ r. ⌜ r ≡ lacks (now (rows .entry)) (now (versions .entry)) (now (lists .entry)) extent prepared t ⌝ }
 {
+    let sizes = extent.sizes;
     let others = reserved(rows, versions, lists, prepared);
-    let own = count_versions(rows, versions, lists, slot, count);
-    !sum_within(used, others + own, version_count)
+    let own = count_versions(rows, versions, lists, t.slot, t.writes_n);
+    !sum_within(extent.used, others + own, sizes.versions)
 }
 
 // The buckets that prepare needs: of the index reads, and of the old and the new key of every pending row.
@@ -96,26 +96,14 @@ fn push_needed(
     versions: &[u64],
     lists: &[u64],
     bucket_count: u64,
-    slot: u32,
-    reads_n: u32,
-    writes_n: u32,
+    t: Transaction,
     out: &mut [u64],
 ) -> usize
     ensures { λ r. ⌜ record { out = now (out .exit); n = r }
-        ≡ neededInto (now (rows .entry)) (now (versions .entry)) (now (lists .entry)) «bucket_count» slot «reads_n» «writes_n» (now (out .entry)) ⌝ }
+        ≡ neededInto (now (rows .entry)) (now (versions .entry)) (now (lists .entry)) «bucket_count» t (now (out .entry)) ⌝ }
 {
-    let read = push_reads(lists, slot, reads_n, out, 0);
-    push_writes(
-        rows,
-        versions,
-        lists,
-        bucket_count,
-        false,
-        slot,
-        writes_n,
-        out,
-        read,
-    )
+    let read = push_reads(lists, t, out, 0);
+    push_writes(rows, versions, lists, bucket_count, t, out, read)
 }
 
 // Prepare (Open): takes every bucket it needs and claims every pending row.
@@ -124,54 +112,34 @@ pub fn prepare(
     versions: &[u64],
     buckets: &mut [u64],
     lists: &[u64],
-    bucket_count: u64,
-    version_count: u64,
-    used: u64,
+    extent: Extent,
     prepared: [u32; MOST_LIVE],
     t: Transaction,
 ) -> Answered
     ensures { λ r. ⌜ record { reply = r; rows = now (rows .exit); buckets = now (buckets .exit) }
-        ≡ prepareOf (now (versions .entry)) (now (lists .entry)) «bucket_count» «version_count» used prepared t (now (rows .entry)) (now (buckets .entry))
-        ⌝ }
+        ≡ prepareOf (now (rows .entry)) (now (versions .entry)) (now (buckets .entry)) (now (lists .entry)) extent prepared t ⌝ }
 {
     let phase = t.phase;
+    let sizes = extent.sizes;
     if phase_rank(phase) != OPEN {
         return refused(t, WRONG_PHASE);
     }
     let mut list = [0u64; MOST_NEEDED];
-    let n = push_needed(
-        rows,
-        versions,
-        lists,
-        bucket_count,
-        t.slot,
-        t.reads_n,
-        t.writes_n,
-        &mut list,
-    );
+    let n = push_needed(rows, versions, lists, sizes.buckets, t, &mut list);
     if any_taken(buckets, &list, n, t.number) {
         return refused(t, TAKEN);
     }
-    if any_claimed(rows, lists, t.slot, t.writes_n, t.number) {
+    if any_claimed(rows, lists, t) {
         return refused(t, TAKEN);
     }
     if !is_clear(verdict(versions, buckets, lists, t)) {
         return refused(t, CONFLICT);
     }
-    if no_versions(
-        rows,
-        versions,
-        lists,
-        prepared,
-        t.slot,
-        t.writes_n,
-        used,
-        version_count,
-    ) {
+    if no_versions(rows, versions, lists, extent, prepared, t) {
         return refused(t, NO_VERSIONS);
     }
     set_holders(buckets, &list, n, t.number);
-    claim_all(rows, lists, t.slot, t.writes_n, t.number);
+    claim_all(rows, lists, t);
     Answered {
         answer: Answer::Done,
         txn: t.with_phase(Phase::Prepared),

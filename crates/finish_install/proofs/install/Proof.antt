@@ -38,15 +38,12 @@ same-length-2 c = search needs
 
 returns-2 : tie.Need-returns-2
 returns-2 c =
-    let c5 = c .before .before .before .before .before in
-    let c10 = c5 .before .before .before .before .before in
-    let c14 = c10 .before .before .before .before in
-    let c15 = c14 .before in
-    let c19 = c15 .before .before .before .before in
-    let a = c19 .args in
+    let pushed = c .before .before .before .before .before in
+    let listed = pushed .before .before .before .before .before in
+    let tested = listed .before .before .before .before in
     rw (c .with-phase .ensures)
-    (install-made (a .lists .now) (a .t) _ _ _ (rw (← c15 .phase-rank .ensures) (eq-eqb _ _ (c14 .if1 .left))) (c10 .version-rows .ensures)
-    (c5 .push-all-rows .ensures))
+    (install-made _ _ _ _ _ (rw (← tested .before .phase-rank .ensures) (eq-eqb _ _ (tested .if1 .left))) (listed .version-rows .ensures)
+    (pushed .push-all-rows .ensures))
 
 pub install-spec : {M : Type 1} → statement M
 install-spec =

@@ -2,7 +2,7 @@
 -- Assumes nothing.
 use borrow.Author.Needs.{needs}
 use mathlib.Core.Path.{_≡_, refl, sym, _∙_}
-use Prim.Native.Nat.{_≤_, _-_}
+use Prim.Native.Nat.{_≤_, _-_, min}
 use native.Mathlib.Omega.{arith}
 use lib.ListN.{length, take, drop}
 use Rattle.table.proofs.Each.{left-next, left-end}
@@ -11,15 +11,26 @@ use Rattle.finish_install.proofs.push_all_rows.Statement.{statement}
 use Rattle.finish_install.proofs.push_all_rows.Tie as tie
 
 abbrev Inv-loop : tie.InvT-loop
-Inv-loop rows₀ versions₀ lists slot count number list n used last₀ i₀ rows versions last i =
+Inv-loop rows₀ versions₀ lists t list n used last₀ i₀ rows versions last i =
     (i ≤ length list)
     × (length rows ≡ length rows₀)
     × (length versions ≡ length versions₀)
-    × (pushedRows lists slot count number (record { rows = rows₀; versions = versions₀; used = used }) (take n list)
-    ≡ pushedRows lists slot count number (record { rows = rows; versions = versions; used = last }) (drop i (take n list)))
+    × (pushedRows (record { rows = rows₀; versions = versions₀; used = used }) lists t (take n list)
+    ≡ pushedRows (record { rows = rows; versions = versions; used = last }) lists t (drop i (take n list)))
 
 abbrev μ-loop : tie.MeasureT-loop
-μ-loop rows₀ versions₀ lists slot count number list n used last₀ i₀ rows versions last i = length list - i
+μ-loop rows₀ versions₀ lists t list n used last₀ i₀ rows versions last i = length list - i
+
+-- the parameters
+abbrev entered : tie.At-loop Inv-loop μ-loop → tie.Start Inv-loop μ-loop
+entered c = c .before .before .before .before .before
+
+-- past the first n of the list, and past its end
+passed : (c : tie.At-loop Inv-loop μ-loop) → let a = entered c .args in min (a .n) (length (a .list .now)) ≤ c .loop .i
+    → record { rows = c .loop .rows; versions = c .loop .versions; used = c .loop .last }
+    ≡ pushedRows (record { rows = a .rows .now; versions = a .versions .now; used = a .used }) (a .lists .now) (a .t) (take (a .n) (a .list .now))
+unfolding pushedRows
+passed c h = let a = entered c .args in sym (rw (c .loop .inv .3, left-end (a .list .now) (a .n) (c .loop .i) h))
 
 loop-holds : tie.Need-loop-holds Inv-loop μ-loop
 loop-holds c = (search needs, refl, refl, refl)
@@ -31,11 +42,7 @@ same-length-2 : tie.Need-same-length-2 Inv-loop μ-loop
 same-length-2 c = c .before .before .loop .inv .2
 
 returns : tie.Need-returns Inv-loop μ-loop
-unfolding pushedRows
-returns c =
-    let c7 = c .before .before .before .before .before .before .before in
-    let l = c .before .before .loop in
-    sym (rw (l .inv .3, left-end (c7 .args .list .now) (c7 .args .n) (l .i) (omega arith)))
+returns c = passed (c .before .before) (omega arith)
 
 mul-push-row : tie.Need-mul-push-row Inv-loop μ-loop
 mul-push-row c = search needs
@@ -55,15 +62,14 @@ loop-less c = search needs
 loop-again : tie.Need-loop-again Inv-loop μ-loop
 unfolding pushedRows
 loop-again c =
-    let c4 = c .before .before .before .before in
-    let c10 = c4 .before .before .before .before .before .before in
-    let c15 = c10 .before .before .before .before .before in
-    let l = c10 .loop in (
+    let pushed = c .before .before .before .before in
+    let at = pushed .before .before .before .before .before .before in
+    let a = entered at .args in
+    let l = at .loop in (
       omega arith,
-      c4 .push-row .kept .0 ∙ l .inv .1,
-      c4 .push-row .kept .1 .0 ∙ l .inv .2,
-      l .inv .3
-          ∙ rw (left-next (c15 .args .list .now) (c15 .args .n) (l .i) (omega arith) (omega arith), c4 .push-row .ensures),
+      pushed .push-row .kept .0 ∙ l .inv .1,
+      pushed .push-row .kept .1 .0 ∙ l .inv .2,
+      l .inv .3 ∙ rw (left-next (a .list .now) (a .n) (l .i) (omega arith) (omega arith), pushed .push-row .ensures),
     )
 
 same-length-3 : tie.Need-same-length-3 Inv-loop μ-loop
@@ -73,11 +79,7 @@ same-length-4 : tie.Need-same-length-4 Inv-loop μ-loop
 same-length-4 c = c .before .loop .inv .2
 
 returns-2 : tie.Need-returns-2 Inv-loop μ-loop
-unfolding pushedRows
-returns-2 c =
-    let c6 = c .before .before .before .before .before .before in
-    let l = c .before .loop in
-    sym (rw (l .inv .3, left-end (c6 .args .list .now) (c6 .args .n) (l .i) (omega arith)))
+returns-2 c = passed (c .before) (omega arith)
 
 pub push-all-rows-spec : {M : Type 1} → statement M
 push-all-rows-spec =

@@ -17,9 +17,6 @@ returns : tie.Need-returns
 unfolding abortOf
 returns c = rw (c .refused .ensures, ← c .before .before .phase-rank .ensures, le-leb _ _ (c .before .if1 .taken))
 
-bucket-in-requires : tie.Need-bucket-in-requires
-bucket-in-requires c κs = search needs
-
 free-needed-requires : tie.Need-free-needed-requires
 free-needed-requires c κs = search needs
 
@@ -37,14 +34,17 @@ same-length-2 c = search needs
 
 returns-2 : tie.Need-returns-2
 unfolding abortOf
-returns-2 c = rw (
-  ← c .before .before .before .before .before .before .before .before .before .before .before .before .phase-rank .ensures,
-  lt-leb _ _ (c .before .before .before .before .before .before .before .before .before .before .before .if1 .left),
-  ← c .before .before .before .before .before .before .before .before .bucket-in .ensures,
-  ← c .before .before .before .before .before .before .before .free-needed .ensures,
-  ← c .before .before .before .unclaim-all .ensures,
-  c .idle .ensures,
-)
+returns-2 c =
+    let unclaimed = c .before .before .before in
+    let freed = unclaimed .before .before .before .before in
+    let tested = freed .before .before .before in
+    rw (
+      ← tested .before .phase-rank .ensures,
+      lt-leb _ _ (tested .if1 .left),
+      ← freed .free-needed .ensures,
+      ← unclaimed .unclaim-all .ensures,
+      c .idle .ensures,
+    )
 
 pub abort-spec : {M : Type 1} → statement M
 abort-spec =
@@ -53,7 +53,6 @@ abort-spec =
     phase-rank-requires
     refused-requires
     returns
-    bucket-in-requires
     free-needed-requires
     unclaim-all-requires
     idle-requires

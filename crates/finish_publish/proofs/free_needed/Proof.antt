@@ -10,6 +10,9 @@ use Rattle.finish_publish.proofs.free_needed.Tie as tie
 slice-aggregate-push : tie.Need-slice-aggregate-push
 slice-aggregate-push c = search needs
 
+bucket-in-requires : tie.Need-bucket-in-requires
+bucket-in-requires c κs = search needs
+
 push-requires : tie.Need-push-requires
 push-requires c κs = search needs
 
@@ -35,14 +38,20 @@ same-length : tie.Need-same-length
 same-length c = search needs
 
 returns : tie.Need-returns
-returns c = let a =
-    c .before .before .before .before .before .before .before .before .before .before .before .before .before .before .before .before .before .before .args in c .before .before .release-all .ensures ∙ freed-made (a .rows .now) (a .versions .now) (a .lists .now) (a .bucket-count) (a .installed) (a .bucket) (a .slot) (a .reads-n) (a .writes-n) (a .number) (a .buckets .now) _ _ _ (c .before .before .before .before .before .before .before .before .before .before .before .before .push .ensures) (c .before .before .before .before .before .before .before .before .before .push-reads .ensures) (c .before .before .before .before .before .before .push-writes .ensures)
+returns c =
+    let freed = c .before .before in
+    let wrote = freed .before .before .before .before in
+    let read = wrote .before .before .before in
+    let held = read .before .before .before in
+    freed .release-all .ensures
+    ∙ freed-made _ _ _ _ _ _ _ _ _ (rw (← held .before .bucket-in .ensures) (held .push .ensures)) (read .push-reads .ensures) (wrote .push-writes .ensures)
 
 pub free-needed-spec : {M : Type 1} → statement M
 free-needed-spec =
     tie.close
     (tie.spec
     slice-aggregate-push
+    bucket-in-requires
     push-requires
     slice-aggregate-push-reads
     push-reads-requires

@@ -20,10 +20,10 @@ same-length c = search needs
 
 returns : tie.Need-returns
 unfolding postedOne
-returns c = rw (
-  ← c .before .before .before .before .before .before .before .before .new-key .ensures,
-  ← c .before .before .before .before .before .before .set-posted .ensures,
-) (c .before .before .set-posted-key .ensures)
+returns c =
+    let keyed = c .before .before in
+    let posted = keyed .before .before .before .before in
+    rw (← posted .before .before .new-key .ensures, ← posted .set-posted .ensures) (keyed .set-posted-key .ensures)
 
 pub post-spec : {M : Type 1} → statement M
 post-spec =

@@ -5,21 +5,23 @@ use mathlib.Core.Path.{_≡_, refl, sym, _∙_}
 use Prim.Native.Nat.{_≤_, _-_}
 use native.Mathlib.Omega.{arith}
 use lib.ListN.{length, drop}
-use Rattle.table.specs.Lists.{writes, writeOf}
-use Rattle.table.specs.declared.lists.Write.{Write}
-use Rattle.txn_needs.specs.Needs.{rowsWritten}
-use Rattle.txn_needs.proofs.Laws.{fields-next, fields-done}
+use Rattle.txn_needs.specs.Needs.{writtenBy}
+use Rattle.txn_needs.proofs.Laws.{rows-next, rows-done}
 use Rattle.finish_publish.specs.Publish.{postedAll}
 use Rattle.finish_publish.proofs.post_all.Statement.{statement}
 use Rattle.finish_publish.proofs.post_all.Tie as tie
 
 abbrev Inv-loop : tie.InvT-loop
-Inv-loop rows₀ lists slot count i₀ rows i =
-    (i ≤ count) × (length rows ≡ length rows₀)
-    × (postedAll lists slot count rows₀ (rowsWritten lists slot count) ≡ postedAll lists slot count rows (drop i (rowsWritten lists slot count)))
+Inv-loop rows₀ lists t i₀ rows i =
+    (i ≤ t .«writes_n») × (length rows ≡ length rows₀)
+    × (postedAll rows₀ lists t (writtenBy lists t) ≡ postedAll rows lists t (drop i (writtenBy lists t)))
 
 abbrev μ-loop : tie.MeasureT-loop
-μ-loop rows₀ lists slot count i₀ rows i = count - i
+μ-loop rows₀ lists t i₀ rows i = t .«writes_n» - i
+
+-- the parameters
+abbrev entered : tie.At-loop Inv-loop μ-loop → tie.Start Inv-loop μ-loop
+entered c = c .before .before .before
 
 loop-holds : tie.Need-loop-holds Inv-loop μ-loop
 loop-holds c = (search needs, refl, refl)
@@ -38,30 +40,30 @@ loop-less c = search needs
 
 loop-again : tie.Need-loop-again Inv-loop μ-loop
 unfolding postedAll
-loop-again c = let l = c .before .before .before .before .before .before .loop in (
-  omega arith,
-  c .before .before .post .kept .0 ∙ l .inv .1,
-  l .inv .2
-      ∙ rw (
-        fields-next (λ (w : Write). w .row) writeOf writes (c .before .before .before .before .before .before .before .before .before .args .lists .now)
-            (c .before .before .before .before .before .before .before .before .before .args .slot)
-            (c .before .before .before .before .before .before .before .before .before .args .count) (l .i) (c .before .before .before .write-row-at .result)
-            (omega arith) (c .before .before .before .write-row-at .ensures),
-        c .before .before .post .ensures,
-      ),
-)
+loop-again c =
+    let posted = c .before .before in
+    let read = posted .before in
+    let at = read .before .before .before .before in
+    let a = entered at .args in
+    let l = at .loop in (
+      omega arith,
+      posted .post .kept .0 ∙ l .inv .1,
+      l .inv .2
+          ∙ rw (
+            rows-next (a .lists .now) (a .t) (l .i) (read .write-row-at .result) (omega arith) (read .write-row-at .ensures),
+            posted .post .ensures,
+          ),
+    )
 
 same-length : tie.Need-same-length Inv-loop μ-loop
-same-length c = c .before .loop .inv .1
+same-length c = c .before .before .loop .inv .1
 
 returns : tie.Need-returns Inv-loop μ-loop
 unfolding postedAll
-returns c = let l = c .before .loop in
-    sym (rw (
-      l .inv .2,
-      fields-done (λ (w : Write). w .row) writeOf writes (c .before .before .before .before .args .lists .now)
-          (c .before .before .before .before .args .slot) (c .before .before .before .before .args .count) (l .i) (omega arith),
-    ))
+returns c =
+    let a = entered (c .before .before) .args in
+    let l = c .before .before .loop in
+    sym (rw (l .inv .2, rows-done (a .lists .now) (a .t) (l .i) (omega arith)))
 
 pub post-all-spec : {M : Type 1} → statement M
 post-all-spec =

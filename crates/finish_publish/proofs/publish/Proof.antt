@@ -19,9 +19,6 @@ returns c = rw (c .refused .ensures, ← c .before .before .phase-rank .ensures,
 stamp-changes-requires : tie.Need-stamp-changes-requires
 stamp-changes-requires c κs = search needs
 
-bucket-in-requires : tie.Need-bucket-in-requires
-bucket-in-requires c κs = search needs
-
 free-needed-requires : tie.Need-free-needed-requires
 free-needed-requires c κs = search needs
 
@@ -43,7 +40,20 @@ same-length-2 c = search needs
 returns-2 : tie.Need-returns-2
 unfolding publishOf
 returns-2 c =
-    rw (← c .before .before .before .before .before .before .before .before .before .before .before .before .before .before .before .before .before .before .before .before .before .phase-rank .ensures, eq-eqb _ _ (c .before .before .before .before .before .before .before .before .before .before .before .before .before .before .before .before .before .before .before .before .if1 .left), ← c .before .before .before .before .before .before .before .before .before .before .before .before .bucket-in .ensures, ← c .before .before .before .before .before .before .before .before .before .before .before .before .before .before .before .before .before .stamp-changes .ensures, ← c .before .before .before .before .before .before .before .before .before .before .before .free-needed .ensures, ← c .before .before .before .before .before .before .before .post-all .ensures, ← c .before .before .before .unclaim-all .ensures, c .idle .ensures)
+    let unclaimed = c .before .before .before in
+    let posted = unclaimed .before .before .before .before in
+    let freed = posted .before .before .before .before in
+    let stamped = freed .before .before .before .before .before in
+    let tested = stamped .before .before .before in
+    rw (
+      ← tested .before .phase-rank .ensures,
+      eq-eqb _ _ (tested .if1 .left),
+      ← stamped .stamp-changes .ensures,
+      ← freed .free-needed .ensures,
+      ← posted .post-all .ensures,
+      ← unclaimed .unclaim-all .ensures,
+      c .idle .ensures,
+    )
 
 pub publish-spec : {M : Type 1} → statement M
 publish-spec =
@@ -53,7 +63,6 @@ publish-spec =
     refused-requires
     returns
     stamp-changes-requires
-    bucket-in-requires
     free-needed-requires
     post-all-requires
     unclaim-all-requires

@@ -24,10 +24,8 @@ same-length c = search needs
 
 returns : tie.Need-returns
 returns c =
-    let a = c .before .before .before .before .before .before .before .before .before .before .before .before .args in
-    c .before .before .set-stamps .ensures
-    ∙ stamped-made (a .rows .now) (a .versions .now) (a .lists .now) (a .bucket-count) (a .number) (a .slot) (a .count) (a .stamp) (a .buckets .now) _
-    (c .before .before .before .before .before .before .push-changes .ensures)
+    let stamped = c .before .before in
+    stamped .set-stamps .ensures ∙ stamped-made _ _ _ _ _ _ _ (stamped .before .before .before .before .push-changes .ensures)
 
 pub stamp-changes-spec : {M : Type 1} → statement M
 stamp-changes-spec =

@@ -4,22 +4,26 @@ use Prim.Native.Nat.{_≤_, _-_}
 use lib.ListN.{drop}
 use borrow.Author.Needs.{needs}
 use Rattle.base_lists.specs.Lists.{some-of}
-use Rattle.table.specs.Lists.{writes, writeOf}
-use Rattle.table.specs.declared.lists.Write.{Write}
-use Rattle.txn_needs.proofs.Laws.{fields-next, fields-done}
+use Rattle.txn_needs.proofs.Laws.{rows-next, rows-done}
 use mathlib.Core.Path.{_≡_, refl, _∙_}
 use native.Mathlib.Omega.{arith}
-use Rattle.txn_needs.specs.Needs.{rowsWritten}
+use Rattle.table.specs.Fields.{claimOf}
+use Rattle.txn.specs.Methods.{takenBy}
+use Rattle.txn_needs.specs.Needs.{writtenBy}
 use Rattle.txn_needs.specs.Holders.{anyClaimed}
 use Rattle.txn_needs.proofs.any_claimed.Statement.{statement}
 use Rattle.txn_needs.proofs.any_claimed.Tie as tie
 
 abbrev Inv-loop : tie.InvT-loop
-Inv-loop rows lists slot count number i₀ i =
-    (i ≤ count) × (anyClaimed rows number (rowsWritten lists slot count) ≡ anyClaimed rows number (drop i (rowsWritten lists slot count)))
+Inv-loop rows lists t i₀ i =
+    (i ≤ t .«writes_n») × (anyClaimed rows lists t ≡ some-of (λ r. takenBy (claimOf rows r) (t .number)) (drop i (writtenBy lists t)))
 
 abbrev μ-loop : tie.MeasureT-loop
-μ-loop rows lists slot count number i₀ i = count - i
+μ-loop rows lists t i₀ i = t .«writes_n» - i
+
+-- the parameters
+abbrev entered : tie.At-loop Inv-loop μ-loop → tie.Start Inv-loop μ-loop
+entered c = c .before .before .before
 
 loop-holds : tie.Need-loop-holds Inv-loop μ-loop
 loop-holds c = (search needs, refl)
@@ -36,17 +40,16 @@ by-another-requires c κs = search needs
 returns : tie.Need-returns Inv-loop μ-loop
 unfolding some-of
 returns c =
-    let c3 = c .before .before .before in
-    let c5 = c3 .before .before in
-    let c8 = c5 .before .before .before in
-    let l = c5 .loop in
+    let read = c .before .before .before in
+    let at = read .before .before .before in
+    let a = entered at .args in
+    let l = at .loop in
     rw (
       l .inv .1,
-      fields-next (λ (w : Write). w .row) writeOf writes (c8 .args .lists .now) (c8 .args .slot) (c8 .args .count) (l .i)
-          (c3 .write-row-at .result) (omega arith) (c3 .write-row-at .ensures),
+      rows-next (a .lists .now) (a .t) (l .i) (read .write-row-at .result) (omega arith) (read .write-row-at .ensures),
       ← c .before .before .claim-at .ensures,
       ← c .before .by-another .ensures,
-      c .if1 .taken,
+      c .if2 .taken,
     )
 
 add-i : tie.Need-add-i Inv-loop μ-loop
@@ -58,27 +61,26 @@ loop-less c = search needs
 loop-again : tie.Need-loop-again Inv-loop μ-loop
 unfolding some-of
 loop-again c =
-    let c3 = c .before .before .before in
-    let c5 = c3 .before .before in
-    let c8 = c5 .before .before .before in
-    let l = c5 .loop in (
+    let read = c .before .before .before in
+    let at = read .before .before .before in
+    let a = entered at .args in
+    let l = at .loop in (
       omega arith,
       l .inv .1
           ∙ rw (
-            fields-next (λ (w : Write). w .row) writeOf writes (c8 .args .lists .now) (c8 .args .slot) (c8 .args .count) (l .i)
-                (c3 .write-row-at .result) (omega arith) (c3 .write-row-at .ensures),
+            rows-next (a .lists .now) (a .t) (l .i) (read .write-row-at .result) (omega arith) (read .write-row-at .ensures),
             ← c .before .before .claim-at .ensures,
             ← c .before .by-another .ensures,
-            c .if1 .left,
+            c .if2 .left,
           ),
     )
 
 returns-2 : tie.Need-returns-2 Inv-loop μ-loop
 unfolding some-of
 returns-2 c =
-    let c4 = c .before .before .before .before in
-    let l = c .before .loop in
-    rw (l .inv .1, fields-done (λ (w : Write). w .row) writeOf writes (c4 .args .lists .now) (c4 .args .slot) (c4 .args .count) (l .i) (omega arith))
+    let a = entered (c .before .before) .args in
+    let l = c .before .before .loop in
+    rw (l .inv .1, rows-done (a .lists .now) (a .t) (l .i) (omega arith))
 
 pub any-claimed-spec : {M : Type 1} → statement M
 any-claimed-spec =

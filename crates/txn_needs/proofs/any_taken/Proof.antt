@@ -13,7 +13,7 @@ use Rattle.txn_needs.proofs.any_taken.Tie as tie
 
 abbrev Inv-loop : tie.InvT-loop
 Inv-loop buckets list n number i₀ i =
-    (i ≤ length list) × (anyTaken buckets number (take n list) ≡ anyTaken buckets number (drop i (take n list)))
+    (i ≤ length list) × (anyTaken buckets (take n list) number ≡ anyTaken buckets (drop i (take n list)) number)
 
 abbrev μ-loop : tie.MeasureT-loop
 μ-loop buckets list n number i₀ i = length list - i

@@ -13,13 +13,17 @@ use Rattle.txn_needs.proofs.push_reads.Statement.{statement}
 use Rattle.txn_needs.proofs.push_reads.Tie as tie
 
 abbrev Inv-loop : tie.InvT-loop
-Inv-loop lists slot count out₀ n m₀ i₀ out m i =
-    (i ≤ count)
+Inv-loop lists t out₀ n m₀ i₀ out m i =
+    (i ≤ t .«reads_n»)
     × (length out ≡ length out₀)
-    × (pushAll (record { out = out₀; n = n }) (readsNeed lists slot count) ≡ pushAll (record { out = out; n = m }) (drop i (readsNeed lists slot count)))
+    × (pushAll (record { out = out₀; n = n }) (readsNeed lists t) ≡ pushAll (record { out = out; n = m }) (drop i (readsNeed lists t)))
 
 abbrev μ-loop : tie.MeasureT-loop
-μ-loop lists slot count out₀ n m₀ i₀ out m i = count - i
+μ-loop lists t out₀ n m₀ i₀ out m i = t .«reads_n» - i
+
+-- the parameters
+abbrev entered : tie.At-loop Inv-loop μ-loop → tie.Start Inv-loop μ-loop
+entered c = c .before .before .before
 
 loop-holds : tie.Need-loop-holds Inv-loop μ-loop
 loop-holds c = (search needs, refl, refl)
@@ -38,28 +42,28 @@ loop-less c = search needs
 
 loop-again : tie.Need-loop-again Inv-loop μ-loop
 loop-again c =
-    let c3 = c .before .before .before in
-    let c6 = c3 .before .before .before in
-    let c9 = c6 .before .before .before in
-    let l = c6 .loop in (
+    let read = c .before .before .before in
+    let at = read .before .before .before .before in
+    let a = entered at .args in
+    let l = at .loop in (
       omega arith,
       c .before .before .push .kept .0 ∙ l .inv .1,
       l .inv .2
-          ∙ push-turn (record { out = l .out; n = l .m }) _ (readsNeed (c9 .args .lists .now) (c9 .args .slot) (c9 .args .count)) (l .i)
-          (c3 .read-bucket-at .result)
-          (fields-next (λ (r : IndexRead). r .bucket) readOf reads (c9 .args .lists .now) (c9 .args .slot) (c9 .args .count) (l .i)
-          (c3 .read-bucket-at .result) (omega arith) (c3 .read-bucket-at .ensures)) (c .before .before .push .ensures),
+          ∙ push-turn (record { out = l .out; n = l .m }) _ (readsNeed (a .lists .now) (a .t)) (l .i)
+          (read .read-bucket-at .result)
+          (fields-next (λ (r : IndexRead). r .bucket) readOf reads (a .lists .now) (a .t .slot) (a .t .«reads_n») (l .i)
+          (read .read-bucket-at .result) (omega arith) (read .read-bucket-at .ensures)) (c .before .before .push .ensures),
     )
 
 same-length : tie.Need-same-length Inv-loop μ-loop
-same-length c = c .before .loop .inv .1
+same-length c = c .before .before .loop .inv .1
 
 returns : tie.Need-returns Inv-loop μ-loop
 returns c =
-    let c4 = c .before .before .before .before in
-    let l = c .before .loop in
+    let a = entered (c .before .before) .args in
+    let l = c .before .before .loop in
     sym (l .inv .2 ∙ push-none _ _
-    (fields-done (λ (r : IndexRead). r .bucket) readOf reads (c4 .args .lists .now) (c4 .args .slot) (c4 .args .count) (l .i) (omega arith)))
+    (fields-done (λ (r : IndexRead). r .bucket) readOf reads (a .lists .now) (a .t .slot) (a .t .«reads_n») (l .i) (omega arith)))
 
 pub push-reads-spec : {M : Type 1} → statement M
 push-reads-spec =

@@ -61,9 +61,9 @@ loop-less c = search needs
 
 loop-again : tie.Need-loop-again Inv-loop μ-loop
 loop-again c =
-    let freed = c .before .before .free in
-    let at = c .before .before .before .before .before .before .before in
-    (omega arith, freed .kept .0 ∙ at .loop .inv .1, again at (omega arith) (omega arith) _ (freed .ensures))
+    let freed = c .before .before in
+    let at = freed .before .before .before .before .before in
+    (omega arith, freed .free .kept .0 ∙ at .loop .inv .1, again at (omega arith) (omega arith) _ (freed .free .ensures))
 
 same-length-2 : tie.Need-same-length-2 Inv-loop μ-loop
 same-length-2 c = c .before .loop .inv .1

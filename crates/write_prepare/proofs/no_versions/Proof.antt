@@ -35,12 +35,13 @@ sum-within-requires c κs = search needs
 returns : tie.Need-returns
 unfolding lacks
 returns c =
-    let others = c .before .before .reserved in
+    let counted = c .before .before in
+    let others = counted .reserved in
     let own = c .before .count-versions in
-    let a = c .before .before .before .before .before .before .args in
-    let e : a .used + (others .result + own .result) ≡ a .used + others .result + own .result = omega arith in
+    let x = counted .before .before .before .before .before .args .extent in
+    let e : x .used + (others .result + own .result) ≡ x .used + others .result + own .result = omega arith in
     rw (← others .ensures, ← own .ensures)
-    (ap not (c .sum-within .ensures) ∙ (above (a .used + (others .result + own .result)) (a .version-count) ∙ ap (ltb (a .version-count)) e))
+    (ap not (c .sum-within .ensures) ∙ (above (x .used + (others .result + own .result)) (x .sizes .versions) ∙ ap (ltb (x .sizes .versions)) e))
 
 pub no-versions-spec : {M : Type 1} → statement M
 no-versions-spec = tie.close (tie.spec reserved-requires count-versions-requires add-sum-within sum-within-requires returns)

@@ -2,12 +2,38 @@
 -- Assumes nothing.
 use borrow.Author.Tests.{eq-eqb, ne-eqb, not-true, not-false}
 use borrow.Author.Needs.{needs}
-use mathlib.Core.Path.{sym, _∙_}
-use Prim.Native.Nat.{_-_}
+use mathlib.Core.Path.{_≡_, sym, _∙_}
+use mathlib.Core.Bool.{true}
+use lib.Dec.{eqb}
+use Rattle.model.specs.Store.{rank, phaseOpen}
+use Rattle.txn.specs.View.{phaseView}
 use Rattle.write_prepare.specs.Prepare.{prepareOf}
 use Rattle.write_prepare.proofs.Laws.{prepare-taken, prepare-claimed, prepare-conflict, prepare-lacks, prepare-done}
 use Rattle.write_prepare.proofs.prepare.Statement.{statement}
 use Rattle.write_prepare.proofs.prepare.Tie as tie
+
+-- the places behind each test, from the one before it
+abbrev opened : tie.After-push-needed → tie.Else1
+opened c = c .before .before .before
+
+abbrev needing : tie.After-any-taken → tie.After-push-needed
+needing c = c .before .before .before .before
+
+abbrev untaken : tie.After-any-claimed → tie.Else2
+untaken c = c .before .before
+
+abbrev unclaimed : tie.After-is-clear → tie.Else3
+unclaimed c = c .before .before .before
+
+abbrev cleared : tie.After-no-versions → tie.Else4
+cleared c = c .before .before
+
+-- the phase is Open
+abbrev entered : tie.After-phase-rank → tie.Start
+entered c = c .before .before .before .before .before .before
+
+is-open : (c : tie.Else1) → eqb (rank (phaseView (entered (c .before) .args .t .phase))) phaseOpen ≡ true
+is-open c = rw (← c .before .phase-rank .ensures) (eq-eqb _ _ (c .if1 .left))
 
 phase-rank-requires : tie.Need-phase-rank-requires
 phase-rank-requires c κs = search needs
@@ -42,15 +68,11 @@ same-length-2 c = search needs
 
 returns-2 : tie.Need-returns-2
 returns-2 c =
-    let c6 = c .before .before .before .before .before .before in
-    let c9 = c6 .before .before .before in
-    let c10 = c9 .before in
-    let c15 = c10 .before .before .before .before .before in
-    let a = c15 .args in
+    let taken = c .before .before in
+    let needed = needing taken in
     rw (c .refused2 .ensures)
-    (prepare-taken (a .versions .now) (a .lists .now) (a .bucket-count) (a .version-count) (a .used) _ (a .t) (a .rows .now) (a .buckets .now) _
-    (rw (← c10 .phase-rank .ensures) (eq-eqb _ _ (c9 .if1 .left))) (c6 .push-needed .ensures) (sym (c .before .before .any-taken .ensures)
-    ∙ c .before .if2 .taken))
+    (prepare-taken _ _ _ _ _ _ _ _ (is-open (opened needed)) (needed .push-needed .ensures)
+    (sym (taken .any-taken .ensures) ∙ c .before .if2 .taken))
 
 any-claimed-requires : tie.Need-any-claimed-requires
 any-claimed-requires c κs = search needs
@@ -66,17 +88,12 @@ same-length-4 c = search needs
 
 returns-3 : tie.Need-returns-3
 returns-3 c =
-    let c4 = c .before .before .before .before in
-    let c5 = c4 .before in
-    let c9 = c5 .before .before .before .before in
-    let c12 = c9 .before .before .before in
-    let c13 = c12 .before in
-    let c18 = c13 .before .before .before .before .before in
-    let a = c18 .args in
+    let claimed = c .before .before in
+    let free = untaken claimed in
+    let needed = needing (free .before) in
     rw (c .refused3 .ensures)
-    (prepare-claimed (a .versions .now) (a .lists .now) (a .bucket-count) (a .version-count) (a .used) _ (a .t) (a .rows .now) (a .buckets .now) _
-    (rw (← c13 .phase-rank .ensures) (eq-eqb _ _ (c12 .if1 .left))) (c9 .push-needed .ensures) (sym (c5 .any-taken .ensures)
-    ∙ c4 .if2 .left) (sym (c .before .before .any-claimed .ensures) ∙ c .before .if3 .taken))
+    (prepare-claimed _ _ _ _ _ _ _ _ (is-open (opened needed)) (needed .push-needed .ensures)
+    (sym (free .before .any-taken .ensures) ∙ free .if2 .left) (sym (claimed .any-claimed .ensures) ∙ c .before .if3 .taken))
 
 verdict-requires : tie.Need-verdict-requires
 verdict-requires c κs = search needs
@@ -95,22 +112,14 @@ same-length-6 c = search needs
 
 returns-4 : tie.Need-returns-4
 returns-4 c =
-    let c3 = c .before .before .before in
-    let c5 = c3 .before .before in
-    let c6 = c5 .before in
-    let c8 = c6 .before .before in
-    let c9 = c8 .before in
-    let c13 = c9 .before .before .before .before in
-    let c16 = c13 .before .before .before in
-    let c17 = c16 .before in
-    let c22 = c17 .before .before .before .before .before in
-    let a = c22 .args in
+    let judged = c .before .before in
+    let own = unclaimed judged in
+    let free = untaken (own .before) in
+    let needed = needing (free .before) in
     rw (c .refused4 .ensures)
-    (prepare-conflict (a .versions .now) (a .lists .now) (a .bucket-count) (a .version-count) (a .used) _ (a .t) (a .rows .now) (a .buckets .now) _
-    (rw (← c17 .phase-rank .ensures) (eq-eqb _ _ (c16 .if1 .left))) (c13 .push-needed .ensures) (sym (c9 .any-taken .ensures)
-    ∙ c8 .if2 .left) (sym (c6 .any-claimed .ensures)
-    ∙ c5 .if3 .left) (rw (c3 .verdict .ensures) at (sym (c .before .before .is-clear .ensures)
-    ∙ not-true (c .before .before .is-clear .result) (c .before .if4 .taken))))
+    (prepare-conflict _ _ _ _ _ _ _ _ (is-open (opened needed)) (needed .push-needed .ensures)
+    (sym (free .before .any-taken .ensures) ∙ free .if2 .left) (sym (own .before .any-claimed .ensures) ∙ own .if3 .left)
+    (rw (judged .before .verdict .ensures) at (sym (judged .is-clear .ensures) ∙ not-true (judged .is-clear .result) (c .before .if4 .taken))))
 
 no-versions-requires : tie.Need-no-versions-requires
 no-versions-requires c κs = search needs
@@ -126,24 +135,17 @@ same-length-8 c = search needs
 
 returns-5 : tie.Need-returns-5
 returns-5 c =
-    let c4 = c .before .before .before .before in
-    let c5 = c4 .before in
-    let c6 = c5 .before in
-    let c8 = c6 .before .before in
-    let c9 = c8 .before in
-    let c11 = c9 .before .before in
-    let c12 = c11 .before in
-    let c16 = c12 .before .before .before .before in
-    let c19 = c16 .before .before .before in
-    let c20 = c19 .before in
-    let c25 = c20 .before .before .before .before .before in
-    let a = c25 .args in
+    let counted = c .before .before in
+    let clear = cleared counted in
+    let judged = clear .before in
+    let own = unclaimed judged in
+    let free = untaken (own .before) in
+    let needed = needing (free .before) in
     rw (c .refused5 .ensures)
-    (prepare-lacks (a .versions .now) (a .lists .now) (a .bucket-count) (a .version-count) (a .used) _ (a .t) (a .rows .now) (a .buckets .now) _
-    (rw (← c20 .phase-rank .ensures) (eq-eqb _ _ (c19 .if1 .left))) (c16 .push-needed .ensures) (sym (c12 .any-taken .ensures)
-    ∙ c11 .if2 .left) (sym (c9 .any-claimed .ensures)
-    ∙ c8 .if3 .left) (rw (c6 .verdict .ensures) at (sym (c5 .is-clear .ensures) ∙ not-false (c5 .is-clear .result) (c4 .if4 .left)))
-    (sym (c .before .before .no-versions .ensures) ∙ c .before .if5 .taken))
+    (prepare-lacks _ _ _ _ _ _ _ _ (is-open (opened needed)) (needed .push-needed .ensures)
+    (sym (free .before .any-taken .ensures) ∙ free .if2 .left) (sym (own .before .any-claimed .ensures) ∙ own .if3 .left)
+    (rw (judged .before .verdict .ensures) at (sym (judged .is-clear .ensures) ∙ not-false (judged .is-clear .result) (clear .if4 .left)))
+    (sym (counted .no-versions .ensures) ∙ c .before .if5 .taken))
 
 slice-aggregate-set-holders : tie.Need-slice-aggregate-set-holders
 slice-aggregate-set-holders c = search needs
@@ -165,28 +167,20 @@ same-length-10 c = search needs
 
 returns-6 : tie.Need-returns-6
 returns-6 c =
-    let c3 = c .before .before .before in
-    let c7 = c3 .before .before .before .before in
-    let c10 = c7 .before .before .before in
-    let c11 = c10 .before in
-    let c13 = c11 .before .before in
-    let c14 = c13 .before in
-    let c15 = c14 .before in
-    let c17 = c15 .before .before in
-    let c18 = c17 .before in
-    let c20 = c18 .before .before in
-    let c21 = c20 .before in
-    let c25 = c21 .before .before .before .before in
-    let c28 = c25 .before .before .before in
-    let c29 = c28 .before in
-    let c34 = c29 .before .before .before .before .before in
-    let a = c34 .args in
-    rw (c .with-phase .ensures, c3 .claim-all .ensures, c7 .set-holders .ensures)
-    (prepare-done (a .versions .now) (a .lists .now) (a .bucket-count) (a .version-count) (a .used) _ (a .t) (a .rows .now) (a .buckets .now) _
-    (rw (← c29 .phase-rank .ensures) (eq-eqb _ _ (c28 .if1 .left))) (c25 .push-needed .ensures) (sym (c21 .any-taken .ensures)
-    ∙ c20 .if2 .left) (sym (c18 .any-claimed .ensures)
-    ∙ c17 .if3 .left) (rw (c15 .verdict .ensures) at (sym (c14 .is-clear .ensures) ∙ not-false (c14 .is-clear .result) (c13 .if4 .left)))
-    (sym (c11 .no-versions .ensures) ∙ c10 .if5 .left))
+    let claims = c .before .before .before in
+    let holds = claims .before .before .before .before in
+    let room = holds .before .before .before in
+    let counted = room .before in
+    let clear = cleared counted in
+    let judged = clear .before in
+    let own = unclaimed judged in
+    let free = untaken (own .before) in
+    let needed = needing (free .before) in
+    rw (c .with-phase .ensures, claims .claim-all .ensures, holds .set-holders .ensures)
+    (prepare-done _ _ _ _ _ _ _ _ (is-open (opened needed)) (needed .push-needed .ensures)
+    (sym (free .before .any-taken .ensures) ∙ free .if2 .left) (sym (own .before .any-claimed .ensures) ∙ own .if3 .left)
+    (rw (judged .before .verdict .ensures) at (sym (judged .is-clear .ensures) ∙ not-false (judged .is-clear .result) (clear .if4 .left)))
+    (sym (counted .no-versions .ensures) ∙ room .if5 .left))
 
 pub prepare-spec : {M : Type 1} → statement M
 prepare-spec =

@@ -16,7 +16,9 @@ same-length : tie.Need-same-length
 same-length c = search needs
 
 returns : tie.Need-returns
-returns c = needed-made _ _ _ _ _ _ _ _ _ _ (c .before .before .before .before .before .before .push-reads .ensures) (c .before .before .push-writes .ensures)
+returns c =
+    let listed = c .before .before in
+    needed-made _ _ _ _ _ _ _ _ (listed .before .before .before .before .push-reads .ensures) (listed .push-writes .ensures)
 
 pub push-needed-spec : {M : Type 1} → statement M
 push-needed-spec =

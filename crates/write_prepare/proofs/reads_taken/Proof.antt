@@ -19,7 +19,7 @@ any-taken-requires : tie.Need-any-taken-requires
 any-taken-requires c κs = search needs
 
 returns : tie.Need-returns
-returns c = reads-taken-made _ _ _ _ _ _ _ (c .before .before .before .push-reads .ensures) (c .any-taken .ensures)
+returns c = reads-taken-made _ _ _ _ _ (c .before .before .before .push-reads .ensures) (c .any-taken .ensures)
 
 pub reads-taken-spec : {M : Type 1} → statement M
 reads-taken-spec =
