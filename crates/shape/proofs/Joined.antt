@@ -19,6 +19,7 @@ use Rattle.model.specs.Steps.{pendingRows, getsVersion}
 use Rattle.model.specs.Refusals.{reserved}
 use Rattle.model.specs.Shape.{within, goodSizes, goodChains, goodCounts, goodRanges, goodHeads, goodTxn, distinctNumbers, rightShape}
 use Rattle.model.proofs.Ranges.{good-sized}
+use Rattle.base_protocol.specs.declared.Extent.{Extent}
 use Rattle.base_protocol.specs.declared.Sizes.{Sizes}
 use Rattle.base_protocol.specs.View.{sizesView}
 use Rattle.table.specs.Fields.{rowWords, versionWords, headOf, nextOf}
@@ -31,9 +32,9 @@ use Rattle.txn.specs.View.{phaseView, readView, writeView, recordView, txnView}
 use Rattle.txn.specs.declared.Transaction.{Transaction}
 use Rattle.txn_places.specs.Places.{liveIn}
 use Rattle.txn_needs.specs.Keys.{headedBy}
-use Rattle.txn_needs.specs.Needs.{rowsWritten}
+use Rattle.txn_needs.specs.Needs.{writtenBy}
 use Rattle.txn_needs.specs.Versions.{reservedIn}
-use Rattle.step.specs.Words.{Words, txnAt, view, othersIn}
+use Rattle.step.specs.Words.{Words, txnAt, view, othersIn, extentIn}
 use Rattle.step_bridge.proofs.Places.{number-at}
 use Rattle.step_bridge.proofs.Listing.{all-each, every-at}
 use Rattle.step_bridge.proofs.Beginning.{live-same}
@@ -114,23 +115,23 @@ module _ (xs : List ℕ) (t : Transaction) where
         list-length candidateOf 1 (startOf candidates (t .slot)) xs (t .«candidates_n»),
       )
 
-  ranges-same : (z : Sizes) (used : ℕ) → goodRanges (sizesView z) used (txnView xs t) ≡ rangesFit xs z used t
+  ranges-same : (e : Extent) → goodRanges (sizesView (e .sizes)) (e .used) (txnView xs t) ≡ rangesFit xs e t
   unfolding goodRanges rangesFit
-  ranges-same z used = rw (
-    entries writeView writeOf writes xs (t .slot) (t .«writes_n») (λ (w : model.Write). ltb (w .row) (z .rows)),
-    entries recordView recordOf records xs (t .slot) (t .«records_n») (λ (r : model.ReadRecord). ltb (r .row) (z .rows) && within (r .ptr) used),
-    all-listed (λ r. ltb r (z .rows)) candidateOf 1 (startOf candidates (t .slot)) xs (t .«candidates_n»),
-    entries readView readOf reads xs (t .slot) (t .«reads_n») (λ (r : model.IndexRead). ltb (r .bucket) (z .buckets)),
+  ranges-same e = rw (
+    entries writeView writeOf writes xs (t .slot) (t .«writes_n») (λ (w : model.Write). ltb (w .row) (e .sizes .rows)),
+    entries recordView recordOf records xs (t .slot) (t .«records_n») (λ (r : model.ReadRecord). ltb (r .row) (e .sizes .rows) && within (r .ptr) (e .used)),
+    all-listed (λ r. ltb r (e .sizes .rows)) candidateOf 1 (startOf candidates (t .slot)) xs (t .«candidates_n»),
+    entries readView readOf reads xs (t .slot) (t .«reads_n») (λ (r : model.IndexRead). ltb (r .bucket) (e .sizes .buckets)),
   )
 
-  writes-true : (z : Sizes) (used : ℕ) → rangesFit xs z used t ≡ true → writesIn xs (t .slot) (t .«writes_n») (z .rows) ≡ true
+  writes-true : (e : Extent) → rangesFit xs e t ≡ true → writesIn xs t (e .sizes .rows) ≡ true
   unfolding rangesFit
-  writes-true z used e = and-l _ _ (and-l _ _ (and-l _ _ (and-l _ _ e)))
+  writes-true e h = and-l _ _ (and-l _ _ (and-l _ _ (and-l _ _ h)))
 
   -- the rows of the pending writes, all that the store has
-  rows-below : (n : ℕ) → writesIn xs (t .slot) (t .«writes_n») n ≡ true → (r : ℕ) → Among r (rowsWritten xs (t .slot) (t .«writes_n»)) → r < n
+  rows-below : (n : ℕ) → writesIn xs t n ≡ true → (r : ℕ) → Among r (writtenBy xs t) → r < n
   rows-below n e r m = ltb-true r n
-      (all-each (λ v. ltb v n) (rowsWritten xs (t .slot) (t .«writes_n»))
+      (all-each (λ v. ltb v n) (writtenBy xs t)
       (entries (λ (w : Write). w .row) writeOf writes xs (t .slot) (t .«writes_n») (λ v. ltb v n) ∙ e) r m)
 
 -- where pointers are in the part of the table that its size names
@@ -139,21 +140,21 @@ module _ (rows versions xs : List ℕ) (z : Sizes) (used : ℕ) (g : Headed (siz
   chains = chainsIn (sizesView z) rows versions used
 
   row-same : t .«writes_n» ≤ mostWrites → (r : ℕ) → r < z .rows → steps.headedBy chains (t .number) r || not (getsVersion chains (txnView xs t .writes) r)
-      ≡ rowFits rows versions xs (t .slot) (t .«writes_n») (t .number) r
+      ≡ rowFits rows versions xs t r
   row-same few r h =
       rw (
         headed-same (sizesView z) rows versions used g (t .number) r h,
         gets-same rows versions xs t chains r few (old-key-same (sizesView z) rows versions used g r h),
       )
 
-  heads-same : t .«writes_n» ≤ mostWrites → writesIn xs (t .slot) (t .«writes_n») (z .rows) ≡ true → goodHeads (sizesView z) chains (txnView xs t)
+  heads-same : t .«writes_n» ≤ mostWrites → writesIn xs t (z .rows) ≡ true → goodHeads (sizesView z) chains (txnView xs t)
       ≡ headsFit rows versions xs t
   unfolding goodHeads headsFit
   heads-same few e =
-      let rs = rowsWritten xs (t .slot) (t .«writes_n») in
+      let rs = writtenBy xs t in
       let below = rows-below xs t (z .rows) e in
       let part : ℕ → Bool = λ r. steps.headedBy chains (t .number) r || not (getsVersion chains (txnView xs t .writes) r) in
-      let fit : ℕ → Bool = rowFits rows versions xs (t .slot) (t .«writes_n») (t .number) in
+      let fit : ℕ → Bool = rowFits rows versions xs t in
       ap (λ (b : Bool). ltb (model.rank (phaseView (t .phase))) 5 || b)
       (all-both part (pendingRows (sizesView z) (txnView xs t .writes)) rs (λ r m. pending-written xs (t .slot) (t .«writes_n») (sizesView z) r m)
       (λ r m. written-pending xs (t .slot) (t .«writes_n») (sizesView z) r (below r m) m)
@@ -164,23 +165,22 @@ module _ (rows versions xs : List ℕ) (z : Sizes) (used : ℕ) (g : Headed (siz
 abbrev seenFits : ℕ → Transaction → Bool
 seenFits clock t = ltb (t .number) clock && eqb (t .snapshot .xmin) (leastOf t)
 
-few-in : (clock : ℕ) (xs : List ℕ) (z : Sizes) (used : ℕ) (t : Transaction) → seenFits clock t && countsFit t && rangesFit xs z used t ≡ true
-    → t .«writes_n» ≤ mostWrites
-few-in clock xs z used t f =
-    let counts = and-r (seenFits clock t) (countsFit t) (and-l (seenFits clock t && countsFit t) (rangesFit xs z used t) f) in
+few-in : (xs : List ℕ) (e : Extent) (t : Transaction) → seenFits (e .clock) t && countsFit t && rangesFit xs e t ≡ true → t .«writes_n» ≤ mostWrites
+few-in xs e t f =
+    let counts = and-r (seenFits (e .clock) t) (countsFit t) (and-l (seenFits (e .clock) t && countsFit t) (rangesFit xs e t) f) in
     let two = and-l (leb (t .«reads_n») mostIndexReads && leb (t .«writes_n») mostWrites) _ (and-l _ (leb (t .«candidates_n») mostRows) counts) in
     leb-true (t .«writes_n») mostWrites (and-r (leb (t .«reads_n») mostIndexReads) _ two)
 
-module _ (rows versions xs : List ℕ) (z : Sizes) (clock used : ℕ) (t : Transaction) (e : txnFits rows versions xs z clock used t ≡ true) where
-  front-fits : seenFits clock t && countsFit t && rangesFit xs z used t ≡ true
+module _ (rows versions xs : List ℕ) (e : Extent) (t : Transaction) (h : txnFits rows versions xs e t ≡ true) where
+  front-fits : seenFits (e .clock) t && countsFit t && rangesFit xs e t ≡ true
   unfolding txnFits
-  front-fits = and-l (seenFits clock t && countsFit t && rangesFit xs z used t) (headsFit rows versions xs t) e
+  front-fits = and-l (seenFits (e .clock) t && countsFit t && rangesFit xs e t) (headsFit rows versions xs t) h
 
   few-writes : t .«writes_n» ≤ mostWrites
-  few-writes = few-in clock xs z used t front-fits
+  few-writes = few-in xs e t front-fits
 
-  writes-fit : writesIn xs (t .slot) (t .«writes_n») (z .rows) ≡ true
-  writes-fit = writes-true xs t z used (and-r (seenFits clock t && countsFit t) (rangesFit xs z used t) front-fits)
+  writes-fit : writesIn xs t (e .sizes .rows) ≡ true
+  writes-fit = writes-true xs t e (and-r (seenFits (e .clock) t && countsFit t) (rangesFit xs e t) front-fits)
 
 -- ---- the whole
 
@@ -191,7 +191,7 @@ tested w =
     && (goodSizes (sizesView (w .sizes))
     && leb 1 (w .clock)
     && chainsFit (w .tables .rows) (w .tables .versions) (w .sizes) (w .used)
-    && txnsFit (w .tables .rows) (w .tables .versions) (w .tables .lists) (w .sizes) (w .clock) (w .used) (w .txns)
+    && txnsFit (w .tables .rows) (w .tables .versions) (w .tables .lists) (extentIn w) (w .txns)
     && allDistinct (othersIn (w .txns) .numbers)
     && leb (w .clock + liveIn (othersIn (w .txns) .numbers)) lastNumber
     && leb (w .used + reservedIn (w .tables .rows) (w .tables .versions) (w .tables .lists) (othersIn (w .txns) .prepared) mostLive) (w .sizes .versions))
@@ -244,20 +244,19 @@ module _ (w : Words) where
     own-slot i h = eqb-true (txnAt w i .slot) i (and-l _ (leb (txnAt w i .snapshot .«active_n») mostActive) (front-in i h))
 
     txn-same : chainsFit (w .tables .rows) (w .tables .versions) (w .sizes) (w .used) ≡ true → (i : ℕ) → i < mostLive
-        → goodTxn (view w) (view w .txns i) ≡ txnFits (w .tables .rows) (w .tables .versions) (w .tables .lists) (w .sizes) (w .clock) (w .used) (txnAt w i)
+        → goodTxn (view w) (view w .txns i) ≡ txnFits (w .tables .rows) (w .tables .versions) (w .tables .lists) (extentIn w) (txnAt w i)
     unfolding goodTxn txnFits
     txn-same k i h =
         let t = txnAt w i in
         and-same _ _ _ _
         (and-same _ _ _ _ (and-same (seenFits (w .clock) t) _ _ _ refl (λ e. counts-same (w .tables .lists) t (few-active i h)))
-        (λ e. ranges-same (w .tables .lists) t (w .sizes) (w .used)))
+        (λ e. ranges-same (w .tables .lists) t (extentIn w)))
         (λ e. heads-same (w .tables .rows) (w .tables .versions) (w .tables .lists) (w .sizes) (w .used) (fits-headed k) t
-        (few-in (w .clock) (w .tables .lists) (w .sizes) (w .used) t e)
-        (writes-true (w .tables .lists) t (w .sizes) (w .used) (and-r (seenFits (w .clock) t && countsFit t) _ e)))
+        (few-in (w .tables .lists) (extentIn w) t e) (writes-true (w .tables .lists) t (extentIn w) (and-r (seenFits (w .clock) t && countsFit t) _ e)))
 
     txns-same : chainsFit (w .tables .rows) (w .tables .versions) (w .sizes) (w .used) ≡ true
         → every mostLive (λ i. not (live (view w .txns i)) || goodTxn (view w) (view w .txns i))
-        ≡ txnsFit (w .tables .rows) (w .tables .versions) (w .tables .lists) (w .sizes) (w .clock) (w .used) (w .txns)
+        ≡ txnsFit (w .tables .rows) (w .tables .versions) (w .tables .lists) (extentIn w) (w .txns)
     unfolding placeFits
     txns-same k = every-same mostLive _ _ (λ i h. go (eqb (txnAt w i .number) 0) _ _ (txn-same k i h))
       where
@@ -267,21 +266,21 @@ module _ (w : Words) where
 
     -- what is reserved, by the tests made before
     module _ (sizes : goodSizes (sizesView (w .sizes)) ≡ true) (good : chainsFit (w .tables .rows) (w .tables .versions) (w .sizes) (w .used) ≡ true)
-        (txns : txnsFit (w .tables .rows) (w .tables .versions) (w .tables .lists) (w .sizes) (w .clock) (w .used) (w .txns) ≡ true) where
+        (txns : txnsFit (w .tables .rows) (w .tables .versions) (w .tables .lists) (extentIn w) (w .txns) ≡ true) where
       live-fits : (i : ℕ) → i < mostLive → eqb (txnAt w i .number) 0 ≡ false
-          → txnFits (w .tables .rows) (w .tables .versions) (w .tables .lists) (w .sizes) (w .clock) (w .used) (txnAt w i) ≡ true
+          → txnFits (w .tables .rows) (w .tables .versions) (w .tables .lists) (extentIn w) (txnAt w i) ≡ true
       unfolding placeFits
       live-fits i h e =
           rw e at (every-at mostLive
-          (λ i. placeFits (w .tables .rows) (w .tables .versions) (w .tables .lists) (w .sizes) (w .clock) (w .used) (txnAt w i)) txns i h)
+          (λ i. placeFits (w .tables .rows) (w .tables .versions) (w .tables .lists) (extentIn w) (txnAt w i)) txns i h)
 
       live-writes : (i : ℕ) → i < mostLive → eqb (txnAt w i .number) 0 ≡ false → WritesIn (sizesView (w .sizes)) (w .tables .lists) (txnAt w i)
       live-writes i h e =
           let t = txnAt w i in
           let fits = live-fits i h e in
           record {
-            few = few-writes _ _ (w .tables .lists) (w .sizes) (w .clock) (w .used) t fits;
-            below = rows-below (w .tables .lists) t (w .sizes .rows) (writes-fit _ _ (w .tables .lists) (w .sizes) (w .clock) (w .used) t fits);
+            few = few-writes _ _ (w .tables .lists) (extentIn w) t fits;
+            below = rows-below (w .tables .lists) t (w .sizes .rows) (writes-fit _ _ (w .tables .lists) (extentIn w) t fits);
           }
 
       others-same : reservedIn (w .tables .rows) (w .tables .versions) (w .tables .lists) (othersIn (w .txns) .prepared) mostLive
@@ -294,7 +293,7 @@ module _ (w : Words) where
   shape-tested eight =
       let sizes = goodSizes (sizesView (w .sizes)) && leb 1 (w .clock) in
       let chains = chainsFit (w .tables .rows) (w .tables .versions) (w .sizes) (w .used) in
-      let txns = txnsFit (w .tables .rows) (w .tables .versions) (w .tables .lists) (w .sizes) (w .clock) (w .used) (w .txns) in
+      let txns = txnsFit (w .tables .rows) (w .tables .versions) (w .tables .lists) (extentIn w) (w .txns) in
       and-same (tablesFit w) (tablesFit w) (rightShape (view w)) _ refl
       (λ f.
       let places = and-r (tablesLent (w .tables .rows) (w .tables .versions) (w .tables .buckets) (w .tables .lists) (w .sizes)) (allInPlace (w .txns)) f in

@@ -6,14 +6,14 @@ use lib.Dec.{eqb}
 use lib.ListN.{getD}
 use Rattle.base_limits.specs.Limits.{mostLive}
 use Rattle.base_lists.specs.Lists.{every}
-use Rattle.base_protocol.specs.declared.Sizes.{Sizes}
+use Rattle.base_protocol.specs.declared.Extent.{Extent}
 use Rattle.txn.specs.Methods.{idleOf}
 use Rattle.txn.specs.declared.Transaction.{Transaction}
 use Rattle.shape_txn.specs.Fits.{placeFits}
 
 -- each record has its shape, or its place is free
-abbrev pub txnsFit : List ℕ → List ℕ → List ℕ → Sizes → ℕ → ℕ → List Transaction → Bool
-txnsFit rows versions lists z clock used ts = every mostLive (λ i. placeFits rows versions lists z clock used (getD ts i (idleOf i)))
+abbrev pub txnsFit : List ℕ → List ℕ → List ℕ → Extent → List Transaction → Bool
+txnsFit rows versions lists e ts = every mostLive (λ i. placeFits rows versions lists e (getD ts i (idleOf i)))
 
 -- live numbers distinct: none stands at an earlier place
 abbrev pub unlike : List ℕ → ℕ → ℕ → Bool

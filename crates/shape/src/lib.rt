@@ -3,6 +3,7 @@ use base_limits::LAST_NUMBER;
 use base_limits::MOST_ACTIVE;
 use base_limits::MOST_LIVE;
 use base_numbers::sum_within;
+use base_protocol::Extent;
 use base_protocol::Sizes;
 use shape_chains::chains_fit;
 use shape_open::good_sizes;
@@ -36,15 +37,15 @@ pub struct Machine {
 
 // Whether each lent table has the words that its size names; divided, so that no size wraps.
 pub fn tables_lent(
-    rows_table: &[u64],
+    rows: &[u64],
     versions: &[u64],
     buckets: &[u64],
     lists: &[u64],
     sizes: Sizes,
 ) -> bool
-    ensures { λ r. ⌜ r ≡ tablesLent (now («rows_table» .entry)) (now (versions .entry)) (now (buckets .entry)) (now (lists .entry)) sizes ⌝ }
+    ensures { λ r. ⌜ r ≡ tablesLent (now (rows .entry)) (now (versions .entry)) (now (buckets .entry)) (now (lists .entry)) sizes ⌝ }
 {
-    if ((rows_table.len() / ROW_WORDS) as u64) < sizes.rows {
+    if ((rows.len() / ROW_WORDS) as u64) < sizes.rows {
         return false;
     }
     if (versions.len() / VERSION_WORDS) as u64 <= sizes.versions {
@@ -85,19 +86,17 @@ fn all_in_place(txns: [Transaction; MOST_LIVE]) -> bool
 
 // Whether each record has its shape, or its place is free.
 fn txns_fit(
-    rows_table: &[u64],
+    rows: &[u64],
     versions: &[u64],
     lists: &[u64],
-    sizes: Sizes,
-    clock: u64,
-    used: u64,
+    extent: Extent,
     txns: [Transaction; MOST_LIVE],
 ) -> bool
-    ensures { λ r. ⌜ r ≡ txnsFit (now («rows_table» .entry)) (now (versions .entry)) (now (lists .entry)) sizes clock used txns ⌝ }
+    ensures { λ r. ⌜ r ≡ txnsFit (now (rows .entry)) (now (versions .entry)) (now (lists .entry)) extent txns ⌝ }
 {
     let mut i = 0;
     while i < MOST_LIVE {
-        if !place_fits(rows_table, versions, lists, sizes, clock, used, txns[i]) {
+        if !place_fits(rows, versions, lists, extent, txns[i]) {
             return false;
         }
         i += 1;
@@ -171,17 +170,17 @@ fn distinct_numbers(numbers: [u64; MOST_LIVE]) -> bool
 
 // Whether the machine and its lent tables have the shape that every step asks for.
 pub fn right_shape(
-    rows_table: &[u64],
+    rows: &[u64],
     versions: &[u64],
     buckets: &[u64],
     lists: &[u64],
     m: Machine,
 ) -> bool
-    ensures { λ r. ⌜ r ≡ shapeOf (wordsOf (now («rows_table» .entry)) (now (versions .entry)) (now (buckets .entry)) (now (lists .entry)) [] m) ⌝ }
+    ensures { λ r. ⌜ r ≡ shapeOf (wordsOf (now (rows .entry)) (now (versions .entry)) (now (buckets .entry)) (now (lists .entry)) [] m) ⌝ }
 {
     let sizes = m.sizes;
     let txns = m.txns;
-    if !tables_lent(rows_table, versions, buckets, lists, sizes) {
+    if !tables_lent(rows, versions, buckets, lists, sizes) {
         return false;
     }
     if !all_in_place(txns) {
@@ -193,10 +192,15 @@ pub fn right_shape(
     if m.clock < 1 {
         return false;
     }
-    if !chains_fit(rows_table, versions, sizes, m.used) {
+    if !chains_fit(rows, versions, sizes, m.used) {
         return false;
     }
-    if !txns_fit(rows_table, versions, lists, sizes, m.clock, m.used, txns) {
+    let extent = Extent {
+        sizes: sizes,
+        clock: m.clock,
+        used: m.used,
+    };
+    if !txns_fit(rows, versions, lists, extent, txns) {
         return false;
     }
     let others = others_of(txns);
@@ -210,7 +214,7 @@ pub fn right_shape(
     }
     sum_within(
         m.used,
-        reserved(rows_table, versions, lists, prepared),
+        reserved(rows, versions, lists, prepared),
         sizes.versions,
     )
 }

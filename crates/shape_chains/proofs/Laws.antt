@@ -2,10 +2,11 @@
 -- Assumes nothing.
 use Prim.Native.Nat.{ℕ, zero, suc, _+_, _<_, _≤_}
 use mathlib.Core.Path.{_≡_, refl, sym, ap, _∙_}
-use mathlib.Core.Bool.{Bool, true, false, and-false}
+use mathlib.Core.Bool.{Bool, true, false, not, and-false}
 use native.Mathlib.Decide.{decLt}
 use native.Mathlib.Numerals.{add-one}
 use native.Mathlib.Omega.{arith}
+use borrow.Author.Tests.{not-true, not-false}
 use Rattle.base_lists.specs.Lists.{every}
 
 -- none, one more, all, and one that fails
@@ -25,3 +26,10 @@ module _ (test : ℕ → Bool) (i : ℕ) where
   unfolding every
   every-fails zero h e = absurd (omega arith)
   every-fails (suc n) h e = elim (decLt i n) [ yes l ↦ rw (← every-fails n l e) | no l ↦ let d : i ≡ n = omega (arith, l) in rw (← d, e, and-false) ]
+
+-- a test that a callee made, past it and in its arm
+pub passed : {r test : Bool} → r ≡ test → not r ≡ false → test ≡ true
+passed {r} e l = sym e ∙ not-false r l
+
+pub failed : {r test : Bool} → r ≡ test → not r ≡ true → test ≡ false
+failed {r} e t = sym e ∙ not-true r t

@@ -6,12 +6,12 @@ ghost use mathlib.Core.Path.{_≡_};
 ghost use Rattle.shape_chains.specs.Links.{headsIn, nextsFall, chainsFit};
 
 // Whether heads are at most the last used pointer.
-fn heads_in(rows_table: &[u64], count: u64, used: u64) -> bool
-    ensures { λ r. ⌜ r ≡ headsIn (now («rows_table» .entry)) count used ⌝ }
+fn heads_in(rows: &[u64], count: u64, used: u64) -> bool
+    ensures { λ r. ⌜ r ≡ headsIn (now (rows .entry)) count used ⌝ }
 {
     let mut row: u64 = 0;
     while row < count {
-        if used < head_at(rows_table, row as usize) {
+        if used < head_at(rows, row as usize) {
             return false;
         }
         row += 1;
@@ -34,13 +34,13 @@ fn nexts_fall(versions: &[u64], used: u64) -> bool
 }
 
 // Whether used pointers, heads and nexts are in range.
-pub fn chains_fit(rows_table: &[u64], versions: &[u64], sizes: Sizes, used: u64) -> bool
-    ensures { λ r. ⌜ r ≡ chainsFit (now («rows_table» .entry)) (now (versions .entry)) sizes used ⌝ }
+pub fn chains_fit(rows: &[u64], versions: &[u64], sizes: Sizes, used: u64) -> bool
+    ensures { λ r. ⌜ r ≡ chainsFit (now (rows .entry)) (now (versions .entry)) sizes used ⌝ }
 {
     if sizes.versions < used {
         return false;
     }
-    if !heads_in(rows_table, sizes.rows, used) {
+    if !heads_in(rows, sizes.rows, used) {
         return false;
     }
     nexts_fall(versions, used)

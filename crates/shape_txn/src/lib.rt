@@ -4,7 +4,7 @@ use base_limits::MOST_RECORDS;
 use base_limits::MOST_ROWS;
 use base_limits::MOST_WRITES;
 use base_numbers::within;
-use base_protocol::Sizes;
+use base_protocol::Extent;
 use table::lists::candidate_at;
 use table::lists::read_bucket_at;
 use table::lists::record_ptr_at;
@@ -38,12 +38,12 @@ pub fn counts_fit(t: Transaction) -> bool
 }
 
 // Whether rows, buckets and recorded pointers are in range, list by list.
-fn writes_in(lists: &[u64], slot: u32, count: u32, row_count: u64) -> bool
-    ensures { λ r. ⌜ r ≡ writesIn (now (lists .entry)) slot count «row_count» ⌝ }
+fn writes_in(lists: &[u64], t: Transaction, row_count: u64) -> bool
+    ensures { λ r. ⌜ r ≡ writesIn (now (lists .entry)) t «row_count» ⌝ }
 {
     let mut i: u32 = 0;
-    while i < count {
-        if write_row_at(lists, slot, i) >= row_count {
+    while i < t.writes_n {
+        if write_row_at(lists, t.slot, i) >= row_count {
             return false;
         }
         i += 1;
@@ -60,16 +60,16 @@ fn record_in(row_count: u64, used: u64, row: u64, ptr: u64) -> bool
     within(ptr, used)
 }
 
-fn records_in(lists: &[u64], slot: u32, count: u32, row_count: u64, used: u64) -> bool
-    ensures { λ r. ⌜ r ≡ recordsIn (now (lists .entry)) slot count «row_count» used ⌝ }
+fn records_in(lists: &[u64], t: Transaction, row_count: u64, used: u64) -> bool
+    ensures { λ r. ⌜ r ≡ recordsIn (now (lists .entry)) t «row_count» used ⌝ }
 {
     let mut i: u32 = 0;
-    while i < count {
+    while i < t.records_n {
         if !record_in(
             row_count,
             used,
-            record_row_at(lists, slot, i),
-            record_ptr_at(lists, slot, i),
+            record_row_at(lists, t.slot, i),
+            record_ptr_at(lists, t.slot, i),
         ) {
             return false;
         }
@@ -78,12 +78,12 @@ fn records_in(lists: &[u64], slot: u32, count: u32, row_count: u64, used: u64) -
     true
 }
 
-fn candidates_in(lists: &[u64], slot: u32, count: u32, row_count: u64) -> bool
-    ensures { λ r. ⌜ r ≡ candidatesIn (now (lists .entry)) slot count «row_count» ⌝ }
+fn candidates_in(lists: &[u64], t: Transaction, row_count: u64) -> bool
+    ensures { λ r. ⌜ r ≡ candidatesIn (now (lists .entry)) t «row_count» ⌝ }
 {
     let mut i: u32 = 0;
-    while i < count {
-        if candidate_at(lists, slot, i) >= row_count {
+    while i < t.candidates_n {
+        if candidate_at(lists, t.slot, i) >= row_count {
             return false;
         }
         i += 1;
@@ -91,12 +91,12 @@ fn candidates_in(lists: &[u64], slot: u32, count: u32, row_count: u64) -> bool
     true
 }
 
-fn reads_in(lists: &[u64], slot: u32, count: u32, bucket_count: u64) -> bool
-    ensures { λ r. ⌜ r ≡ readsIn (now (lists .entry)) slot count «bucket_count» ⌝ }
+fn reads_in(lists: &[u64], t: Transaction, bucket_count: u64) -> bool
+    ensures { λ r. ⌜ r ≡ readsIn (now (lists .entry)) t «bucket_count» ⌝ }
 {
     let mut i: u32 = 0;
-    while i < count {
-        if read_bucket_at(lists, slot, i) >= bucket_count {
+    while i < t.reads_n {
+        if read_bucket_at(lists, t.slot, i) >= bucket_count {
             return false;
         }
         i += 1;
@@ -104,64 +104,42 @@ fn reads_in(lists: &[u64], slot: u32, count: u32, bucket_count: u64) -> bool
     true
 }
 
-fn ranges_fit(lists: &[u64], sizes: Sizes, used: u64, t: Transaction) -> bool
-    ensures { λ r. ⌜ r ≡ rangesFit (now (lists .entry)) sizes used t ⌝ }
+fn ranges_fit(lists: &[u64], extent: Extent, t: Transaction) -> bool
+    ensures { λ r. ⌜ r ≡ rangesFit (now (lists .entry)) extent t ⌝ }
 {
+    let sizes = extent.sizes;
     let phase = t.phase;
-    if !writes_in(lists, t.slot, t.writes_n, sizes.rows) {
+    if !writes_in(lists, t, sizes.rows) {
         return false;
     }
-    if !records_in(lists, t.slot, t.records_n, sizes.rows, used) {
+    if !records_in(lists, t, sizes.rows, extent.used) {
         return false;
     }
-    if !candidates_in(lists, t.slot, t.candidates_n, sizes.rows) {
+    if !candidates_in(lists, t, sizes.rows) {
         return false;
     }
-    if !reads_in(lists, t.slot, t.reads_n, sizes.buckets) {
+    if !reads_in(lists, t, sizes.buckets) {
         return false;
     }
     bucket_in(phase) < sizes.buckets
 }
 
 // Whether a pending row is headed by the transaction's version; or its last write is an erase and it has no live head.
-fn row_fits(
-    rows_table: &[u64],
-    versions: &[u64],
-    lists: &[u64],
-    slot: u32,
-    count: u32,
-    number: u64,
-    row: u64,
-) -> bool
-    ensures { λ r. ⌜ r ≡ rowFits (now («rows_table» .entry)) (now (versions .entry)) (now (lists .entry)) slot count number row ⌝ }
+fn row_fits(rows: &[u64], versions: &[u64], lists: &[u64], t: Transaction, row: u64) -> bool
+    ensures { λ r. ⌜ r ≡ rowFits (now (rows .entry)) (now (versions .entry)) (now (lists .entry)) t row ⌝ }
 {
-    if headed_by(rows_table, versions, number, row) {
+    if headed_by(rows, versions, t.number, row) {
         return true;
     }
-    !gets_version(rows_table, versions, lists, slot, count, row)
+    !gets_version(rows, versions, lists, t.slot, t.writes_n, row)
 }
 
-fn rows_headed(
-    rows_table: &[u64],
-    versions: &[u64],
-    lists: &[u64],
-    slot: u32,
-    count: u32,
-    number: u64,
-) -> bool
-    ensures { λ r. ⌜ r ≡ rowsHeaded (now («rows_table» .entry)) (now (versions .entry)) (now (lists .entry)) slot count number count ⌝ }
+fn rows_headed(rows: &[u64], versions: &[u64], lists: &[u64], t: Transaction) -> bool
+    ensures { λ r. ⌜ r ≡ rowsHeaded (now (rows .entry)) (now (versions .entry)) (now (lists .entry)) t ⌝ }
 {
     let mut i: u32 = 0;
-    while i < count {
-        if !row_fits(
-            rows_table,
-            versions,
-            lists,
-            slot,
-            count,
-            number,
-            write_row_at(lists, slot, i),
-        ) {
+    while i < t.writes_n {
+        if !row_fits(rows, versions, lists, t, write_row_at(lists, t.slot, i)) {
             return false;
         }
         i += 1;
@@ -170,31 +148,23 @@ fn rows_headed(
 }
 
 // Whether each pending row of an Installed or Ended transaction is headed as it must be.
-fn heads_fit(rows_table: &[u64], versions: &[u64], lists: &[u64], t: Transaction) -> bool
-    ensures { λ r. ⌜ r ≡ headsFit (now («rows_table» .entry)) (now (versions .entry)) (now (lists .entry)) t ⌝ }
+fn heads_fit(rows: &[u64], versions: &[u64], lists: &[u64], t: Transaction) -> bool
+    ensures { λ r. ⌜ r ≡ headsFit (now (rows .entry)) (now (versions .entry)) (now (lists .entry)) t ⌝ }
 {
     let phase = t.phase;
     if phase_rank(phase) < INSTALLED {
         return true;
     }
-    rows_headed(rows_table, versions, lists, t.slot, t.writes_n, t.number)
+    rows_headed(rows, versions, lists, t)
 }
 
 // Whether a live transaction has its shape.
-fn txn_fits(
-    rows_table: &[u64],
-    versions: &[u64],
-    lists: &[u64],
-    sizes: Sizes,
-    clock: u64,
-    used: u64,
-    t: Transaction,
-) -> bool
-    ensures { λ r. ⌜ r ≡ txnFits (now («rows_table» .entry)) (now (versions .entry)) (now (lists .entry)) sizes clock used t ⌝ }
+fn txn_fits(rows: &[u64], versions: &[u64], lists: &[u64], extent: Extent, t: Transaction) -> bool
+    ensures { λ r. ⌜ r ≡ txnFits (now (rows .entry)) (now (versions .entry)) (now (lists .entry)) extent t ⌝ }
 {
     let snapshot = t.snapshot;
     let active = snapshot.active;
-    if t.number >= clock {
+    if t.number >= extent.clock {
         return false;
     }
     if snapshot.xmin != least_of(t.number, active, snapshot.active_n) {
@@ -203,26 +173,24 @@ fn txn_fits(
     if !counts_fit(t) {
         return false;
     }
-    if !ranges_fit(lists, sizes, used, t) {
+    if !ranges_fit(lists, extent, t) {
         return false;
     }
-    heads_fit(rows_table, versions, lists, t)
+    heads_fit(rows, versions, lists, t)
 }
 
 // The same of what stands at a place; a free one is asked for nothing.
 pub fn place_fits(
-    rows_table: &[u64],
+    rows: &[u64],
     versions: &[u64],
     lists: &[u64],
-    sizes: Sizes,
-    clock: u64,
-    used: u64,
+    extent: Extent,
     t: Transaction,
 ) -> bool
-    ensures { λ r. ⌜ r ≡ placeFits (now («rows_table» .entry)) (now (versions .entry)) (now (lists .entry)) sizes clock used t ⌝ }
+    ensures { λ r. ⌜ r ≡ placeFits (now (rows .entry)) (now (versions .entry)) (now (lists .entry)) extent t ⌝ }
 {
     if t.number == 0 {
         return true;
     }
-    txn_fits(rows_table, versions, lists, sizes, clock, used, t)
+    txn_fits(rows, versions, lists, extent, t)
 }

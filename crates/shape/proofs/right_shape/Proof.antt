@@ -1,20 +1,21 @@
 -- `shape::right_shape` meets its contract.
 -- Assumes nothing.
 use mathlib.Core.Path.{_≡_, sym, ap, _∙_}
-use mathlib.Core.Bool.{Bool, true, false, not, _&&_}
+use mathlib.Core.Bool.{Bool, true, _&&_}
 use mathlib.Core.List.{[]}
 use Prim.Native.Nat.{ℕ, _+_}
 use lib.Dec.{leb}
 use lib.ListN.{length-map}
-use borrow.Author.Tests.{le-leb, lt-leb, not-true, not-false}
+use borrow.Author.Tests.{le-leb, lt-leb}
 use Rattle.base_limits.specs.Limits.{lastNumber, mostLive}
 use Rattle.model.specs.Shape.{goodSizes}
 use Rattle.base_protocol.specs.View.{sizesView}
 use Rattle.txn_needs.specs.Versions.{reservedIn}
 use Rattle.txn_places.specs.declared.Others.{Others}
 use Rattle.txn_places.specs.Places.{liveIn}
-use Rattle.step.specs.Words.{Words, othersIn}
+use Rattle.step.specs.Words.{Words, othersIn, extentIn}
 use Rattle.shape_chains.specs.Links.{chainsFit}
+use Rattle.shape_chains.proofs.Laws.{passed, failed}
 use Rattle.shape.specs.Shape.{allInPlace, tablesFit, shapeOf, wordsOf}
 use Rattle.shape.specs.Tests.{txnsFit, allDistinct}
 use Rattle.shape.proofs.Joined.{shape-tested}
@@ -40,7 +41,7 @@ distinct w b = numbers w (b && allDistinct (othersIn (w .txns) .numbers))
 
 -- each live record has its shape
 abbrev records : Words → Bool → Bool
-records w b = distinct w (b && txnsFit (w .tables .rows) (w .tables .versions) (w .tables .lists) (w .sizes) (w .clock) (w .used) (w .txns))
+records w b = distinct w (b && txnsFit (w .tables .rows) (w .tables .versions) (w .tables .lists) (extentIn w) (w .txns))
 
 -- the chains go down, within the versions in use
 abbrev chains : Words → Bool → Bool
@@ -57,7 +58,7 @@ sizes w = clock w (goodSizes (sizesView (w .sizes)))
 -- THE WORDS, FROM EACH PLACE
 
 abbrev words : tie.Start → Words
-words s = let a = s .args in wordsOf (a .rows-table .now) (a .versions .now) (a .buckets .now) (a .lists .now) [] (a .m)
+words s = let a = s .args in wordsOf (a .rows .now) (a .versions .now) (a .buckets .now) (a .lists .now) [] (a .m)
 
 abbrev entered : tie.After-sizes → tie.Start
 entered c = c .before .before .before .before .before
@@ -93,13 +94,6 @@ abbrev words8 : tie.Else8 → Words
 words8 c = words7 (c .before .before .before)
 
 -- WHAT IS LEFT PAST EACH TEST
-
--- a test that a callee made, past it and in its arm
-passed : {r test : Bool} → r ≡ test → not r ≡ false → test ≡ true
-passed {r} e l = sym e ∙ not-false r l
-
-failed : {r test : Bool} → r ≡ test → not r ≡ true → test ≡ false
-failed {r} e t = sym e ∙ not-true r t
 
 -- the tests are made in the code's order: a machine has eight places
 begun : (s : tie.Start) → shapeOf (words s) ≡ tablesFit (words s) && sizes (words s)

@@ -2,23 +2,29 @@
 -- Assumes nothing.
 use borrow.Author.Needs.{needs}
 use mathlib.Core.Path.{_≡_}
-use mathlib.Core.Bool.{true}
-use Prim.Native.Nat.{_≤_, _-_}
+use mathlib.Core.Bool.{Bool, true}
+use Prim.Native.Nat.{ℕ, _≤_, _-_}
 use native.Mathlib.Omega.{arith}
-use Rattle.shape_chains.proofs.Laws.{every-none, every-next, every-done, every-fails}
 use borrow.Author.Tests.{lt-ltb, le-ltb}
 use lib.Dec.{ltb}
+use Rattle.base_lists.specs.Lists.{every}
+use Rattle.shape_chains.proofs.Laws.{every-none, every-next, every-done, every-fails}
 use Rattle.table.specs.Lists.{candidateAt}
-use Rattle.shape_txn.specs.Fits.{candidatesIn}
 use Rattle.shape_txn.proofs.candidates_in.Statement.{statement}
 use Rattle.shape_txn.proofs.candidates_in.Tie as tie
 
 abbrev Inv-loop : tie.InvT-loop
-Inv-loop lists slot count row-count i₀ i =
-    (i ≤ count) × (candidatesIn lists slot i row-count ≡ true)
+Inv-loop lists t row-count i₀ i = (i ≤ t .«candidates_n») × (every i (λ j. ltb (candidateAt lists (t .slot) j) row-count) ≡ true)
 
 abbrev μ-loop : tie.MeasureT-loop
-μ-loop lists slot count row-count i₀ i = count - i
+μ-loop lists t row-count i₀ i = t .«candidates_n» - i
+
+-- the parameters, and the test of one entry
+abbrev entered : tie.At-loop Inv-loop μ-loop → tie.Start Inv-loop μ-loop
+entered c = c .before .before
+
+abbrev fits : tie.At-loop Inv-loop μ-loop → ℕ → Bool
+fits c j = let a = entered c .args in ltb (candidateAt (a .lists .now) (a .t .slot) j) (a .row-count)
 
 loop-holds : tie.Need-loop-holds Inv-loop μ-loop
 loop-holds c = (search needs, every-none _)
@@ -27,9 +33,10 @@ candidate-at-requires : tie.Need-candidate-at-requires Inv-loop μ-loop
 candidate-at-requires c κs = search needs
 
 returns : tie.Need-returns Inv-loop μ-loop
-returns c = let a = c .before .before .before .before .before .args in let l = c .before .before .before .loop in
-    every-fails (λ j. ltb (candidateAt (a .lists .now) (a .slot) j) (a .«row-count»)) (l .i) (a .count) (omega arith)
-    (rw (← c .before .candidate-at .ensures) (le-ltb _ _ (c .if1 .taken)))
+returns c =
+    let at = c .before .before .before .before in
+    every-fails (fits at) (at .loop .i) (entered at .args .t .«candidates_n») (omega arith)
+    (rw (← c .before .candidate-at .ensures) (le-ltb _ _ (c .if2 .taken)))
 
 add-i : tie.Need-add-i Inv-loop μ-loop
 add-i c = search needs
@@ -38,15 +45,14 @@ loop-less : tie.Need-loop-less Inv-loop μ-loop
 loop-less c = search needs
 
 loop-again : tie.Need-loop-again Inv-loop μ-loop
-loop-again c = let a = c .before .before .before .before .before .args in let l = c .before .before .before .loop in (
-  omega arith,
-  every-next (λ j. ltb (candidateAt (a .lists .now) (a .slot) j) (a .«row-count»)) (l .i) (l .inv .1)
-      (rw (← c .before .candidate-at .ensures) (lt-ltb _ _ (c .if1 .left))),
-)
+loop-again c =
+    let at = c .before .before .before .before in
+    (omega arith, every-next (fits at) (at .loop .i) (at .loop .inv .1) (rw (← c .before .candidate-at .ensures) (lt-ltb _ _ (c .if2 .left))))
 
 returns-2 : tie.Need-returns-2 Inv-loop μ-loop
-returns-2 c = let a = c .before .before .before .args in let l = c .before .loop in
-    every-done (λ j. ltb (candidateAt (a .lists .now) (a .slot) j) (a .«row-count»)) (l .i) (a .count) (omega arith) (omega arith) (l .inv .1)
+returns-2 c =
+    let at = c .before .before in
+    every-done (fits at) (at .loop .i) (entered at .args .t .«candidates_n») (omega arith) (omega arith) (at .loop .inv .1)
 
 pub candidates-in-spec : {M : Type 1} → statement M
 candidates-in-spec =

@@ -2,23 +2,29 @@
 -- Assumes nothing.
 use borrow.Author.Needs.{needs}
 use mathlib.Core.Path.{_≡_}
-use mathlib.Core.Bool.{true}
-use Prim.Native.Nat.{_≤_, _-_}
+use mathlib.Core.Bool.{Bool, true}
+use Prim.Native.Nat.{ℕ, _≤_, _-_}
 use native.Mathlib.Omega.{arith}
-use Rattle.shape_chains.proofs.Laws.{every-none, every-next, every-done, every-fails}
 use borrow.Author.Tests.{lt-ltb, le-ltb}
 use lib.Dec.{ltb}
+use Rattle.base_lists.specs.Lists.{every}
+use Rattle.shape_chains.proofs.Laws.{every-none, every-next, every-done, every-fails}
 use Rattle.table.specs.Lists.{writeAt}
-use Rattle.shape_txn.specs.Fits.{writesIn}
 use Rattle.shape_txn.proofs.writes_in.Statement.{statement}
 use Rattle.shape_txn.proofs.writes_in.Tie as tie
 
 abbrev Inv-loop : tie.InvT-loop
-Inv-loop lists slot count row-count i₀ i =
-    (i ≤ count) × (writesIn lists slot i row-count ≡ true)
+Inv-loop lists t row-count i₀ i = (i ≤ t .«writes_n») × (every i (λ j. ltb (writeAt lists (t .slot) j .row) row-count) ≡ true)
 
 abbrev μ-loop : tie.MeasureT-loop
-μ-loop lists slot count row-count i₀ i = count - i
+μ-loop lists t row-count i₀ i = t .«writes_n» - i
+
+-- the parameters, and the test of one entry
+abbrev entered : tie.At-loop Inv-loop μ-loop → tie.Start Inv-loop μ-loop
+entered c = c .before .before
+
+abbrev fits : tie.At-loop Inv-loop μ-loop → ℕ → Bool
+fits c j = let a = entered c .args in ltb (writeAt (a .lists .now) (a .t .slot) j .row) (a .row-count)
 
 loop-holds : tie.Need-loop-holds Inv-loop μ-loop
 loop-holds c = (search needs, every-none _)
@@ -27,9 +33,9 @@ write-row-at-requires : tie.Need-write-row-at-requires Inv-loop μ-loop
 write-row-at-requires c κs = search needs
 
 returns : tie.Need-returns Inv-loop μ-loop
-returns c = let a = c .before .before .before .before .before .args in let l = c .before .before .before .loop in
-    every-fails (λ j. ltb (writeAt (a .lists .now) (a .slot) j .row) (a .«row-count»)) (l .i) (a .count) (omega arith)
-    (rw (← c .before .write-row-at .ensures) (le-ltb _ _ (c .if1 .taken)))
+returns c =
+    let at = c .before .before .before .before in
+    every-fails (fits at) (at .loop .i) (entered at .args .t .«writes_n») (omega arith) (rw (← c .before .write-row-at .ensures) (le-ltb _ _ (c .if2 .taken)))
 
 add-i : tie.Need-add-i Inv-loop μ-loop
 add-i c = search needs
@@ -38,15 +44,14 @@ loop-less : tie.Need-loop-less Inv-loop μ-loop
 loop-less c = search needs
 
 loop-again : tie.Need-loop-again Inv-loop μ-loop
-loop-again c = let a = c .before .before .before .before .before .args in let l = c .before .before .before .loop in (
-  omega arith,
-  every-next (λ j. ltb (writeAt (a .lists .now) (a .slot) j .row) (a .«row-count»)) (l .i) (l .inv .1)
-      (rw (← c .before .write-row-at .ensures) (lt-ltb _ _ (c .if1 .left))),
-)
+loop-again c =
+    let at = c .before .before .before .before in
+    (omega arith, every-next (fits at) (at .loop .i) (at .loop .inv .1) (rw (← c .before .write-row-at .ensures) (lt-ltb _ _ (c .if2 .left))))
 
 returns-2 : tie.Need-returns-2 Inv-loop μ-loop
-returns-2 c = let a = c .before .before .before .args in let l = c .before .loop in
-    every-done (λ j. ltb (writeAt (a .lists .now) (a .slot) j .row) (a .«row-count»)) (l .i) (a .count) (omega arith) (omega arith) (l .inv .1)
+returns-2 c =
+    let at = c .before .before in
+    every-done (fits at) (at .loop .i) (entered at .args .t .«writes_n») (omega arith) (omega arith) (at .loop .inv .1)
 
 pub writes-in-spec : {M : Type 1} → statement M
 writes-in-spec =
