@@ -24,6 +24,7 @@ use Rattle.report_lines.proofs.Reported.{shown, shown-long}
 use Rattle.report.specs.Lines.{badLine, openLine}
 use Rattle.replay.specs.declared.stop.Stopped.{Stopped}
 use Rattle.replay.specs.Stops.{Left, malformedAt, unopenedAt}
+use Rattle.replay.specs.declared.Opened.{Opened}
 use Rattle.replay.specs.Replay.{leftBy, Leaves, openedFrom}
 use Rattle.replay.proofs.Turning.{onward, replay-ends, replay-reads, replay-grows, goes-on, goes-full}
 use Rattle.replay.proofs.Lining.{roomIn, On, line-on, line-off, last-line}
@@ -91,7 +92,11 @@ module _ (log report : List ℕ) where
           pub opened-fits : end ≤ roomIn (line .report)
           opened-fits = rw (kept, on .end) fits
 
-          from-open : openedFrom log (line .report) z clock (d .next) end ≡ replay log (length report)
+          -- where the replay stands then
+          abbrev begins : Opened
+          begins = record { sizes = z; clock = clock; at = d .next; wrote = end }
+
+          from-open : openedFrom log (line .report) begins ≡ replay log (length report)
           from-open = rw (kept, on .report, on .end, take-append-seam (openLine 0) (drop (length (openLine 0)) report)) (sym replayed)
 
           -- bytes behind the text are those behind the open's line
@@ -101,6 +106,6 @@ module _ (log report : List ℕ) where
               rw replayed (replay-grows (roomIn report) (drop (d .next) log) (some (fresh (sizesView z) clock)) (openLine 0)) in
               rw (on .report, drop-shown (openLine 0) report (length (replay log (length report) .text)) n)
 
-          pub left-on : (r : Stopped) (after : List ℕ) → Leaves r after (openedFrom log (line .report) z clock (d .next) end) (line .report)
+          pub left-on : (r : Stopped) (after : List ℕ) → Leaves r after (openedFrom log (line .report) begins) (line .report)
               → Leaves r after (replay log (length report)) report
           left-on r after l = (l .0 ∙ ap (λ (m : Replayed). leftBy m (line .report)) from-open ∙ same-rest, l .1, l .2)

@@ -20,6 +20,7 @@ use Rattle.txn.specs.declared.Transaction.{Transaction}
 use Rattle.txn_places.specs.Places.{freePlaces}
 use Rattle.step.specs.Words.{Words}
 use Rattle.step_bridge.proofs.Opening.{Opened, opened-view, opened-stands}
+use Rattle.replay.specs.declared.Opened.{Opened as Replaying}
 use Rattle.replay.specs.Replay.{Zeroed, openedFrom}
 use Rattle.replay.proofs.Lining.{roomIn}
 use Rattle.replay.proofs.Going.{Going}
@@ -85,19 +86,19 @@ pub found-room : (found : List ℕ) {found₀ : List ℕ} → found₀ ≡ repli
 found-room found e l = rw (l, e, length-replicate) (omega arith)
 
 -- where the loop begins: behind the open, with its line in the report
-pub starts : (log report rows versions buckets lists found : List ℕ) (z : Sizes) (clock start wrote : ℕ) → Zeroed rows versions buckets lists found
-    → canOpen (sizesView z) clock ≡ true
-    → clock ≤ lastNumber → wrote ≤ roomIn report
-    → Going log report (openedFrom log report z clock start wrote) start wrote report (wordsOf rows versions buckets lists found freePlaces z clock 0)
-starts log report rows versions buckets lists found z clock start wrote h e l fits =
-    let w = wordsOf rows versions buckets lists found freePlaces z clock 0 in
-    let o = opened rows versions buckets lists found z clock h e l in
-    let n : length (take wrote report) ≡ wrote = length-take-le wrote report (omega (arith, fits)) in
+pub starts : (log report rows versions buckets lists found : List ℕ) (o : Replaying) → Zeroed rows versions buckets lists found
+    → canOpen (sizesView (o .sizes)) (o .clock) ≡ true
+    → o .clock ≤ lastNumber → o .wrote ≤ roomIn report
+    → Going log report (openedFrom log report o) (o .at) (o .wrote) report (wordsOf rows versions buckets lists found freePlaces (o .sizes) (o .clock) 0)
+starts log report rows versions buckets lists found o h e l fits =
+    let w = wordsOf rows versions buckets lists found freePlaces (o .sizes) (o .clock) 0 in
+    let z = opened rows versions buckets lists found (o .sizes) (o .clock) h e l in
+    let n : length (take (o .wrote) report) ≡ o .wrote = length-take-le (o .wrote) report (omega (arith, fits)) in
     record {
-      stands = opened-stands w o;
-      text = take wrote report;
+      stands = opened-stands w z;
+      text = take (o .wrote) report;
       long = sym n;
-      laid = rw n (sym (take-append-drop wrote report));
+      laid = rw n (sym (take-append-drop (o .wrote) report));
       fits = rw n fits;
-      rest = rw (opened-view w o);
+      rest = rw (opened-view w z);
     }

@@ -7,10 +7,10 @@ use lib.ListN.{length, take, drop, replicate}
 use Rattle.base_limits.specs.Limits.{mostRows, mostVersions, mostBuckets}
 use Rattle.model.specs.Store.{fresh}
 use Rattle.model.specs.Replay.{Replayed, reported, replayFrom, mostRoom}
-use Rattle.base_protocol.specs.declared.Sizes.{Sizes}
 use Rattle.base_protocol.specs.View.{sizesView}
 use Rattle.table.specs.Fields.{rowWords, versionWords, bucketWords}
 use Rattle.table.specs.Lists.{listsWords}
+use Rattle.replay.specs.declared.Opened.{Opened}
 use Rattle.replay.specs.declared.stop.Stopped.{Stopped}
 use Rattle.replay.specs.Stops.{Left}
 
@@ -31,7 +31,7 @@ Zeroed rows versions buckets lists found =
     × (lists ≡ replicate listsWords 0)
     × (found ≡ replicate mostRows 0)
 
--- the model's replay of the records from a place on, in a store that was opened, where the report has so many bytes already
-abbrev pub openedFrom : List ℕ → List ℕ → Sizes → ℕ → ℕ → ℕ → Replayed
-openedFrom log report sizes clock at wrote =
-    replayFrom (min (length report) mostRoom) (drop at log) (some (fresh (sizesView sizes) clock)) (take wrote report)
+-- the model's replay behind its open
+abbrev pub openedFrom : List ℕ → List ℕ → Opened → Replayed
+openedFrom log report o =
+    replayFrom (min (length report) mostRoom) (drop (o .at) log) (some (fresh (sizesView (o .sizes)) (o .clock))) (take (o .wrote) report)

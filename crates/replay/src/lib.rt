@@ -41,7 +41,15 @@ mod stop; // stop.rt: how a replay stops
 // The status stands above this, the bytes written below it.
 const HALF: u64 = 4294967296;
 
-// The records after the open, from `start` on, each with its line; the report has `opened` bytes already.
+// A replay behind its open: the sizes and the clock that it was opened with, where its next record stands, the bytes of its report so far.
+struct Opened {
+    sizes: Sizes,
+    clock: u64,
+    at: usize,
+    wrote: usize,
+}
+
+// The records after the open, each with its line.
 fn replay_steps(
     log: &[u8],
     report: &mut [u8],
@@ -50,26 +58,22 @@ fn replay_steps(
     buckets: &mut [u64],
     lists: &mut [u64],
     found: &mut [u64],
-    sizes: Sizes,
-    first_clock: u64,
-    start: usize,
-    opened: usize,
+    opened: Opened,
 ) -> Stopped
     requires { ⌜ Zeroed (now rows) (now versions) (now buckets) (now lists) (now found)
-        × (canOpen (sizesView sizes) «first_clock» ≡ true)
-        × (opened ≤ min (length (now report)) mostRoom) ⌝ }
-    ensures { λ r. ⌜ Leaves r (now (report .exit))
-        (openedFrom (now (log .entry)) (now (report .entry)) sizes «first_clock» start opened)
-        (now (report .entry)) ⌝ }
+        × (canOpen (sizesView (opened .sizes)) (opened .clock) ≡ true)
+        × (opened .wrote ≤ min (length (now report)) mostRoom) ⌝ }
+    ensures { λ r. ⌜ Leaves r (now (report .exit)) (openedFrom (now (log .entry)) (now (report .entry)) opened) (now (report .entry)) ⌝ }
 {
+    let sizes = opened.sizes;
     let mut txns = free_places();
     let mut numbers = [0u64; MOST_LIVE];
     let mut active = [0u64; MOST_LIVE];
     let mut prepared = [0u32; MOST_LIVE];
-    let mut clock = first_clock;
+    let mut clock = opened.clock;
     let mut used: u64 = 0;
-    let mut wrote = opened;
-    let mut at = start;
+    let mut wrote = opened.wrote;
+    let mut at = opened.at;
     while at < log.len() {
         let d = decode_at(log, at);
         let command = d.command;
@@ -155,19 +159,13 @@ fn replay_open(
             wrote: 0,
         };
     };
-    replay_steps(
-        log,
-        report,
-        rows,
-        versions,
-        buckets,
-        lists,
-        found,
-        sizes,
-        clock,
-        next,
-        end,
-    )
+    let opened = Opened {
+        sizes: sizes,
+        clock: clock,
+        at: next,
+        wrote: end,
+    };
+    replay_steps(log, report, rows, versions, buckets, lists, found, opened)
 }
 
 // Replays a log into a report, over tables of the greatest size: status × 4,294,967,296 + bytes written.

@@ -128,7 +128,9 @@ module _ (c : tie.After-open-line) where
     fits : end ≤ roomIn lent
     fits = opened-fits (log read) (report read) (some-bytes read) (read .decode-at .ensures) (opens asked) can (c .open-line .ensures) q
 
-    on : (r : Stopped) (after : List ℕ) → Leaves r after (openedFrom (log read) lent (sizes asked) (clock asked) (read .decode-at .result .next) end) lent
+    on : (r : Stopped) (after : List ℕ)
+        → Leaves r after (openedFrom (log read) lent (record { sizes = sizes asked; clock = clock asked; at = read .decode-at .result .next; wrote = end }))
+        lent
         → Leaves r after (replay (log read) (length (report read))) (report read)
     on r after l =
         left-on (log read) (report read) (some-bytes read) (read .decode-at .ensures) (opens asked) can (c .open-line .ensures) q r after l

@@ -21,7 +21,7 @@ use Rattle.replay.proofs.replay_steps.Statement.{statement}
 use Rattle.replay.proofs.replay_steps.Tie as tie
 
 abbrev Inv-loop : tie.InvT-loop
-Inv-loop log report₀ rows₀ versions₀ buckets₀ lists₀ found₀ sizes first-clock start opened txns₀ numbers₀ active₀ prepared₀ clock₀ used₀ wrote₀ at₀
+Inv-loop log report₀ rows₀ versions₀ buckets₀ lists₀ found₀ sizes txns₀ numbers₀ active₀ prepared₀ clock₀ used₀ wrote₀ at₀
     report rows versions buckets lists found txns numbers active prepared clock used wrote at =
     (length report ≡ length report₀)
     × (length rows ≡ length rows₀)
@@ -31,16 +31,16 @@ Inv-loop log report₀ rows₀ versions₀ buckets₀ lists₀ found₀ sizes fi
     × (length found ≡ length found₀)
     × (length txns ≡ 8)
     × (othersOf numbers active prepared ≡ othersIn txns)
-    × Going log report₀ (openedFrom log report₀ sizes first-clock start opened) at wrote report
+    × Going log report₀ (openedFrom log report₀ (record { sizes = sizes; clock = clock₀; at = at₀; wrote = wrote₀ })) at wrote report
     (wordsOf rows versions buckets lists found txns sizes clock used)
 
 abbrev μ-loop : tie.MeasureT-loop
-μ-loop log report₀ rows₀ versions₀ buckets₀ lists₀ found₀ sizes first-clock start opened txns₀ numbers₀ active₀ prepared₀ clock₀ used₀ wrote₀ at₀
+μ-loop log report₀ rows₀ versions₀ buckets₀ lists₀ found₀ sizes txns₀ numbers₀ active₀ prepared₀ clock₀ used₀ wrote₀ at₀
     report rows versions buckets lists found txns numbers active prepared clock used wrote at = length log - at
 
 -- ---- before the loop
 abbrev start : tie.After-free-places Inv-loop μ-loop → tie.Start Inv-loop μ-loop
-start c = let lent = c .before .before .before in let first = lent .before .before .before in first .before .before
+start c = let lent = c .before .before .before .before in let first = lent .before .before .before in first .before .before
 
 free-places-requires : tie.Need-free-places-requires Inv-loop μ-loop
 free-places-requires c κs = tt
@@ -58,8 +58,8 @@ loop-holds c =
       refl,
       refl,
       refl,
-      starts (a .log .now) (a .report .now) (a .rows .now) (a .versions .now) (a .buckets .now) (a .lists .now) (a .found .now) (a .sizes) (a .first-clock)
-          (a .start) (a .opened) (s .pre .0) (s .pre .1) (omega (arith, s .fits .first-clock)) (s .pre .2),
+      starts (a .log .now) (a .report .now) (a .rows .now) (a .versions .now) (a .buckets .now) (a .lists .now) (a .found .now) (a .opened)
+          (s .pre .0) (s .pre .1) (omega arith) (s .pre .2),
     )
 
 -- ---- a turn: the words that it begins with
@@ -70,7 +70,7 @@ module _ (c : tie.In-loop Inv-loop μ-loop) where
   abbrev words : Words
   words =
       let l = c .before .loop in
-      wordsOf (l .rows) (l .versions) (l .buckets) (l .lists) (l .found) (l .txns) (begun .args .sizes) (l .clock) (l .used)
+      wordsOf (l .rows) (l .versions) (l .buckets) (l .lists) (l .found) (l .txns) (begun .args .opened .sizes) (l .clock) (l .used)
 
   room : mostRows ≤ length (words .tables .found)
   room = found-room (words .tables .found) (begun .pre .0 .4) (c .before .loop .inv .5)
@@ -211,7 +211,7 @@ module _ (c : tie.After-answer-line Inv-loop μ-loop) where
   abbrev whole : Replayed
   whole =
       let a = begun turned .args in
-      openedFrom (a .log .now) (a .report .now) (a .sizes) (a .first-clock) (a .start) (a .opened)
+      openedFrom (a .log .now) (a .report .now) (a .opened)
 
   -- the lengths stay
   report-kept : length (c .answer-line .last .0) ≡ length (begun turned .args .report .now)
