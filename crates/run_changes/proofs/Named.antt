@@ -22,50 +22,51 @@ field-seen ws w f i h l = let below : i < length ws = omega (arith, mul-le-mul-r
     rw (lt-ltb i (length ws) below, lt-ltb (w * i + f) (length ws) l)
 
 module _ (s : State) (i b : ℕ) where
-  pub head-named : rowWords * i + 0 < length (s .rows) → lookOf s (named "head") i b ≡ Word (headOf (s .rows) i)
+  pub head-named : rowWords * i + 0 < length (s .rows) → lookOf s (record { name = named "head"; a = i; b = b }) ≡ Word (headOf (s .rows) i)
   unfolding names nameFrom wordSeen
   head-named h = field-seen (s .rows) rowWords 0 i (omega arith) h
 
-  pub claim-named : rowWords * i + 1 < length (s .rows) → lookOf s (named "claim") i b ≡ Word (claimOf (s .rows) i)
+  pub claim-named : rowWords * i + 1 < length (s .rows) → lookOf s (record { name = named "claim"; a = i; b = b }) ≡ Word (claimOf (s .rows) i)
   unfolding names nameFrom wordSeen
   claim-named h = field-seen (s .rows) rowWords 1 i (omega arith) h
 
-  pub posted-named : rowWords * i + 2 < length (s .rows) → lookOf s (named "posted") i b ≡ Word (postedOf (s .rows) i)
+  pub posted-named : rowWords * i + 2 < length (s .rows) → lookOf s (record { name = named "posted"; a = i; b = b }) ≡ Word (postedOf (s .rows) i)
   unfolding names nameFrom wordSeen
   posted-named h = field-seen (s .rows) rowWords 2 i (omega arith) h
 
-  pub postkey-named : rowWords * i + 3 < length (s .rows) → lookOf s (named "postkey") i b ≡ Word (postedKeyOf (s .rows) i)
+  pub postkey-named : rowWords * i + 3 < length (s .rows) → lookOf s (record { name = named "postkey"; a = i; b = b }) ≡ Word (postedKeyOf (s .rows) i)
   unfolding names nameFrom wordSeen
   postkey-named h = field-seen (s .rows) rowWords 3 i (omega arith) h
 
-  pub xmin-named : versionWords * i + 0 < length (s .versions) → lookOf s (named "xmin") i b ≡ Word (xminOf (s .versions) i)
+  pub xmin-named : versionWords * i + 0 < length (s .versions) → lookOf s (record { name = named "xmin"; a = i; b = b }) ≡ Word (xminOf (s .versions) i)
   unfolding names nameFrom wordSeen
   xmin-named h = field-seen (s .versions) versionWords 0 i (omega arith) h
 
-  pub xmax-named : versionWords * i + 1 < length (s .versions) → lookOf s (named "xmax") i b ≡ Word (xmaxOf (s .versions) i)
+  pub xmax-named : versionWords * i + 1 < length (s .versions) → lookOf s (record { name = named "xmax"; a = i; b = b }) ≡ Word (xmaxOf (s .versions) i)
   unfolding names nameFrom wordSeen
   xmax-named h = field-seen (s .versions) versionWords 1 i (omega arith) h
 
-  pub next-named : versionWords * i + 2 < length (s .versions) → lookOf s (named "next") i b ≡ Word (nextOf (s .versions) i)
+  pub next-named : versionWords * i + 2 < length (s .versions) → lookOf s (record { name = named "next"; a = i; b = b }) ≡ Word (nextOf (s .versions) i)
   unfolding names nameFrom wordSeen
   next-named h = field-seen (s .versions) versionWords 2 i (omega arith) h
 
-  pub keyed-named : versionWords * i + 3 < length (s .versions) → lookOf s (named "keyed") i b ≡ Word (keyedOf (s .versions) i)
+  pub keyed-named : versionWords * i + 3 < length (s .versions) → lookOf s (record { name = named "keyed"; a = i; b = b }) ≡ Word (keyedOf (s .versions) i)
   unfolding names nameFrom wordSeen
   keyed-named h = field-seen (s .versions) versionWords 3 i (omega arith) h
 
-  pub key-named : versionWords * i + 4 < length (s .versions) → lookOf s (named "key") i b ≡ Word (keyOf (s .versions) i)
+  pub key-named : versionWords * i + 4 < length (s .versions) → lookOf s (record { name = named "key"; a = i; b = b }) ≡ Word (keyOf (s .versions) i)
   unfolding names nameFrom wordSeen
   key-named h = field-seen (s .versions) versionWords 4 i (omega arith) h
 
-  pub payload-named : versionWords * i + 5 < length (s .versions) → lookOf s (named "payload") i b ≡ Word (payloadOf (s .versions) i)
+  pub payload-named : versionWords * i + 5 < length (s .versions)
+      → lookOf s (record { name = named "payload"; a = i; b = b }) ≡ Word (payloadOf (s .versions) i)
   unfolding names nameFrom wordSeen
   payload-named h = field-seen (s .versions) versionWords 5 i (omega arith) h
 
-  pub stamp-named : bucketWords * i + 0 < length (s .buckets) → lookOf s (named "stamp") i b ≡ Word (stampOf (s .buckets) i)
+  pub stamp-named : bucketWords * i + 0 < length (s .buckets) → lookOf s (record { name = named "stamp"; a = i; b = b }) ≡ Word (stampOf (s .buckets) i)
   unfolding names nameFrom wordSeen
   stamp-named h = field-seen (s .buckets) bucketWords 0 i (omega arith) h
 
-  pub holder-named : bucketWords * i + 1 < length (s .buckets) → lookOf s (named "holder") i b ≡ Word (holderOf (s .buckets) i)
+  pub holder-named : bucketWords * i + 1 < length (s .buckets) → lookOf s (record { name = named "holder"; a = i; b = b }) ≡ Word (holderOf (s .buckets) i)
   unfolding names nameFrom wordSeen
   holder-named h = field-seen (s .buckets) bucketWords 1 i (omega arith) h

@@ -32,122 +32,124 @@ entry-seen ws k f place i p r h l =
 
 module _ (s : State) (place i : ℕ) (live : place < mostLive) where
   pub ibucket-named : i < reads .room → placeOf reads place i + 0 < length (s .lists)
-      → lookOf s (named "ibucket") place i ≡ Word (readAt (s .lists) place i .bucket)
+      → lookOf s (record { name = named "ibucket"; a = place; b = i }) ≡ Word (readAt (s .lists) place i .bucket)
   unfolding names nameFrom wordSeen listsPlace
   ibucket-named r l = entry-seen (s .lists) reads 0 place i live r (omega arith) l
 
   pub istamp-named : i < reads .room → placeOf reads place i + 1 < length (s .lists)
-      → lookOf s (named "istamp") place i ≡ Word (readAt (s .lists) place i .stamp)
+      → lookOf s (record { name = named "istamp"; a = place; b = i }) ≡ Word (readAt (s .lists) place i .stamp)
   unfolding names nameFrom wordSeen listsPlace
   istamp-named r l = entry-seen (s .lists) reads 1 place i live r (omega arith) l
 
-  pub wrow-named : i < writes .room → placeOf writes place i + 0 < length (s .lists) → lookOf s (named "wrow") place i ≡ Word (writeAt (s .lists) place i .row)
+  pub wrow-named : i < writes .room → placeOf writes place i + 0 < length (s .lists)
+      → lookOf s (record { name = named "wrow"; a = place; b = i }) ≡ Word (writeAt (s .lists) place i .row)
   unfolding names nameFrom wordSeen listsPlace
   wrow-named r l = entry-seen (s .lists) writes 0 place i live r (omega arith) l
 
   pub wkeyed-named : i < writes .room → placeOf writes place i + 1 < length (s .lists)
-      → lookOf s (named "wkeyed") place i ≡ Word (writeAt (s .lists) place i .keyed)
+      → lookOf s (record { name = named "wkeyed"; a = place; b = i }) ≡ Word (writeAt (s .lists) place i .keyed)
   unfolding names nameFrom wordSeen listsPlace
   wkeyed-named r l = entry-seen (s .lists) writes 1 place i live r (omega arith) l
 
-  pub wkey-named : i < writes .room → placeOf writes place i + 2 < length (s .lists) → lookOf s (named "wkey") place i ≡ Word (writeAt (s .lists) place i .key)
+  pub wkey-named : i < writes .room → placeOf writes place i + 2 < length (s .lists)
+      → lookOf s (record { name = named "wkey"; a = place; b = i }) ≡ Word (writeAt (s .lists) place i .key)
   unfolding names nameFrom wordSeen listsPlace
   wkey-named r l = entry-seen (s .lists) writes 2 place i live r (omega arith) l
 
   pub wpayload-named : i < writes .room → placeOf writes place i + 3 < length (s .lists)
-      → lookOf s (named "wpayload") place i ≡ Word (writeAt (s .lists) place i .payload)
+      → lookOf s (record { name = named "wpayload"; a = place; b = i }) ≡ Word (writeAt (s .lists) place i .payload)
   unfolding names nameFrom wordSeen listsPlace
   wpayload-named r l = entry-seen (s .lists) writes 3 place i live r (omega arith) l
 
   pub rrow-named : i < records .room → placeOf records place i + 0 < length (s .lists)
-      → lookOf s (named "rrow") place i ≡ Word (recordAt (s .lists) place i .row)
+      → lookOf s (record { name = named "rrow"; a = place; b = i }) ≡ Word (recordAt (s .lists) place i .row)
   unfolding names nameFrom wordSeen listsPlace
   rrow-named r l = entry-seen (s .lists) records 0 place i live r (omega arith) l
 
   pub rpointer-named : i < records .room → placeOf records place i + 1 < length (s .lists)
-      → lookOf s (named "rpointer") place i ≡ Word (recordAt (s .lists) place i .ptr)
+      → lookOf s (record { name = named "rpointer"; a = place; b = i }) ≡ Word (recordAt (s .lists) place i .ptr)
   unfolding names nameFrom wordSeen listsPlace
   rpointer-named r l = entry-seen (s .lists) records 1 place i live r (omega arith) l
 
   pub rxmin-named : i < records .room → placeOf records place i + 2 < length (s .lists)
-      → lookOf s (named "rxmin") place i ≡ Word (recordAt (s .lists) place i .xmin)
+      → lookOf s (record { name = named "rxmin"; a = place; b = i }) ≡ Word (recordAt (s .lists) place i .xmin)
   unfolding names nameFrom wordSeen listsPlace
   rxmin-named r l = entry-seen (s .lists) records 2 place i live r (omega arith) l
 
   pub crow-named : i < candidates .room → placeOf candidates place i + 0 < length (s .lists)
-      → lookOf s (named "crow") place i ≡ Word (candidateAt (s .lists) place i)
+      → lookOf s (record { name = named "crow"; a = place; b = i }) ≡ Word (candidateAt (s .lists) place i)
   unfolding names nameFrom wordSeen listsPlace
   crow-named r l = entry-seen (s .lists) candidates 0 place i live r (omega arith) l
 
-  pub number-named : lookOf s (named "number") place i ≡ Word (recordIn s place .number)
+  pub number-named : lookOf s (record { name = named "number"; a = place; b = i }) ≡ Word (recordIn s place .number)
   unfolding names nameFrom wordSeen machineSeen recordWords
   number-named = rw (lt-ltb place mostLive live)
 
-  pub snapxmin-named : lookOf s (named "snapxmin") place i ≡ Word (recordIn s place .snapshot .xmin)
+  pub snapxmin-named : lookOf s (record { name = named "snapxmin"; a = place; b = i }) ≡ Word (recordIn s place .snapshot .xmin)
   unfolding names nameFrom wordSeen machineSeen recordWords
   snapxmin-named = rw (lt-ltb place mostLive live)
 
-  pub snapxmax-named : lookOf s (named "snapxmax") place i ≡ Word (recordIn s place .snapshot .xmax)
+  pub snapxmax-named : lookOf s (record { name = named "snapxmax"; a = place; b = i }) ≡ Word (recordIn s place .snapshot .xmax)
   unfolding names nameFrom wordSeen machineSeen recordWords
   snapxmax-named = rw (lt-ltb place mostLive live)
 
-  pub acount-named : lookOf s (named "acount") place i ≡ Word (recordIn s place .snapshot .«active_n»)
+  pub acount-named : lookOf s (record { name = named "acount"; a = place; b = i }) ≡ Word (recordIn s place .snapshot .«active_n»)
   unfolding names nameFrom wordSeen machineSeen recordWords
   acount-named = rw (lt-ltb place mostLive live)
 
-  pub mark-named : lookOf s (named "mark") place i ≡ Word (markWord (recordIn s place .marked))
+  pub mark-named : lookOf s (record { name = named "mark"; a = place; b = i }) ≡ Word (markWord (recordIn s place .marked))
   unfolding names nameFrom wordSeen machineSeen recordWords
   mark-named = rw (lt-ltb place mostLive live)
 
-  pub phase-named : lookOf s (named "phase") place i ≡ Word (rank (phaseView (recordIn s place .phase)))
+  pub phase-named : lookOf s (record { name = named "phase"; a = place; b = i }) ≡ Word (rank (phaseView (recordIn s place .phase)))
   unfolding names nameFrom wordSeen machineSeen recordWords
   phase-named = rw (lt-ltb place mostLive live)
 
-  pub held-named : lookOf s (named "held") place i ≡ Word (bucketIn (phaseView (recordIn s place .phase)))
+  pub held-named : lookOf s (record { name = named "held"; a = place; b = i }) ≡ Word (bucketIn (phaseView (recordIn s place .phase)))
   unfolding names nameFrom wordSeen machineSeen recordWords
   held-named = rw (lt-ltb place mostLive live)
 
-  pub sought-named : lookOf s (named "sought") place i ≡ Word (keyIn (phaseView (recordIn s place .phase)))
+  pub sought-named : lookOf s (record { name = named "sought"; a = place; b = i }) ≡ Word (keyIn (phaseView (recordIn s place .phase)))
   unfolding names nameFrom wordSeen machineSeen recordWords
   sought-named = rw (lt-ltb place mostLive live)
 
-  pub slot-named : lookOf s (named "slot") place i ≡ Word (recordIn s place .slot)
+  pub slot-named : lookOf s (record { name = named "slot"; a = place; b = i }) ≡ Word (recordIn s place .slot)
   unfolding names nameFrom wordSeen machineSeen recordWords
   slot-named = rw (lt-ltb place mostLive live)
 
-  pub icount-named : lookOf s (named "icount") place i ≡ Word (recordIn s place .«reads_n»)
+  pub icount-named : lookOf s (record { name = named "icount"; a = place; b = i }) ≡ Word (recordIn s place .«reads_n»)
   unfolding names nameFrom wordSeen machineSeen recordWords
   icount-named = rw (lt-ltb place mostLive live)
 
-  pub wcount-named : lookOf s (named "wcount") place i ≡ Word (recordIn s place .«writes_n»)
+  pub wcount-named : lookOf s (record { name = named "wcount"; a = place; b = i }) ≡ Word (recordIn s place .«writes_n»)
   unfolding names nameFrom wordSeen machineSeen recordWords
   wcount-named = rw (lt-ltb place mostLive live)
 
-  pub rcount-named : lookOf s (named "rcount") place i ≡ Word (recordIn s place .«records_n»)
+  pub rcount-named : lookOf s (record { name = named "rcount"; a = place; b = i }) ≡ Word (recordIn s place .«records_n»)
   unfolding names nameFrom wordSeen machineSeen recordWords
   rcount-named = rw (lt-ltb place mostLive live)
 
-  pub ccount-named : lookOf s (named "ccount") place i ≡ Word (recordIn s place .«candidates_n»)
+  pub ccount-named : lookOf s (record { name = named "ccount"; a = place; b = i }) ≡ Word (recordIn s place .«candidates_n»)
   unfolding names nameFrom wordSeen machineSeen recordWords
   ccount-named = rw (lt-ltb place mostLive live)
 
 module _ (s : State) (a b : ℕ) where
-  pub clock-named : lookOf s (named "clock") a b ≡ Word (s .machine .clock)
+  pub clock-named : lookOf s (record { name = named "clock"; a = a; b = b }) ≡ Word (s .machine .clock)
   unfolding names nameFrom wordSeen machineSeen ownWords
   clock-named = refl
 
-  pub used-named : lookOf s (named "used") a b ≡ Word (s .machine .used)
+  pub used-named : lookOf s (record { name = named "used"; a = a; b = b }) ≡ Word (s .machine .used)
   unfolding names nameFrom wordSeen machineSeen ownWords
   used-named = refl
 
-  pub rowcount-named : lookOf s (named "rowcount") a b ≡ Word (s .machine .sizes .rows)
+  pub rowcount-named : lookOf s (record { name = named "rowcount"; a = a; b = b }) ≡ Word (s .machine .sizes .rows)
   unfolding names nameFrom wordSeen machineSeen ownWords
   rowcount-named = refl
 
-  pub versions-named : lookOf s (named "versions") a b ≡ Word (s .machine .sizes .versions)
+  pub versions-named : lookOf s (record { name = named "versions"; a = a; b = b }) ≡ Word (s .machine .sizes .versions)
   unfolding names nameFrom wordSeen machineSeen ownWords
   versions-named = refl
 
-  pub buckets-named : lookOf s (named "buckets") a b ≡ Word (s .machine .sizes .buckets)
+  pub buckets-named : lookOf s (record { name = named "buckets"; a = a; b = b }) ≡ Word (s .machine .sizes .buckets)
   unfolding names nameFrom wordSeen machineSeen ownWords
   buckets-named = refl

@@ -8,10 +8,10 @@ use Rattle.base_limits.specs.Limits.{mostLive, mostActive, lastNumber}
 use Rattle.table.specs.Fields.{rowWords, versionWords, bucketWords}
 use Rattle.table.specs.Lists.{Kind, reads, writes, records, candidates, placeOf}
 use Rattle.txn.specs.Methods.{idleOf}
-use Rattle.txn.specs.declared.Transaction.{Transaction}
 use Rattle.shape.specs.declared.Machine.{Machine}
 use Rattle.run_changes.specs.WordNames.{wordNamed}
 use Rattle.run_changes.specs.RecordWords.{recordWords, recordOf, ownWords, ownOf}
+use Rattle.run_changes.specs.declared.WordName.{WordName}
 use Rattle.run_changes.specs.declared.Seen.{Seen}
 use Rattle.run_changes.specs.declared.Seen.the-variants.{Word, Missing}
 
@@ -68,9 +68,9 @@ wordSeen s k a b =
     (cond (ltb k 22) (seenAt (s .lists) (listsPlace (k - 12) a b))
     (machineSeen (s .machine) (k - 22) a b))))
 
--- the word of this name, of entry a, or of the record at place a and there of entry b
-abbrev pub lookOf : State → ℕ → ℕ → ℕ → Seen
-lookOf s name a b = wordSeen s (wordNamed name) a b
+-- the word of this name
+abbrev pub lookOf : State → WordName → Seen
+lookOf s w = wordSeen s (wordNamed (w .name)) (w .a) (w .b)
 
 -- ---- another word there
 
@@ -109,5 +109,5 @@ wordChanged s k a b x =
     (withMachine s (machineChanged (s .machine) (k - 22) a b x)))))
 
 -- the state with another word of this name
-abbrev pub changeOf : State → ℕ → ℕ → ℕ → ℕ → State
-changeOf s name a b x = wordChanged s (wordNamed name) a b x
+abbrev pub changeOf : State → WordName → ℕ → State
+changeOf s w x = wordChanged s (wordNamed (w .name)) (w .a) (w .b) x

@@ -27,12 +27,18 @@ use table::lists::WRITES_AT;
 use table::set_word;
 ghost use mathlib.Core.Path.{_≡_};
 ghost use Prim.Native.Nat.{_≤_};
-ghost use Rattle.base_limits.specs.Limits.{mostLive};
 ghost use Rattle.table.specs.Lists.{slotWords};
 ghost use Rattle.run_changes.specs.Changes.{entryPlace, listPlace, listsPlace, recordPlace, seenAt, machineSeen, lookOf, machineChanged, changeOf};
 
 mod names; // names.rt: the word that a name names
 mod records; // records.rt: a record as words, and back
+
+// Which word: its name's letters as a number, and the entry a, or the record at place a and there the entry b.
+pub struct WordName {
+    pub name: u64,
+    pub a: u64,
+    pub b: u64,
+}
 
 // A word that is looked at, or none.
 pub enum Seen {
@@ -148,41 +154,39 @@ fn machine_seen(m: Machine, k: usize, place: u64, i: u64) -> Seen
     seen_at(&words, record_place(k, i))
 }
 
-// The word of this name: of entry a, or of the record at place a and there of entry b; or one of the machine's own.
+// The word of this name, of a table, of a record or of the machine's own.
 pub fn look(
     rows: &[u64],
     versions: &[u64],
     buckets: &[u64],
     lists: &[u64],
     m: Machine,
-    name: u64,
-    a: u64,
-    b: u64,
+    word: WordName,
 ) -> Seen
     ensures { λ r. ⌜ r ≡ lookOf
         (record { rows = now (rows .entry); versions = now (versions .entry); buckets = now (buckets .entry); lists = now (lists .entry); machine = m })
-        name a b ⌝ }
+        word ⌝ }
 {
-    let k = word_named(name);
+    let k = word_named(word.name);
     if k < VERSION_NAMES {
-        return seen_at(rows, entry_place(rows.len(), ROW_WORDS, k, a));
+        return seen_at(rows, entry_place(rows.len(), ROW_WORDS, k, word.a));
     }
     if k < BUCKET_NAMES {
         return seen_at(
             versions,
-            entry_place(versions.len(), VERSION_WORDS, k - VERSION_NAMES, a),
+            entry_place(versions.len(), VERSION_WORDS, k - VERSION_NAMES, word.a),
         );
     }
     if k < LIST_NAMES {
         return seen_at(
             buckets,
-            entry_place(buckets.len(), BUCKET_WORDS, k - BUCKET_NAMES, a),
+            entry_place(buckets.len(), BUCKET_WORDS, k - BUCKET_NAMES, word.a),
         );
     }
     if k < RECORD_NAMES {
-        return seen_at(lists, lists_place(k - LIST_NAMES, a, b));
+        return seen_at(lists, lists_place(k - LIST_NAMES, word.a, word.b));
     }
-    machine_seen(m, k - RECORD_NAMES, a, b)
+    machine_seen(m, k - RECORD_NAMES, word.a, word.b)
 }
 
 // ---- another word there
@@ -215,9 +219,7 @@ pub fn change(
     buckets: &mut [u64],
     lists: &mut [u64],
     m: Machine,
-    name: u64,
-    a: u64,
-    b: u64,
+    word: WordName,
     value: u64,
 ) -> Machine
     ensures { λ r. ⌜ record { rows = now (rows .exit); versions = now (versions .exit); buckets = now (buckets .exit); lists = now (lists .exit); machine = r }
@@ -225,30 +227,29 @@ pub fn change(
           rows = now (rows .entry);
           versions = now (versions .entry);
           buckets = now (buckets .entry);
-          lists =
-              now (lists .entry);
+          lists = now (lists .entry);
           machine = m;
-        }) name a b value ⌝ }
+        }) word value ⌝ }
 {
-    let k = word_named(name);
+    let k = word_named(word.name);
     if k < VERSION_NAMES {
-        let at = entry_place(rows.len(), ROW_WORDS, k, a);
+        let at = entry_place(rows.len(), ROW_WORDS, k, word.a);
         set_word(rows, at, value);
         return m;
     }
     if k < BUCKET_NAMES {
-        let at = entry_place(versions.len(), VERSION_WORDS, k - VERSION_NAMES, a);
+        let at = entry_place(versions.len(), VERSION_WORDS, k - VERSION_NAMES, word.a);
         set_word(versions, at, value);
         return m;
     }
     if k < LIST_NAMES {
-        let at = entry_place(buckets.len(), BUCKET_WORDS, k - BUCKET_NAMES, a);
+        let at = entry_place(buckets.len(), BUCKET_WORDS, k - BUCKET_NAMES, word.a);
         set_word(buckets, at, value);
         return m;
     }
     if k < RECORD_NAMES {
-        set_word(lists, lists_place(k - LIST_NAMES, a, b), value);
+        set_word(lists, lists_place(k - LIST_NAMES, word.a, word.b), value);
         return m;
     }
-    machine_changed(m, k - RECORD_NAMES, a, b, value)
+    machine_changed(m, k - RECORD_NAMES, word.a, word.b, value)
 }

@@ -4,6 +4,7 @@
 use report_answers::Numbers;
 use report_answers::numbers_of;
 use run_changes::Seen;
+use run_changes::WordName;
 use run_changes::change;
 use run_changes::look;
 use run_script::ANSWER;
@@ -63,30 +64,16 @@ fn any_word(
     line: Line,
 ) -> Told {
     let n = line.numbers;
+    let word = WordName {
+        name: line.name,
+        a: n[0],
+        b: n[1],
+    };
     let mut machine = m;
     if line.sign == CHANGE {
-        machine = change(
-            rows,
-            versions,
-            buckets,
-            lists,
-            m,
-            line.name,
-            n[0],
-            n[1],
-            n[ANSWER],
-        );
+        machine = change(rows, versions, buckets, lists, m, word, n[ANSWER]);
     }
-    let seen = look(
-        rows,
-        versions,
-        buckets,
-        lists,
-        machine,
-        line.name,
-        n[0],
-        n[1],
-    );
+    let seen = look(rows, versions, buckets, lists, machine, word);
     let numbers = seen_numbers(seen);
     Told {
         numbers: numbers,
@@ -104,23 +91,10 @@ fn any_line(
     m: Machine,
     line: Line,
 ) -> Told {
-    let n = line.numbers;
     if line.sign != STEP {
         return any_word(rows, versions, buckets, lists, m, line);
     }
-    let called = any_step(
-        rows,
-        versions,
-        buckets,
-        lists,
-        found,
-        m,
-        line.name,
-        n[0],
-        n[1],
-        n[2],
-        n[3],
-    );
+    let called = any_step(rows, versions, buckets, lists, found, m, line);
     let answer = called.answer;
     let machine = called.machine;
     let numbers = numbers_of(answer);

@@ -1,4 +1,5 @@
 // A step by its name: a call of the public function that does it.
+use run_script::Line;
 use toruxeng::Answer;
 use toruxeng::BUCKET_WORDS;
 use toruxeng::Called;
@@ -69,20 +70,20 @@ fn finishing_step(
     buckets: &mut [u64; BUCKETS_LENT],
     lists: &mut [u64; LISTS_LENT],
     m: Machine,
-    name: u64,
-    a: u64,
+    line: Line,
 ) -> Called {
-    if name == INSTALL {
-        return install(rows, versions, buckets, lists, m, a);
+    let n = line.numbers;
+    if line.name == INSTALL {
+        return install(rows, versions, buckets, lists, m, n[0]);
     }
-    if name == END {
-        return end(rows, versions, buckets, lists, m, a);
+    if line.name == END {
+        return end(rows, versions, buckets, lists, m, n[0]);
     }
-    if name == PUBLISH {
-        return publish(rows, versions, buckets, lists, m, a);
+    if line.name == PUBLISH {
+        return publish(rows, versions, buckets, lists, m, n[0]);
     }
-    if name == ABORT {
-        return abort(rows, versions, buckets, lists, m, a);
+    if line.name == ABORT {
+        return abort(rows, versions, buckets, lists, m, n[0]);
     }
     Called {
         answer: Answer::Refused(NO_STEP),
@@ -97,25 +98,22 @@ fn writing_step(
     buckets: &mut [u64; BUCKETS_LENT],
     lists: &mut [u64; LISTS_LENT],
     m: Machine,
-    name: u64,
-    a: u64,
-    b: u64,
-    c: u64,
-    d: u64,
+    line: Line,
 ) -> Called {
-    if name == PUT {
-        return put(rows, versions, buckets, lists, m, a, b, c, d);
+    let n = line.numbers;
+    if line.name == PUT {
+        return put(rows, versions, buckets, lists, m, n[0], n[1], n[2], n[3]);
     }
-    if name == ERASE {
-        return erase(rows, versions, buckets, lists, m, a, b);
+    if line.name == ERASE {
+        return erase(rows, versions, buckets, lists, m, n[0], n[1]);
     }
-    if name == VALIDATE {
-        return validate(rows, versions, buckets, lists, m, a);
+    if line.name == VALIDATE {
+        return validate(rows, versions, buckets, lists, m, n[0]);
     }
-    if name == PREPARE {
-        return prepare(rows, versions, buckets, lists, m, a);
+    if line.name == PREPARE {
+        return prepare(rows, versions, buckets, lists, m, n[0]);
     }
-    finishing_step(rows, versions, buckets, lists, m, name, a)
+    finishing_step(rows, versions, buckets, lists, m, line)
 }
 
 // How much of the list is lent: the room that rows names, or all of it.
@@ -135,19 +133,11 @@ fn read_rows(
     lists: &mut [u64; LISTS_LENT],
     found: &mut [u64],
     m: Machine,
-    number: u64,
-    room: u64,
+    line: Line,
 ) -> Called {
-    let lent = room_of(room, found.len());
-    toruxeng::rows(
-        rows,
-        versions,
-        buckets,
-        lists,
-        &mut found[..lent],
-        m,
-        number,
-    )
+    let n = line.numbers;
+    let lent = room_of(n[1], found.len());
+    toruxeng::rows(rows, versions, buckets, lists, &mut found[..lent], m, n[0])
 }
 
 // How much of a table is lent: all but the words that are held back.
@@ -167,15 +157,13 @@ fn begun(
     buckets: &mut [u64],
     lists: &mut [u64],
     m: Machine,
-    rows_back: u64,
-    versions_back: u64,
-    buckets_back: u64,
-    lists_back: u64,
+    line: Line,
 ) -> Called {
-    let rows_lent = lent(rows.len(), rows_back);
-    let versions_lent = lent(versions.len(), versions_back);
-    let buckets_lent = lent(buckets.len(), buckets_back);
-    let lists_lent = lent(lists.len(), lists_back);
+    let n = line.numbers;
+    let rows_lent = lent(rows.len(), n[0]);
+    let versions_lent = lent(versions.len(), n[1]);
+    let buckets_lent = lent(buckets.len(), n[2]);
+    let lists_lent = lent(lists.len(), n[3]);
     begin(
         &mut rows[..rows_lent],
         &mut versions[..versions_lent],
@@ -193,23 +181,20 @@ pub fn any_step(
     lists: &mut [u64; LISTS_LENT],
     found: &mut [u64; MOST_FOUND],
     m: Machine,
-    name: u64,
-    a: u64,
-    b: u64,
-    c: u64,
-    d: u64,
+    line: Line,
 ) -> Called {
-    if name == BEGIN {
-        return begun(rows, versions, buckets, lists, m, a, b, c, d);
+    let n = line.numbers;
+    if line.name == BEGIN {
+        return begun(rows, versions, buckets, lists, m, line);
     }
-    if name == CAPTURE {
-        return capture(rows, versions, buckets, lists, m, a, b);
+    if line.name == CAPTURE {
+        return capture(rows, versions, buckets, lists, m, n[0], n[1]);
     }
-    if name == COLLECT {
-        return collect(rows, versions, buckets, lists, m, a);
+    if line.name == COLLECT {
+        return collect(rows, versions, buckets, lists, m, n[0]);
     }
-    if name == ROWS {
-        return read_rows(rows, versions, buckets, lists, found, m, a, b);
+    if line.name == ROWS {
+        return read_rows(rows, versions, buckets, lists, found, m, line);
     }
-    writing_step(rows, versions, buckets, lists, m, name, a, b, c, d)
+    writing_step(rows, versions, buckets, lists, m, line)
 }

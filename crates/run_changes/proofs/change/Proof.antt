@@ -20,12 +20,11 @@ same-length c = search needs
 
 returns : tie.Need-returns
 unfolding wordChanged
-returns c = rw (
-  ← c .before .before .before .before .before .before .word-named .ensures,
-  lt-ltb _ _ (c .before .before .before .before .before .if1 .taken),
-  c .before .before .set-word .ensures,
-  c .before .before .before .before .entry-place .ensures,
-)
+returns c =
+    let stored = c .before .before in
+    let placed = stored .before .before in
+    let arm = placed .before in
+    rw (← arm .before .word-named .ensures, lt-ltb _ _ (arm .if1 .taken), stored .set-word .ensures, placed .entry-place .ensures)
 
 entry-place-requires-2 : tie.Need-entry-place-requires-2
 entry-place-requires-2 c κs = search needs
@@ -38,13 +37,18 @@ same-length-2 c = search needs
 
 returns-2 : tie.Need-returns-2
 unfolding wordChanged
-returns-2 c = rw (
-  ← c .before .before .before .before .before .before .before .word-named .ensures,
-  le-ltb _ _ (c .before .before .before .before .before .before .if1 .left),
-  lt-ltb _ _ (c .before .before .before .before .before .if2 .taken),
-  c .before .before .set-word2 .ensures,
-  c .before .before .before .before .entry-place2 .ensures,
-)
+returns-2 c =
+    let stored = c .before .before in
+    let placed = stored .before .before in
+    let arm = placed .before in
+    let first = arm .before in
+    rw (
+      ← first .before .word-named .ensures,
+      le-ltb _ _ (first .if1 .left),
+      lt-ltb _ _ (arm .if2 .taken),
+      stored .set-word2 .ensures,
+      placed .entry-place2 .ensures,
+    )
 
 entry-place-requires-3 : tie.Need-entry-place-requires-3
 entry-place-requires-3 c κs = search needs
@@ -57,14 +61,20 @@ same-length-3 c = search needs
 
 returns-3 : tie.Need-returns-3
 unfolding wordChanged
-returns-3 c = rw (
-  ← c .before .before .before .before .before .before .before .before .word-named .ensures,
-  le-ltb _ _ (c .before .before .before .before .before .before .before .if1 .left),
-  le-ltb _ _ (c .before .before .before .before .before .before .if2 .left),
-  lt-ltb _ _ (c .before .before .before .before .before .if3 .taken),
-  c .before .before .set-word3 .ensures,
-  c .before .before .before .before .entry-place3 .ensures,
-)
+returns-3 c =
+    let stored = c .before .before in
+    let placed = stored .before .before in
+    let arm = placed .before in
+    let second = arm .before in
+    let first = second .before in
+    rw (
+      ← first .before .word-named .ensures,
+      le-ltb _ _ (first .if1 .left),
+      le-ltb _ _ (second .if2 .left),
+      lt-ltb _ _ (arm .if3 .taken),
+      stored .set-word3 .ensures,
+      placed .entry-place3 .ensures,
+    )
 
 lists-place-requires : tie.Need-lists-place-requires
 lists-place-requires c κs = tt
@@ -77,15 +87,21 @@ same-length-4 c = search needs
 
 returns-4 : tie.Need-returns-4
 unfolding wordChanged
-returns-4 c = rw (
-  ← c .before .before .before .before .before .before .before .before .before .word-named .ensures,
-  le-ltb _ _ (c .before .before .before .before .before .before .before .before .if1 .left),
-  le-ltb _ _ (c .before .before .before .before .before .before .before .if2 .left),
-  le-ltb _ _ (c .before .before .before .before .before .before .if3 .left),
-  lt-ltb _ _ (c .before .before .before .before .before .if4 .taken),
-  c .before .before .set-word4 .ensures,
-  c .before .before .before .lists-place .ensures,
-)
+returns-4 c =
+    let stored = c .before .before in
+    let arm = stored .before .before .before in
+    let third = arm .before in
+    let second = third .before in
+    let first = second .before in
+    rw (
+      ← first .before .word-named .ensures,
+      le-ltb _ _ (first .if1 .left),
+      le-ltb _ _ (second .if2 .left),
+      le-ltb _ _ (third .if3 .left),
+      lt-ltb _ _ (arm .if4 .taken),
+      stored .set-word4 .ensures,
+      stored .before .lists-place .ensures,
+    )
 
 machine-changed-requires : tie.Need-machine-changed-requires
 machine-changed-requires c κs = tt

@@ -80,13 +80,27 @@ differed-requires-3 c κs = tt
 returns-3 : tie.Need-returns-3 Inv-loop μ-loop
 returns-3 c = search needs
 
+-- the way back from the loop to the first line, and to the parameters
+abbrev answered : tie.At-loop Inv-loop μ-loop → tie.After-numbers-of Inv-loop μ-loop
+answered c = c .before .before .before .before .before .before
+
+abbrev called : tie.After-numbers-of Inv-loop μ-loop → tie.After-opened Inv-loop μ-loop
+called c = c .before .before .before .before .before .before
+
+abbrev first : tie.After-opened Inv-loop μ-loop → tie.After-line-of Inv-loop μ-loop
+first c = c .before .before .before .before .before
+
+abbrev start : tie.At-loop Inv-loop μ-loop → tie.Start Inv-loop μ-loop
+start c = first (called (answered c)) .before .before .before .before
+
+-- a turn reads a line further on
 loop-less : tie.Need-loop-less Inv-loop μ-loop
-loop-less c = omega (
-  arith,
-  end-behind
-      (c .before .before .before .before .before .before .before .before .before .before .before .before .before .before .before .before .before .before .before .before .before .before .before .before .before .before .before .before .before .before .before .before .before .before .before .before .args .text .now) (c .before .before .before .before .before .before .before .before .before .before .before .before .before .before .before .loop .at) (c .before .before .before .before .before .before .before .before .before .before .before .before .before .before .loop-test .taken),
-  c .before .before .before .before .before .before .before .before .before .before .before .before .before .step-end2 .ensures,
-)
+loop-less c =
+    let played = c .before .before .before .before .before .before in
+    let read = played .before .before .before .before .before .before in
+    let turn = read .before .before in
+    let at = turn .before in
+    omega (arith, end-behind (start at .args .text .now) (at .loop .at) (turn .loop-test .taken), read .before .step-end2 .ensures)
 
 loop-again : tie.Need-loop-again Inv-loop μ-loop
 loop-again c = tt

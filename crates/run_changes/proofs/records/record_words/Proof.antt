@@ -55,17 +55,21 @@ array-read-t35 c = search needs
 
 returns : tie.Need-returns
 unfolding recordWords
-returns c = rw (
-  c .wide5 .ensures,
-  c .before .wide4 .ensures,
-  c .before .before .wide3 .ensures,
-  c .before .before .before .wide2 .ensures,
-  c .before .before .before .before .wide .ensures,
-  c .before .before .before .before .before .key-in .ensures,
-  c .before .before .before .before .before .before .bucket-in .ensures,
-  c .before .before .before .before .before .before .before .phase-rank .ensures,
-  c .before .before .before .before .before .before .before .before .mark-word .ensures,
-)
+returns c =
+    let wide = c .before .before .before .before in
+    let keyed = wide .before in
+    let ranked = keyed .before .before in
+    rw (
+      c .wide5 .ensures,
+      c .before .wide4 .ensures,
+      c .before .before .wide3 .ensures,
+      c .before .before .before .wide2 .ensures,
+      wide .wide .ensures,
+      keyed .key-in .ensures,
+      keyed .before .bucket-in .ensures,
+      ranked .phase-rank .ensures,
+      ranked .before .mark-word .ensures,
+    )
 
 pub record-words-spec : {M : Type 1} → statement M
 record-words-spec =

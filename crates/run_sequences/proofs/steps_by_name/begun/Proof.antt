@@ -6,14 +6,26 @@ use lib.ListN.{length-take}
 use Rattle.run_sequences.proofs.steps_by_name.begun.Statement.{statement}
 use Rattle.run_sequences.proofs.steps_by_name.begun.Tie as tie
 
+array-read-lent : tie.Need-array-read-lent
+array-read-lent c = search needs
+
 lent-requires : tie.Need-lent-requires
 lent-requires c κs = tt
+
+array-read-lent-2 : tie.Need-array-read-lent-2
+array-read-lent-2 c = search needs
 
 lent-requires-2 : tie.Need-lent-requires-2
 lent-requires-2 c κs = tt
 
+array-read-lent-3 : tie.Need-array-read-lent-3
+array-read-lent-3 c = search needs
+
 lent-requires-3 : tie.Need-lent-requires-3
 lent-requires-3 c κs = tt
+
+array-read-lent-4 : tie.Need-array-read-lent-4
+array-read-lent-4 c = search needs
 
 lent-requires-4 : tie.Need-lent-requires-4
 lent-requires-4 c κs = tt
@@ -64,9 +76,13 @@ pub begun-spec : {M : Type 1} → statement M
 begun-spec =
     tie.close
     (tie.spec
+    array-read-lent
     lent-requires
+    array-read-lent-2
     lent-requires-2
+    array-read-lent-3
     lent-requires-3
+    array-read-lent-4
     lent-requires-4
     slice-relend-prefix-begin
     slice-aggregate-begin
