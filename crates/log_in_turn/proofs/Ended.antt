@@ -8,11 +8,11 @@ use native.Mathlib.Omega.{arith}
 use lib.Dec.{leb}
 use lib.ListN.{length}
 use Rattle.model.specs.Store.{Sizes, Store, fresh}
-use Rattle.model.specs.Refusals.{WrongSize, Malformed, refusalNumber, Step}
+use Rattle.model.specs.Refusals.{WrongSize, NoRoom, Malformed, refusalNumber, Step}
 use Rattle.model.specs.Machine.{step, canOpen}
 use Rattle.model.specs.Log.{Command, Opening, Asking, readRecord}
 use Rattle.model.specs.Report.{openWord, badWord, line, answerLine}
-use Rattle.model.specs.Replay.{Replayed, stops, writeThen, reads, turn, replayFor, replayFrom, mostRoom, replay}
+use Rattle.model.specs.Replay.{Replayed, stops, writeThen, reads, recordThen, replayFor, replayFrom, mostRoom, replay}
 use Rattle.log.specs.Layout.{bytesOf, Bytes, one-byte}
 use Rattle.log.proofs.Exact.{read-exact}
 use Rattle.log_in_turn.specs.Told.{commandsFor, commandsIn}
@@ -24,7 +24,7 @@ went-on : (room : ℕ) (text next : List ℕ) (go : List ℕ → Replayed) → w
 unfolding writeThen
 went-on room text next go = by (leb (length text + length next) room)
   where
-    by : (b : Bool) → cond b (go (text ++ next)) (stops 10 text) .status ≡ 0 → cond b (go (text ++ next)) (stops 10 text) ≡ go (text ++ next)
+    by : (b : Bool) → cond b (go (text ++ next)) (stops (refusalNumber NoRoom) text) .status ≡ 0 → cond b (go (text ++ next)) (stops (refusalNumber NoRoom) text) ≡ go (text ++ next)
     by true e = refl
     by false e = absurd (omega arith)
 
@@ -58,7 +58,7 @@ none-left (suc k) s text = record { steps = []; read = rw none-read refl; fit = 
 
 went : (room k : ℕ) (log : List ℕ) (s : Store) (text : List ℕ) → Bytes log → length log ≤ k → replayFor room k log (some s) text .status ≡ 0
     → Went k log s text (replayFor room k log (some s) text .text)
-unfolding replayFor turn commandsFor spoken
+unfolding replayFor recordThen commandsFor spoken
 went room zero [] s text bs h e = none-left zero s text
 went room (suc k) [] s text bs h e = none-left (suc k) s text
 went room zero (b ∷ log) s text bs h e = absurd (omega arith)
@@ -94,7 +94,7 @@ pub data Ended (log out : List ℕ) : Type 0 where
 
 ended-from : (room : ℕ) (log : List ℕ) → Bytes log → replayFor room (length log) log none [] .status ≡ 0
     → Ended log (replayFor room (length log) log none [] .text)
-unfolding replayFor turn commandsFor commandsIn
+unfolding replayFor recordThen commandsFor commandsIn
 ended-from room [] bs e = empty refl refl
 ended-from room (b ∷ log) bs e = go (readRecord (b ∷ log)) refl e
   where
@@ -108,9 +108,9 @@ ended-from room (b ∷ log) bs e = go (readRecord (b ∷ log)) refl e
       where
         opens : (t : Bool) → canOpen z clock ≡ t
             → cond t (writeThen room [] openLine (on rest (fresh z clock)))
-            (writeThen room [] (line openWord (refusalNumber WrongSize ∷ [])) (stops 1)) .status ≡ 0
+            (writeThen room [] (line openWord (refusalNumber WrongSize ∷ [])) (stops (refusalNumber WrongSize))) .status ≡ 0
             → Ended (b ∷ log) (cond t (writeThen room [] openLine (on rest (fresh z clock)))
-            (writeThen room [] (line openWord (refusalNumber WrongSize ∷ [])) (stops 1)) .text)
+            (writeThen room [] (line openWord (refusalNumber WrongSize ∷ [])) (stops (refusalNumber WrongSize))) .text)
         opens true o e =
             let s = fresh z clock in
             let on-is = went-on room [] openLine (on rest s) e in

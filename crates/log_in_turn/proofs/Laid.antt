@@ -13,7 +13,7 @@ use Rattle.model.specs.Refusals.{Step}
 use Rattle.model.specs.Machine.{step, canOpen}
 use Rattle.model.specs.Log.{Command, Opening, Asking, whole, readRecord}
 use Rattle.model.specs.Report.{answerLine}
-use Rattle.model.specs.Replay.{Replayed, stops, writeThen, reads, turn, replayFor}
+use Rattle.model.specs.Replay.{Replayed, stops, writeThen, reads, recordThen, replayFor}
 use Rattle.log.specs.Layout.{inBytes, laidOut, kindOf, fieldsIn, framed, bytesOf, Fit}
 use Rattle.log.proofs.Exact.{in-long, command-read}
 use Rattle.log_in_turn.specs.Told.{commandsFor}
@@ -51,15 +51,15 @@ laid-read (suc k) [] f h = rw none-read refl
 laid-read zero (c ∷ cs) f h = absurd (omega (arith, record-long c, length-append (bytesOf c) (join bytesOf cs)))
 laid-read (suc k) (c ∷ cs) f h = rw (command-read c (join bytesOf cs) (f .0)) (ap (λ ds. c ∷ ds) (laid-read k cs (f .1) (rest-short c (join bytesOf cs) k h)))
 
--- a record at the front decides the turn
+-- a record at the front decides the recordThen
 turn-reads : (room : ℕ) (on : List ℕ → Store → List ℕ → Replayed) (log : List ℕ) (so : Option Store) (text : List ℕ) → 1 ≤ length log
-    → turn room on log so text ≡ reads room text so (readRecord log) on
-unfolding turn
+    → recordThen room on log so text ≡ reads room text so (readRecord log) on
+unfolding recordThen
 turn-reads room on [] so text h = absurd (omega arith)
 turn-reads room on (b ∷ bs) so text h = refl
 
 turn-command : (room : ℕ) (on : List ℕ → Store → List ℕ → Replayed) (c : Command) (rest : List ℕ) (so : Option Store) (text : List ℕ) → Fit (fieldsIn c)
-    → turn room on (bytesOf c ++ rest) so text ≡ reads room text so (some (c, rest)) on
+    → recordThen room on (bytesOf c ++ rest) so text ≡ reads room text so (some (c, rest)) on
 turn-command room on c rest so text f =
     turn-reads room on (bytesOf c ++ rest) so text (omega (arith, record-long c, length-append (bytesOf c) rest))
     ∙ ap (λ r. reads room text so r on) (command-read c rest f)
@@ -72,7 +72,7 @@ fits-on room text next go h = rw (le-leb (length text + length next) room h) ref
 steps-replay : (room k : ℕ) (s : Store) (text : List ℕ) (steps : List Step) → AllFit (map Asking steps) → length (join bytesOf (map Asking steps)) ≤ k
     → length text + length (written (spoken s steps)) ≤ room
     → replayFor room k (join bytesOf (map Asking steps)) (some s) text ≡ stops 0 (text ++ written (spoken s steps))
-unfolding replayFor turn join spoken
+unfolding replayFor recordThen join spoken
 steps-replay room zero s text [] f h l = ap (stops 0) (sym (append-nil text) ∙ ap (λ w. text ++ w) (sym written-none))
 steps-replay room (suc k) s text [] f h l = ap (stops 0) (sym (append-nil text) ∙ ap (λ w. text ++ w) (sym written-none))
 steps-replay room zero s text (a ∷ more) f h l =

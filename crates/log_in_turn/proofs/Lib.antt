@@ -4,6 +4,6 @@ pub mod Laid
 pub mod Ended
 pub mod Fitting
 pub mod Readings
-pub mod Turned
+pub mod ReadBack
 pub mod Promises
 pub mod Sample

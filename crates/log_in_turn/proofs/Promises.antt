@@ -6,13 +6,13 @@ use mathlib.Core.List.{List}
 use Rattle.model.specs.Replay.{replay}
 use Rattle.log.specs.Layout.{Bytes}
 use Rattle.log_in_turn.specs.Told.{commandsIn}
-use Rattle.log_in_turn.specs.TurnLog.{turnCommands, turnLog, ReplayedInTurn}
-use Rattle.log_in_turn.proofs.Turned.{in-turn, turn-read}
+use Rattle.log_in_turn.specs.LogInTurn.{commandsInTurn, logInTurn, ReplayedInTurn}
+use Rattle.log_in_turn.proofs.ReadBack.{in-turn, turn-read}
 
 -- The report of the log that runs them in turn has the same reads.
 pub replayed-in-turn : (log : List ℕ) → Bytes log → (room : ℕ) → replay log room .status ≡ 0 → ReplayedInTurn log room
 replayed-in-turn = in-turn
 
 -- The turn's log is read back as the commands that were laid out.
-pub turn-read-back : (log : List ℕ) → Bytes log → (room : ℕ) → replay log room .status ≡ 0 → commandsIn (turnLog log) ≡ turnCommands (commandsIn log)
+pub turn-read-back : (log : List ℕ) → Bytes log → (room : ℕ) → replay log room .status ≡ 0 → commandsIn (logInTurn log) ≡ commandsInTurn (commandsIn log)
 turn-read-back = turn-read

@@ -11,13 +11,13 @@ use Rattle.base_lists.proofs.ListLaws.{and-l, and-r}
 use Rattle.model.specs.Refusals.{Step, begin, capture, collect, rows, put, prepare, install, end, publish, abort}
 use Rattle.model.specs.Log.{Opening, Asking, number, widths, total, fields, commandOf, whole, readRecord}
 use Rattle.model.specs.Report.{digitsStep, digitsFor, decimal, spaced, line}
-use Rattle.model.specs.Replay.{writeThen, turn, replayFor, replayFrom, replay}
+use Rattle.model.specs.Replay.{writeThen, recordThen, replayFor, replayFrom, replay}
 use Rattle.model.proofs.Computes.{computes}
 use Rattle.log.specs.Layout.{inBytes, laidOut, framed, bytesOf, Bytes, no-bytes, one-byte}
 use Rattle.model_in_turn.specs.Done.{entries}
 use Rattle.model_in_turn.specs.InTurn.{endOrder, doneBy, inTurn}
 use Rattle.log_in_turn.specs.Told.{commandsFor, commandsIn, linesIn, told, saysDone, endsTold, readsWhere, readsTold, readsInTurn}
-use Rattle.log_in_turn.specs.TurnLog.{askedIn, turnCommands, turnLog, ReplayedInTurn}
+use Rattle.log_in_turn.specs.LogInTurn.{askedIn, commandsInTurn, logInTurn, ReplayedInTurn}
 use Rattle.log_in_turn.proofs.Promises.{replayed-in-turn}
 
 -- the log of some steps: 4 rows, 8 versions, 4 buckets, clock 1
@@ -53,9 +53,9 @@ reads = (114 ∷ 111 ∷ 119 ∷ 115 ∷ 32 ∷ 48 ∷ 32 ∷ 49 ∷ 32 ∷ 50 �
 
 -- one name that opens all that is computed of a log
 unfoldable reckons : Unit {0}
-unfolding computes number widths total fields commandOf whole readRecord digitsStep digitsFor decimal spaced line writeThen turn replayFor replayFrom
+unfolding computes number widths total fields commandOf whole readRecord digitsStep digitsFor decimal spaced line writeThen recordThen replayFor replayFrom
     replay inBytes laidOut framed bytesOf zip flatMap entries endOrder doneBy inTurn commandsFor commandsIn linesIn told saysDone endsTold readsWhere
-    askedIn turnCommands turnLog
+    askedIn commandsInTurn logInTurn
 reckons = tt
 
 -- its replay ends with 0, and so the statement is of this log
@@ -75,8 +75,8 @@ sample-bytes = refl
 pub sample-holds : ReplayedInTurn log 1000
 sample-holds = replayed-in-turn log (all-bytes log sample-bytes) 1000 sample-ends
 
--- its turn, and the same reads by both reports
-pub sample-turn : turnLog log ≡ inOrder
+-- its recordThen, and the same reads by both reports
+pub sample-turn : logInTurn log ≡ inOrder
 unfolding reckons
 sample-turn = refl
 

@@ -6,7 +6,7 @@ use mathlib.Core.List.{List, [], _∷_, _++_}
 use lib.Dec.{leb}
 use lib.ListN.{length, drop}
 use Rattle.model.specs.Store.{Sizes, Store, fresh}
-use Rattle.model.specs.Refusals.{WrongSize, Malformed, refusalNumber, Step}
+use Rattle.model.specs.Refusals.{WrongSize, NoRoom, Malformed, refusalNumber, Step}
 use Rattle.model.specs.Machine.{step, canOpen}
 use Rattle.model.specs.Log.{Command, Opening, Asking, readRecord}
 use Rattle.model.specs.Report.{openWord, badWord, line, answerLine}
@@ -21,18 +21,18 @@ stops status text = record { status = status; text = text }
 
 -- a line is written from where the last one ended; one that doesn't fit is not begun, and replay stops with 10
 unfoldable pub writeThen : ℕ → List ℕ → List ℕ → (List ℕ → Replayed) → Replayed
-writeThen room text next go = cond (leb (length text + length next) room) (go (text ++ next)) (stops 10 text)
+writeThen room text next go = cond (leb (length text + length next) room) (go (text ++ next)) (stops (refusalNumber NoRoom) text)
 
 -- `bad 15`, and stop
 abbrev pub malformed : ℕ → List ℕ → Replayed
-malformed room text = writeThen room text (line badWord (refusalNumber Malformed ∷ [])) (stops 15)
+malformed room text = writeThen room text (line badWord (refusalNumber Malformed ∷ [])) (stops (refusalNumber Malformed))
 
 -- `open 0`, and on with a fresh store; a refused open stops too
 abbrev pub opens : ℕ → List ℕ → Sizes → ℕ → (Store → List ℕ → Replayed) → Replayed
 opens room text z clock on =
     cond (canOpen z clock)
     (writeThen room text (line openWord (0 ∷ [])) (on (fresh z clock)))
-    (writeThen room text (line openWord (refusalNumber WrongSize ∷ [])) (stops 1))
+    (writeThen room text (line openWord (refusalNumber WrongSize ∷ [])) (stops (refusalNumber WrongSize)))
 
 -- a step and its line
 abbrev pub steps : ℕ → List ℕ → Store → Step → (Store → List ℕ → Replayed) → Replayed
@@ -50,13 +50,13 @@ reads room text so none on = malformed room text
 reads room text so (some c) on = obeys room text so (c .0) (on (c .1))
 
 -- one record, with what is done on the rest of the log; an empty log ends the replay
-unfoldable pub turn : ℕ → (List ℕ → Store → List ℕ → Replayed) → List ℕ → Option Store → List ℕ → Replayed
-turn room on [] so text = stops 0 text
-turn room on (b ∷ bs) so text = reads room text so (readRecord (b ∷ bs)) on
+unfoldable pub recordThen : ℕ → (List ℕ → Store → List ℕ → Replayed) → List ℕ → Option Store → List ℕ → Replayed
+recordThen room on [] so text = stops 0 text
+recordThen room on (b ∷ bs) so text = reads room text so (readRecord (b ∷ bs)) on
 
 unfoldable pub replayFor : ℕ → ℕ → List ℕ → Option Store → List ℕ → Replayed
-replayFor room zero log so text = turn room (λ more s written. stops 0 written) log so text
-replayFor room (suc k) log so text = turn room (λ more s written. replayFor room k more (some s) written) log so text
+replayFor room zero log so text = recordThen room (λ more s written. stops 0 written) log so text
+replayFor room (suc k) log so text = recordThen room (λ more s written. replayFor room k more (some s) written) log so text
 
 -- each record has a byte at least, so the log's length bounds the records
 unfoldable pub replayFrom : ℕ → List ℕ → Option Store → List ℕ → Replayed

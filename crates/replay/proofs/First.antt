@@ -8,6 +8,7 @@ use mathlib.Core.List.{List, []}
 use native.Mathlib.Omega.{arith}
 use lib.ListN.{length, drop}
 use lib.Seq.{take-append-seam, drop-append-add, drop-drop}
+use Rattle.model.specs.Refusals.{NoRoom, Malformed, refusalNumber}
 use Rattle.model.specs.Store.{fresh}
 use Rattle.model.specs.Machine.{canOpen}
 use Rattle.model.specs.Replay.{Replayed, malformed, opens, replay}
@@ -26,7 +27,7 @@ use Rattle.replay.specs.declared.stop.Stopped.{Stopped}
 use Rattle.replay.specs.Stops.{Left, malformedAt, unopenedAt}
 use Rattle.replay.specs.declared.Opened.{Opened}
 use Rattle.replay.specs.Replay.{leftBy, Leaves, openedFrom}
-use Rattle.replay.proofs.Turning.{onward, replay-ends, replay-reads, replay-grows, goes-on, goes-full}
+use Rattle.replay.proofs.RecordByRecord.{onward, replay-ends, replay-reads, replay-grows, goes-on, goes-full}
 use Rattle.replay.proofs.Lining.{roomIn, On, line-on, line-off, last-line}
 
 -- behind a text the report is as it was found
@@ -68,7 +69,7 @@ module _ (log report : List ℕ) where
         abbrev behind : List ℕ → Replayed
         behind = onward (roomIn report) (drop (d .next) log) (fresh (sizesView z) clock)
 
-        pub left-full : line .wrote ≡ Full → Leaves (record { status = 10; wrote = 0 }) (line .report) (replay log (length report)) report
+        pub left-full : line .wrote ≡ Full → Leaves (record { status = refusalNumber NoRoom; wrote = 0 }) (line .report) (replay log (length report)) report
         left-full w =
             let f = line-off report [] (openLine 0) (omega arith) line el w in
             rw (opening, q, goes-full (roomIn report) [] (openLine 0) behind (f .full), f .report) (refl, omega arith, omega arith)

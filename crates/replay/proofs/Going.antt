@@ -1,4 +1,4 @@
--- The loop of the replay: what stands before each record, and each way out of a turn.
+-- The loop of the replay: what stands before each record, and each way out of the loop.
 -- Assumes nothing.
 use Prim.Native.Nat.{ℕ, _<_, _≤_}
 use mathlib.Core.Path.{_≡_, refl, sym, ap, subst, _∙_}
@@ -7,6 +7,7 @@ use mathlib.Core.List.{List, _++_}
 use native.Mathlib.Omega.{arith}
 use lib.ListN.{length, drop, length-append}
 use Rattle.base_limits.specs.Limits.{mostRows}
+use Rattle.model.specs.Refusals.{NoRoom, Malformed, refusalNumber}
 use Rattle.model.specs.Store.{Store}
 use Rattle.model.specs.Machine as machine
 use Rattle.model.specs.Machine.{step, stepIn}
@@ -33,7 +34,7 @@ use Rattle.report.specs.Lines.{badLine, lineFor}
 use Rattle.report.proofs.Answers.{line-told}
 use Rattle.replay.specs.Stops.{Left, malformedAt}
 use Rattle.replay.specs.Replay.{Leaves}
-use Rattle.replay.proofs.Turning.{onward, replay-ends, replay-reads, goes-on, goes-full}
+use Rattle.replay.proofs.RecordByRecord.{onward, replay-ends, replay-reads, goes-on, goes-full}
 use Rattle.replay.proofs.Lining.{roomIn, line-on, line-off, last-line}
 
 -- before the record at a place: the words stand for a store, the text stands in the report, and the replay of the rest is the whole
@@ -87,8 +88,8 @@ module _ {log old : List ℕ} {m : Replayed} {at wrote : ℕ} {report : List ℕ
         abbrev goes-to : List ℕ → Replayed
         goes-to = onward (roomIn old) (drop (d .next) log) (view (wordsAfter w s))
 
-        turned : m ≡ writeThen (roomIn old) (g .text) lineIs goes-to
-        turned =
+        written-then : m ≡ writeThen (roomIn old) (g .text) lineIs goes-to
+        written-then =
             g .rest
             ∙ replay-reads (roomIn old) log at (some (view w)) (g .text) _ h (read-ask there s asks)
             ∙ ap (λ (l : List ℕ). writeThen (roomIn old) (g .text) l (onward (roomIn old) (drop (d .next) log) (step (view w) (asked s) .store)))
@@ -101,10 +102,10 @@ module _ {log old : List ℕ} {m : Replayed} {at wrote : ℕ} {report : List ℕ
           lined = rw (← g .laid, ← g .long, ← em) el
 
           -- the line does not fit
-          pub stops-full : line .wrote ≡ Full → Leaves (record { status = 10; wrote = wrote }) (line .report) m old
+          pub stops-full : line .wrote ≡ Full → Leaves (record { status = refusalNumber NoRoom; wrote = wrote }) (line .report) m old
           stops-full q =
               let f = line-off old (g .text) lineIs (g .fits) line lined q in
-              rw (turned, goes-full (roomIn old) (g .text) lineIs goes-to (f .full), f .report, g .long) (refl, omega arith, omega (arith, g .fits))
+              rw (written-then, goes-full (roomIn old) (g .text) lineIs goes-to (f .full), f .report, g .long) (refl, omega arith, omega (arith, g .fits))
 
           -- on, with the words that the step leaves
           pub goes : {k : ℕ} → k ≡ placeFor (w .txns) s → (end : ℕ) → line .wrote ≡ Next end → Going log old m (d .next) end (line .report) (after w k mv)
@@ -116,5 +117,5 @@ module _ {log old : List ℕ} {m : Replayed} {at wrote : ℕ} {report : List ℕ
                 long = f .end;
                 laid = f .report;
                 fits = rw (length-append (g .text) lineIs) (f .fits);
-                rest = turned ∙ goes-on (roomIn old) (g .text) lineIs goes-to (f .fits);
+                rest = written-then ∙ goes-on (roomIn old) (g .text) lineIs goes-to (f .fits);
               })

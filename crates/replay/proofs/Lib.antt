@@ -1,4 +1,4 @@
-pub mod Turning
+pub mod RecordByRecord
 pub mod Lining
 pub mod Going
 pub mod Zeroes

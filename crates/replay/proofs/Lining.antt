@@ -14,7 +14,7 @@ use Rattle.report_lines.specs.Lines.{Written, writtenAt}
 use Rattle.report_lines.proofs.Reported.{shown, written-on, written-stop}
 use Rattle.replay.specs.Stops.{Left, stopWith}
 use Rattle.replay.specs.Replay.{Leaves}
-use Rattle.replay.proofs.Turning.{goes-on, goes-full}
+use Rattle.replay.proofs.RecordByRecord.{goes-on, goes-full}
 
 -- the room that is used
 abbrev pub roomIn : List ℕ → ℕ

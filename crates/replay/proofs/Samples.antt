@@ -6,12 +6,12 @@ use mathlib.Core.List.{List, [], _∷_, _++_}
 use native.Mathlib.Omega.{arith}
 use Rattle.model.specs.Log.{number, widths, total, fields, commandOf, whole, readRecord}
 use Rattle.model.specs.Report.{bytes, digitsStep, digitsFor, decimal, spaced, line}
-use Rattle.model.specs.Replay.{writeThen, turn, replayFor, replayFrom, replay, packed, reported}
+use Rattle.model.specs.Replay.{writeThen, recordThen, replayFor, replayFrom, replay, packed, reported}
 use Rattle.model.proofs.Computes as model
 
 -- opens every definition that a replay goes through, so that a log of numerals computes
 unfoldable computes : Unit {0}
-unfolding model.computes number widths total fields commandOf whole readRecord digitsStep digitsFor decimal spaced line writeThen turn replayFor replayFrom
+unfolding model.computes number widths total fields commandOf whole readRecord digitsStep digitsFor decimal spaced line writeThen recordThen replayFor replayFrom
     replay
 computes = tt
 

@@ -1,7 +1,7 @@
 -- How a replay stops: its status, how many bytes it wrote, and the lent report.
 use Prim.Native.Nat.{ℕ}
 use mathlib.Core.List.{List}
-use Rattle.model.specs.Refusals.{WrongSize, Malformed, refusalNumber}
+use Rattle.model.specs.Refusals.{WrongSize, NoRoom, Malformed, refusalNumber}
 use Rattle.report_lines.specs.declared.Wrote.{Wrote}
 use Rattle.report_lines.specs.declared.Wrote.the-variants.{Next, Full}
 use Rattle.report_lines.specs.Lines.{Written, writtenAt}
@@ -16,7 +16,7 @@ pub record Left : Type 0 where
 -- after a last line: with this status, or with 10 where the line did not fit
 abbrev pub stopAfter : Wrote → ℕ → ℕ → Stopped
 stopAfter (Next end) status at = record { status = status; wrote = end }
-stopAfter Full status at = record { status = 10; wrote = at }
+stopAfter Full status at = record { status = refusalNumber NoRoom; wrote = at }
 
 abbrev pub stopWith : Written → ℕ → ℕ → Left
 stopWith w status at = record { stopped = stopAfter (w .wrote) status at; report = w .report }

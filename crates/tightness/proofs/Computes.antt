@@ -3,7 +3,7 @@
 use Rattle.model.proofs.Computes as model
 use Rattle.model.specs.Log as log
 use Rattle.model.specs.Report.{digitsStep, digitsFor, decimal, spaced, line}
-use Rattle.model.specs.Replay.{writeThen, turn, replayFor, replayFrom, replay}
+use Rattle.model.specs.Replay.{writeThen, recordThen, replayFor, replayFrom, replay}
 use Rattle.base_numbers.specs.Numbers.{oneMore}
 use Rattle.table.specs.Words.{field, setField, setFields, clearFields}
 use Rattle.table.specs.Regions.{words, listOf}
@@ -35,7 +35,7 @@ use Rattle.report_lines.specs.Lines.{writtenAt}
 
 -- all but `shapeOf` and `callOf`: what tests the shape of a whole store is opened where it is spoken of
 unfoldable pub computes : Unit {0}
-unfolding model.computes log.number log.widths log.total log.whole log.readRecord digitsStep digitsFor decimal spaced line writeThen turn replayFor
+unfolding model.computes log.number log.widths log.total log.whole log.readRecord digitsStep digitsFor decimal spaced line writeThen recordThen replayFor
     replayFrom replay field setField setFields clearFields words listOf canonicalOf firstFrom lastBelow stepFrom walkFor walkFrom firstVisible holdOf
     captureAt writeOf collectOf missesOf placeFrom liveFrom versionKey oldKeyOf newKeyOf getsVersionOf headedBy keysOf changedKeys pushOne pushAll bucketsFor
     keysNeed firstWhere oneMore rowsListed pendingInto kept versionsInto lastWriteOf versionStored pushedRow pushedRows toInstall installOf

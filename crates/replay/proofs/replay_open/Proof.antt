@@ -8,6 +8,7 @@ use mathlib.Core.Bool.{true}
 use mathlib.Core.List.{List}
 use native.Mathlib.Omega.{arith}
 use lib.ListN.{length}
+use Rattle.model.specs.Refusals.{NoRoom, refusalNumber}
 use Rattle.model.specs.Machine.{canOpen}
 use Rattle.model.specs.Replay.{replay}
 use Rattle.base_protocol.specs.declared.Sizes.{Sizes}
@@ -121,7 +122,7 @@ module _ (c : tie.After-open-line) where
   abbrev lent : List ℕ
   lent = c .open-line .last .0
 
-  full : c .open-line .result ≡ Full → Leaves (record { status = 10; wrote = 0 }) lent (replay (log read) (length (report read))) (report read)
+  full : c .open-line .result ≡ Full → Leaves (record { status = refusalNumber NoRoom; wrote = 0 }) lent (replay (log read) (length (report read))) (report read)
   full q = left-full (log read) (report read) (some-bytes read) (read .decode-at .ensures) (opens asked) can (c .open-line .ensures) q
 
   module _ (end : ℕ) (q : c .open-line .result ≡ Next end) where

@@ -6,6 +6,7 @@ use mathlib.Core.Path.{_≡_, refl, _∙_}
 use native.Mathlib.Omega.{arith}
 use lib.ListN.{length, length-set}
 use Rattle.base_limits.specs.Limits.{mostRows, mostLive}
+use Rattle.model.specs.Refusals.{NoRoom, refusalNumber}
 use Rattle.model.specs.Replay.{Replayed}
 use Rattle.base_protocol.specs.declared.Step.{Step}
 use Rattle.report_lines.specs.declared.Wrote.the-variants.{Next, Full}
@@ -236,7 +237,7 @@ module _ (c : tie.After-answer-line Inv-loop μ-loop) where
 
   -- the line does not fit
   full : c .answer-line .result ≡ Full
-      → Leaves (record { status = 10; wrote = from .loop .wrote }) (c .answer-line .last .0) whole (begun turned .args .report .now)
+      → Leaves (record { status = refusalNumber NoRoom; wrote = from .loop .wrote }) (c .answer-line .last .0) whole (begun turned .args .report .now)
   full q =
       stops-full (from .loop .inv .8) (turned .loop-test .taken) (read .decode-at .ensures) asks (room turned) (moved stepped) (c .answer-line .ensures) q
 

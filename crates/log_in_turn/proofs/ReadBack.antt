@@ -13,13 +13,13 @@ use Rattle.model.specs.Machine.{step, canOpen}
 use Rattle.model.specs.Given.{number}
 use Rattle.model.specs.Log.{Command, Opening, Asking}
 use Rattle.model.specs.Report.{digitsStep, digitsFor, decimal, spaced, line}
-use Rattle.model.specs.Replay.{stops, turn, replayFor, replayFrom, mostRoom, replay}
+use Rattle.model.specs.Replay.{stops, recordThen, replayFor, replayFrom, mostRoom, replay}
 use Rattle.log.specs.Layout.{bytesOf, Bytes}
 use Rattle.model_in_turn.specs.Done.{Entry, entryOf, entries}
 use Rattle.model_in_turn.specs.InTurn.{oneByOne, turnOf}
 use Rattle.model_in_turn.proofs.Promises.{one-after-another}
 use Rattle.log_in_turn.specs.Told.{commandsFor, commandsIn, linesIn, told, saysDone, endsTold, readsWhere, readsTold, readsInTurn}
-use Rattle.log_in_turn.specs.TurnLog.{askedIn, turnCommands, turnLog, ReplayedInTurn}
+use Rattle.log_in_turn.specs.LogInTurn.{askedIn, commandsInTurn, logInTurn, ReplayedInTurn}
 use Rattle.log_in_turn.proofs.Lines.{says-number}
 use Rattle.log_in_turn.proofs.Spoken.{spoken, written, said, openLine, each-told, told-is}
 use Rattle.log_in_turn.proofs.Laid.{AllFit, laid-read, laid-replay}
@@ -95,38 +95,38 @@ module _ (log : List ℕ) (z : Sizes) (clock : ℕ) (steps : List Step) (read : 
   abbrev taken : List Step
   taken = turnOf (fresh z clock) steps
 
-  turn-is : turnCommands (commandsIn log) ≡ Opening z clock ∷ map Asking taken
-  unfolding turnCommands
+  turn-is : commandsInTurn (commandsIn log) ≡ Opening z clock ∷ map Asking taken
+  unfolding commandsInTurn
   turn-is = rw (read, asked-again steps) refl
 
-  log-is : turnLog log ≡ join bytesOf (Opening z clock ∷ map Asking taken)
-  unfolding turnLog
+  log-is : logInTurn log ≡ join bytesOf (Opening z clock ∷ map Asking taken)
+  unfolding logInTurn
   log-is = ap (join bytesOf) turn-is
 
   fits : AllFit (Opening z clock ∷ map Asking taken)
   fits = (f .0, turn-fit z clock steps o f)
 
-  read-back : commandsIn (turnLog log) ≡ Opening z clock ∷ map Asking taken
+  read-back : commandsIn (logInTurn log) ≡ Opening z clock ∷ map Asking taken
   unfolding commandsIn
   read-back = rw log-is (laid-read (length (join bytesOf (Opening z clock ∷ map Asking taken))) (Opening z clock ∷ map Asking taken) fits (omega arith))
 
   abbrev report-is : List ℕ
   report-is = written (openLine ∷ spoken (fresh z clock) taken)
 
-  replays : (more : ℕ) → length report-is ≤ min more mostRoom → replay (turnLog log) more ≡ stops 0 report-is
+  replays : (more : ℕ) → length report-is ≤ min more mostRoom → replay (logInTurn log) more ≡ stops 0 report-is
   unfolding replay replayFrom
   replays more l = rw log-is (laid-replay (min more mostRoom) (length (join bytesOf (Opening z clock ∷ map Asking taken))) z clock taken o fits (omega arith) l)
 
   turned : (room : ℕ) → replay log room .text ≡ written (openLine ∷ spoken (fresh z clock) steps) → ReplayedInTurn log room
   turned room says =
       let text = replay log room .text in
-      let turn-told : told (turnLog log) report-is ≡ opened z clock ∷ said (fresh z clock) taken =
-      told-is (turnLog log) report-is z clock taken read-back refl in
+      let turn-told : told (logInTurn log) report-is ≡ opened z clock ∷ said (fresh z clock) taken =
+      told-is (logInTurn log) report-is z clock taken read-back refl in
       let log-told : told log text ≡ opened z clock ∷ said (fresh z clock) steps = told-is log text z clock steps read says in
       record {
         report = report-is;
         ends-well = replays;
-        all-told = each-told (turnLog log) report-is z clock taken read-back refl;
+        all-told = each-told (logInTurn log) report-is z clock taken read-back refl;
         all-done = ap (all-of done) turn-told ∙ open-all z clock (said (fresh z clock) taken) (turn-accepted z clock steps);
         run-told = each-told log text z clock steps read says;
         same-reads = ap readsTold turn-told
@@ -136,12 +136,12 @@ module _ (log : List ℕ) (z : Sizes) (clock : ℕ) (steps : List Step) (read : 
 
 -- the empty log
 module _ (log : List ℕ) (read : commandsIn log ≡ []) where
-  none-laid : turnLog log ≡ []
-  unfolding turnLog turnCommands join
+  none-laid : logInTurn log ≡ []
+  unfolding logInTurn commandsInTurn join
   none-laid = rw read refl
 
   none-turned : (room : ℕ) → replay log room .text ≡ [] → ReplayedInTurn log room
-  unfolding commandsFor commandsIn linesIn told zip all-of readsWhere endsTold flatMap turn replayFor replayFrom replay
+  unfolding commandsFor commandsIn linesIn told zip all-of readsWhere endsTold flatMap recordThen replayFor replayFrom replay
   none-turned room says = record {
     report = [];
     ends-well = λ more l. rw none-laid refl;
@@ -158,10 +158,10 @@ in-turn log bs room e = go (ended log bs room e)
     go (empty read says) = none-turned log read room says
     go (ran z clock steps read o f says) = turned log z clock steps read o f room says
 
-pub turn-read : (log : List ℕ) → Bytes log → (room : ℕ) → replay log room .status ≡ 0 → commandsIn (turnLog log) ≡ turnCommands (commandsIn log)
-unfolding turnCommands commandsIn commandsFor
+pub turn-read : (log : List ℕ) → Bytes log → (room : ℕ) → replay log room .status ≡ 0 → commandsIn (logInTurn log) ≡ commandsInTurn (commandsIn log)
+unfolding commandsInTurn commandsIn commandsFor
 turn-read log bs room e = go (ended log bs room e)
   where
-    go : Ended log (replay log room .text) → commandsIn (turnLog log) ≡ turnCommands (commandsIn log)
+    go : Ended log (replay log room .text) → commandsIn (logInTurn log) ≡ commandsInTurn (commandsIn log)
     go (empty read says) = rw (none-laid log read, read) refl
     go (ran z clock steps read o f says) = read-back log z clock steps read o f ∙ sym (turn-is log z clock steps read o f)

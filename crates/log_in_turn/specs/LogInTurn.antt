@@ -20,21 +20,21 @@ askedIn (Opening z clock ∷ cs) = askedIn cs
 askedIn (Asking a ∷ cs) = a ∷ askedIn cs
 
 -- the same open, and the transactions that reached end, each whole with its publish, in the order of their ends
-unfoldable pub turnCommands : List Command → List Command
-turnCommands [] = []
-turnCommands (Opening z clock ∷ cs) = Opening z clock ∷ map Asking (turnOf (fresh z clock) (askedIn cs))
-turnCommands (Asking a ∷ cs) = []
+unfoldable pub commandsInTurn : List Command → List Command
+commandsInTurn [] = []
+commandsInTurn (Opening z clock ∷ cs) = Opening z clock ∷ map Asking (turnOf (fresh z clock) (askedIn cs))
+commandsInTurn (Asking a ∷ cs) = []
 
 -- their bytes, one record after another
-unfoldable pub turnLog : List ℕ → List ℕ
-turnLog log = join bytesOf (turnCommands (commandsIn log))
+unfoldable pub logInTurn : List ℕ → List ℕ
+logInTurn log = join bytesOf (commandsInTurn (commandsIn log))
 
 -- Were a log's payments as if made in turn? With room enough the replay of the turn's log ends with 0 and this report, which tells every record of it, each as
 -- done; and its reads are those of the log's transactions that reached end, line for line.
 pub record ReplayedInTurn (log : List ℕ) (room : ℕ) : Type 0 where
   pub report : List ℕ
-  pub ends-well : (more : ℕ) → length report ≤ min more mostRoom → replay (turnLog log) more ≡ stops 0 report
-  pub all-told : length (linesIn report) ≡ length (commandsIn (turnLog log))
-  pub all-done : all-of (λ q. saysDone (q .0) (q .1)) (told (turnLog log) report) ≡ true
+  pub ends-well : (more : ℕ) → length report ≤ min more mostRoom → replay (logInTurn log) more ≡ stops 0 report
+  pub all-told : length (linesIn report) ≡ length (commandsIn (logInTurn log))
+  pub all-done : all-of (λ q. saysDone (q .0) (q .1)) (told (logInTurn log) report) ≡ true
   pub run-told : length (linesIn (replay log room .text)) ≡ length (commandsIn log)
-  pub same-reads : readsTold (told (turnLog log) report) ≡ readsInTurn (told log (replay log room .text))
+  pub same-reads : readsTold (told (logInTurn log) report) ≡ readsInTurn (told log (replay log room .text))
