@@ -18,31 +18,31 @@ use Rattle.model.proofs.SeeingLaws.{same-key, key-same, keyAt-pos}
 use Rattle.model.proofs.Holders.{HoldersAt, needs-old, needs-new}
 use Rattle.model.proofs.Made.{made-writes}
 use Rattle.model.proofs.Written.{WrittenAt}
-use Rattle.model.proofs.Told.{Turn, Carries, ToldAt}
+use Rattle.model.proofs.Told.{KeyChange, Carries, ToldAt}
 use Rattle.model.proofs.Walk.{Finds, nothing, here, down, version-finds}
 
 -- no version that carries k, or stands on one that does, has another key than the version under it and is unseen
-abbrev pub NoTurn : Chains → Snapshot → ℕ → Type 0
-NoTurn c v k = (q : ℕ) → Turn c q → Carries c q k → seen v (c .xmin q) ≡ false → ⊥
+abbrev pub NoChange : Chains → Snapshot → ℕ → Type 0
+NoChange c v k = (q : ℕ) → KeyChange c q → Carries c q k → seen v (c .xmin q) ≡ false → ⊥
 
 -- then a key that is seen is the key where the walk began, and the other way round
-pub key-up : (c : Chains) (v : Snapshot) (k : ℕ) → NoTurn c v k → (p q : ℕ) → Finds c v p q → keyAt c q ≡ some k → keyAt c p ≡ some k
-key-up c v k no-turn p q (nothing a b) e = absurd (keyAt-pos c q k e b)
-key-up c v k no-turn p q (here l u t f) e = rw f at e
-key-up c v k no-turn p q (down l u t m) e = go (sameKey (keyAt c p) (keyAt c (c .next p))) refl (key-up c v k no-turn (c .next p) q m e)
+pub key-up : (c : Chains) (v : Snapshot) (k : ℕ) → NoChange c v k → (p q : ℕ) → Finds c v p q → keyAt c q ≡ some k → keyAt c p ≡ some k
+key-up c v k no-change p q (nothing a b) e = absurd (keyAt-pos c q k e b)
+key-up c v k no-change p q (here l u t f) e = rw f at e
+key-up c v k no-change p q (down l u t m) e = go (sameKey (keyAt c p) (keyAt c (c .next p))) refl (key-up c v k no-change (c .next p) q m e)
   where
     go : (b : Bool) → sameKey (keyAt c p) (keyAt c (c .next p)) ≡ b → keyAt c (c .next p) ≡ some k → keyAt c p ≡ some k
     go true s ih = same-key _ _ s ∙ ih
-    go false s ih = absurd (no-turn p (record { from = l; in-use = u; turns = s }) (inr ih) t)
+    go false s ih = absurd (no-change p (record { from = l; in-use = u; changes = s }) (inr ih) t)
 
-pub key-down : (c : Chains) (v : Snapshot) (k : ℕ) → NoTurn c v k → (p q : ℕ) → Finds c v p q → keyAt c p ≡ some k → keyAt c q ≡ some k
-key-down c v k no-turn p q (nothing a b) e = absurd (keyAt-pos c p k e a)
-key-down c v k no-turn p q (here l u t f) e = rw f e
-key-down c v k no-turn p q (down l u t m) e = key-down c v k no-turn (c .next p) q m (go (sameKey (keyAt c p) (keyAt c (c .next p))) refl)
+pub key-down : (c : Chains) (v : Snapshot) (k : ℕ) → NoChange c v k → (p q : ℕ) → Finds c v p q → keyAt c p ≡ some k → keyAt c q ≡ some k
+key-down c v k no-change p q (nothing a b) e = absurd (keyAt-pos c p k e a)
+key-down c v k no-change p q (here l u t f) e = rw f e
+key-down c v k no-change p q (down l u t m) e = key-down c v k no-change (c .next p) q m (go (sameKey (keyAt c p) (keyAt c (c .next p))) refl)
   where
     go : (b : Bool) → sameKey (keyAt c p) (keyAt c (c .next p)) ≡ b → keyAt c (c .next p) ≡ some k
     go true s = sym (same-key _ _ s) ∙ e
-    go false s = absurd (no-turn p (record { from = l; in-use = u; turns = s }) (inl e) t)
+    go false s = absurd (no-change p (record { from = l; in-use = u; changes = s }) (inl e) t)
 
 module _ (s : Store) (n : Numbers (s .clock) (s .txns)) (h : HoldersAt s) (w : WrittenAt s) where
   -- the live maker of a version wants the buckets of its key and of the key under it
@@ -64,17 +64,17 @@ module _ (s : Store) (n : Numbers (s .clock) (s .txns)) (h : HoldersAt s) (w : W
 
   pub untold : ToldAt s → (i k : ℕ) → Live (s .txns i) → rank (s .txns i .phase) < phaseInstalled → s .index .stamp (bucketOf (s .sizes) k) < s .txns i .number
       → (s .held .holder (bucketOf (s .sizes) k) ≡ 0) ⊎ (s .held .holder (bucketOf (s .sizes) k) ≡ s .txns i .number)
-      → NoTurn (s .chains) (s .txns i .snapshot) k
-  untold told i k l a below whose q turn carries unseen =
-      ⊎-elim (λ o. maker (o .0) (o .1) (o .2) whose) (λ t. omega (arith, t k carries)) (told q i turn l unseen)
+      → NoChange (s .chains) (s .txns i .snapshot) k
+  untold told i k l a below whose q change carries unseen =
+      ⊎-elim (λ o. maker (o .0) (o .1) (o .2) whose) (λ t. omega (arith, t k carries)) (told q i change l unseen)
     where
       maker : (m : ℕ) → Live (s .txns m) → s .chains .xmin q ≡ s .txns m .number
           → (s .held .holder (bucketOf (s .sizes) k) ≡ 0) ⊎ (s .held .holder (bucketOf (s .sizes) k) ≡ s .txns i .number) → ⊥
-      maker m v f (inl z) = omega (arith, h .buckets .owns m (bucketOf (s .sizes) k) (maker-wants q m k (turn .from) (turn .in-use) v f carries))
+      maker m v f (inl z) = omega (arith, h .buckets .owns m (bucketOf (s .sizes) k) (maker-wants q m k (change .from) (change .in-use) v f carries))
       maker m v f (inr z) =
-          let e : m ≡ i = n .distinct m i v (sym (h .buckets .owns m (bucketOf (s .sizes) k) (maker-wants q m k (turn .from) (turn .in-use) v f carries))
+          let e : m ≡ i = n .distinct m i v (sym (h .buckets .owns m (bucketOf (s .sizes) k) (maker-wants q m k (change .from) (change .in-use) v f carries))
           ∙ z) in
-          omega (arith, rw e at (w .made q m (turn .from) (turn .in-use) v f .0))
+          omega (arith, rw e at (w .made q m (change .from) (change .in-use) v f .0))
 
   -- who holds the bucket of k, stamped below its number, finds every row that it sees with k among the posted ones
   pub complete : Chained (s .chains) → ToldAt s → (i k : ℕ) → Live (s .txns i) → s .txns i .phase ≡ Holding (bucketOf (s .sizes) k) k

@@ -19,7 +19,7 @@ use Rattle.model.proofs.SeeingLaws.{keyAt-pos, read-bucket}
 use Rattle.model.proofs.Walk.{Finds, here, version-finds, finds-one, finds-through, finds-shown, zero-finds, finds-open, finds-top}
 use Rattle.model.proofs.Owned.{not-another}
 use Rattle.model.proofs.Told.{seen-which, which-seen}
-use Rattle.model.proofs.Complete.{NoTurn, key-down, untold}
+use Rattle.model.proofs.Complete.{NoChange, key-down, untold}
 use Rattle.model.proofs.Good.{Good}
 use Rattle.model.proofs.Cleared.{Cleared, read-below, record-open}
 
@@ -63,9 +63,9 @@ module _ (s : Store) (g : Good s) (i : ℕ) (l : Live (s .txns i)) (a : rank (s 
   abbrev v : Snapshot
   v = s .txns i .snapshot
 
-  no-turn : NoTurn c v k
+  no-change : NoChange c v k
   unfolding readBuckets
-  no-turn =
+  no-change =
       let r = read-bucket (s .txns i .reads) (bucketOf (s .sizes) k) (relied .bucket-in) in
       let held = rw (r .2) at (among-map (λ (q : IndexRead). q .bucket) (s .txns i .reads) (r .0) (r .1)) in
       untold s (g .numbers) (g .holders) (g .written) (g .told) i k l a
@@ -105,6 +105,6 @@ module _ (s : Store) (g : Good s) (i : ℕ) (l : Live (s .txns i)) (a : rank (s 
 
   -- a row that shows the key now showed it then
   pub now-read : (r : ℕ) → keyAt c (versionOf c (snapshotNow s) r) ≡ some k → keyAt c (versionOf c v r) ≡ some k
-  now-read r e = key-down c v k no-turn (versionOf c (snapshotNow s) r) (versionOf c v r)
+  now-read r e = key-down c v k no-change (versionOf c (snapshotNow s) r) (versionOf c v r)
       (finds-through c (snapshotNow s) v (unseen-then s g i l a) (c .head r) (versionOf c (snapshotNow s) r) (versionOf c v r)
       (version-finds c (snapshotNow s) (g .chained) r) (keyAt-pos c _ k e) (version-finds c v (g .chained) r)) e

@@ -52,28 +52,28 @@ unseen-which v n e l = go (member n (v .active)) refl
     go false m = absurd (true≢false (sym (which-seen v n l (λ a. true≢false (sym (among-member n (v .active) a) ∙ m))) ∙ e))
 
 -- version q has another key than the version under it
-pub record Turn (c : Chains) (q : ℕ) : Type 0 where
+pub record KeyChange (c : Chains) (q : ℕ) : Type 0 where
   pub from : 1 ≤ q
   pub in-use : q ≤ c .used
-  pub turns : sameKey (keyAt c q) (keyAt c (c .next q)) ≡ false
+  pub changes : sameKey (keyAt c q) (keyAt c (c .next q)) ≡ false
 
 -- k is one of the two keys
 abbrev pub Carries : Chains → ℕ → ℕ → Type 0
 Carries c q k = (keyAt c q ≡ some k) ⊎ (keyAt c (c .next q) ≡ some k)
 
--- number n is told of the turn q: its maker lives, or the buckets of both keys are stamped above n
+-- number n is told of the change q: its maker lives, or the buckets of both keys are stamped above n
 abbrev pub Learns : Sizes → Chains → (ℕ → ℕ) → (ℕ → Txn) → ℕ → ℕ → Type 0
 Learns z c stamp t q n = ((m : ℕ) × Live (t m) × (c .xmin q ≡ t m .number)) ⊎ ((k : ℕ) → Carries c q k → n < stamp (bucketOf z k))
 
 abbrev pub Told : Sizes → Chains → (ℕ → ℕ) → (ℕ → Txn) → Type 0
-Told z c stamp t = (q j : ℕ) → Turn c q → Live (t j) → seen (t j .snapshot) (c .xmin q) ≡ false → Learns z c stamp t q (t j .number)
+Told z c stamp t = (q j : ℕ) → KeyChange c q → Live (t j) → seen (t j .snapshot) (c .xmin q) ≡ false → Learns z c stamp t q (t j .number)
 
 abbrev pub ToldAt : Store → Type 0
 ToldAt s = Told (s .sizes) (s .chains) (s .index .stamp) (s .txns)
 
 -- versions stay, stamps do not fall, and who dies has stamped
 told-frame : (z : Sizes) (c : Chains) (stamp stamp′ : ℕ → ℕ) (t t′ : ℕ → Txn) → Kept t t′ → ((b : ℕ) → stamp b ≤ stamp′ b)
-    → ((q m : ℕ) → Turn c q → Live (t m) → c .xmin q ≡ t m .number → Live (t′ m) ⊎ ((j k : ℕ) → Carries c q k → t j .number < stamp′ (bucketOf z k)))
+    → ((q m : ℕ) → KeyChange c q → Live (t m) → c .xmin q ≡ t m .number → Live (t′ m) ⊎ ((j k : ℕ) → Carries c q k → t j .number < stamp′ (bucketOf z k)))
     → Told z c stamp t → Told z c stamp′ t′
 told-frame z c stamp stamp′ t t′ kp up fate g q j u l e = go (g q j u (omega (arith, kp .number j l)) (rw (kp .snapshot j l) at e))
   where
@@ -117,17 +117,18 @@ module _ (s : Store) (i : ℕ) (g : ToldAt s) where
   told-abort w a = told-frame (s .sizes) (s .chains) (s .index .stamp) (s .index .stamp) (s .txns) _ (kept-free (s .txns) i) (λ b. omega arith)
       (λ q m u l f. inl (update-elim Live (s .txns) i noTxn m (λ d. absurd (omega (arith, rw d at (w .made q m (u .from) (u .in-use) l f .0)))) (λ d. l))) g
 
-  -- a turn of the one who publishes is stamped
-  turn-stamped : WrittenAt s → Live (s .txns i) → rank (s .txns i .phase) ≡ phaseEnded → (q k : ℕ) → Turn (s .chains) q → s .chains .xmin q ≡ s .txns i .number
+  -- a change of key by the one who publishes is stamped
+  change-stamped : WrittenAt s → Live (s .txns i) → rank (s .txns i .phase) ≡ phaseEnded → (q k : ℕ) → KeyChange (s .chains) q
+      → s .chains .xmin q ≡ s .txns i .number
       → Carries (s .chains) q k → Among (bucketOf (s .sizes) k) (changedBuckets s (s .txns i))
-  turn-stamped w l a q k u f h =
+  change-stamped w l a q k u f h =
       let m = w .made q i (u .from) (u .in-use) l f in
       let r = m .1 .0 in
       let mine = w .mine i r l (m .0) (m .1 .1) in
       let key : keyAt (s .chains) q ≡ newKey (s .txns i) r = ap (keyAt (s .chains)) (sym (m .1 .2)) ∙ mine .key-is in
       let old : keyBefore (s .chains) r ≡ keyAt (s .chains) (s .chains .next q) = ap (λ p. keyAt (s .chains) (s .chains .next p)) (m .1 .2) in
       changed-has s (s .txns i) r k (m .1 .1)
-      (is-false _ (λ e. true≢false (sym (key-same _ _ (key ∙ (sym (same-key _ _ e) ∙ old))) ∙ u .turns)))
+      (is-false _ (λ e. true≢false (sym (key-same _ _ (key ∙ (sym (same-key _ _ e) ∙ old))) ∙ u .changes)))
       (⊎-elim (λ e. inr (sym key ∙ e)) (λ e. inl (old ∙ e)) h)
 
   told-publish : Numbers (s .clock) (s .txns) → BelowAt s → WrittenAt s → Live (s .txns i) → rank (s .txns i .phase) ≡ phaseEnded → ToldAt (published s i)
@@ -136,12 +137,12 @@ module _ (s : Store) (i : ℕ) (g : ToldAt s) where
       (λ m. omega arith))
       (λ q m u v f. fate q m u v f (ℕ-discrete m i)) g
     where
-      fate : (q m : ℕ) → Turn (s .chains) q → Live (s .txns m) → s .chains .xmin q ≡ s .txns m .number → Dec (m ≡ i)
+      fate : (q m : ℕ) → KeyChange (s .chains) q → Live (s .txns m) → s .chains .xmin q ≡ s .txns m .number → Dec (m ≡ i)
           → Live (published s i .txns m) ⊎ ((j k : ℕ) → Carries (s .chains) q k → s .txns j .number < published s i .index .stamp (bucketOf (s .sizes) k))
       fate q m u v f (yes d) =
           inr (λ j k h. updateAll-elim (λ o. s .txns j .number < o) (s .index .stamp) (changedBuckets s (s .txns i)) _ (bucketOf (s .sizes) k)
           (λ y. n .below j)
-          (λ y. absurd (true≢false (sym (among-member _ _ (turn-stamped w l a q k u (rw d at f) h)) ∙ y))))
+          (λ y. absurd (true≢false (sym (among-member _ _ (change-stamped w l a q k u (rw d at f) h)) ∙ y))))
       fate q m u v f (no d) = inl (rw (update-other (s .txns) i noTxn m d) v)
 
   told-begin : Numbers (s .clock) (s .txns) → BelowAt s → s .txns i .number ≡ 0 → Told (s .sizes) (s .chains) (s .index .stamp) (begun s i .txns)
@@ -177,7 +178,7 @@ module _ (s : Store) (i : ℕ) (g : ToldAt s) where
       old o = ⊎-elim
           (λ w. inl (w .0, w .1, gr .xmin-old q o ∙ w .2))
           (λ h. inr (λ k w. h k (⊎-elim (λ f. inl (sym (key-here o) ∙ f)) (λ f. inr (sym (key-under o) ∙ f)) w)))
-          (on q j (record { from = u .from; in-use = o; turns = rw (key-here o, key-under o) at (u .turns) }) v (rw (gr .xmin-old q o) at e))
+          (on q j (record { from = u .from; in-use = o; changes = rw (key-here o, key-under o) at (u .changes) }) v (rw (gr .xmin-old q o) at e))
 
       new : s .chains .used < q → Learns (s .sizes) (installed s i .chains) (s .index .stamp) (installed s i .txns) q (installed s i .txns j .number)
       new o = let w = gr .made q o (u .in-use) in
