@@ -14,8 +14,8 @@ use Rattle.model.specs.Machine.{lentAfter, at, step, run, canOpen}
 use Rattle.model.specs.Given.{number, Lives}
 use Rattle.model.specs.Holding.{Writes, ErasesNothing}
 use Rattle.model.specs.Demands.{HeadKept, CostsNothing, MarkedOpen, MarkedGives, LeastXmins, StandingRead}
-use Rattle.model.proofs.Move.{run-append}
 use Rattle.model.proofs.Promises.{finished-read, validated-read, kept-heads, nothing-costs, kept-marked, marked-stops, kept-xmin}
+use Rattle.model.proofs.Moving.{run-append}
 use Rattle.base_protocol.specs.declared.Answer.the-variants as tell
 use Rattle.base_protocol.specs.declared.Verdict.the-variants as verdict
 use Rattle.base_protocol.specs.View.{told, sizesView}

@@ -18,15 +18,16 @@ use Rattle.model.specs.Machine.{at, accepted, step, run, canOpen}
 use Rattle.model.specs.Holding.{Writes, Gets, Made, ErasesNothing}
 use Rattle.model.specs.Given.{number, Lives}
 use Rattle.model.specs.Demands.{HeadKept, CostsNothing}
+use Rattle.model.proofs.Tests.{lives-number}
 use Rattle.model.proofs.Move.{Move, stay, did-begin, did-mark, did-capture, did-collect, did-rows, did-write, did-prepare, did-install, did-end}
-use Rattle.model.proofs.Move.{did-publish, did-abort, step-move, run-inv}
+use Rattle.model.proofs.Move.{did-publish, did-abort}
+use Rattle.model.proofs.Moving.{step-move, run-inv}
 use Rattle.model.proofs.Numbers.{clock-move}
 use Rattle.model.proofs.Holders.{one-claim, repost-elim}
 use Rattle.model.proofs.Made.{gets-writes, made-writes, made-head, which-made, gets-or-not, nothing-got, versionRows-same}
 use Rattle.model.proofs.Grown.{Grown}
 use Rattle.model.proofs.Written.{keyAt-grown, installs, posted-new}
 use Rattle.model.proofs.Good.{Good, good-move, good-run, sizes-run, opened-good}
-use Rattle.model.proofs.Conditions.{lives-number}
 use Rattle.model.proofs.Refused.{prepare-0, install-0, publish-0}
 use Rattle.model.proofs.Outcomes.{done-does}
 

@@ -1,8 +1,8 @@
 -- In every reached store the index reads of a transaction are of distinct buckets: capture adds one only where the bucket has none. Assumes nothing.
-use Prim.Native.Nat.{ℕ}
 use mathlib.Core.Path.{_≡_, refl, sym}
 use mathlib.Core.Bool.{false}
 use mathlib.Core.List.{List, [], _∷_, _++_}
+use Prim.Native.Nat.{ℕ}
 use lib.Dec.{eqb}
 use borrow.Author.Tests.{eqb-false, ne-eqb}
 use Rattle.base_lists.specs.Lists.{some-of}
@@ -14,7 +14,8 @@ use Rattle.model.specs.Refusals.{Step}
 use Rattle.model.specs.Machine.{run}
 use Rattle.model.specs.Demands.{Distinct, DistinctAt}
 use Rattle.model.proofs.Move.{Move, stay, did-begin, did-mark, did-capture, did-collect, did-rows, did-write, did-prepare, did-install, did-end}
-use Rattle.model.proofs.Move.{did-publish, did-abort, run-inv}
+use Rattle.model.proofs.Move.{did-publish, did-abort}
+use Rattle.model.proofs.Moving.{run-inv}
 
 has-last : (rs : List IndexRead) (q : IndexRead) (b : ℕ) → hasRead rs b ≡ false → eqb (q .bucket) b ≡ false → hasRead (rs ++ (q ∷ [])) b ≡ false
 unfolding hasRead some-of

@@ -15,18 +15,18 @@ use Rattle.base_lists.specs.Lists.{member, join, Among, Rising}
 use Rattle.base_lists.specs.Table.{update, updateAll, update-same, update-other}
 use Rattle.base_lists.proofs.ListLaws.{and-l, and-r, and-both, same-test, member-among, among-member, pick-which, which-pick, rising-above, pick-rising}
 use Rattle.model.specs.Store.{Sizes, Txn, Store, fresh, rank, phaseEnded, sameKey}
+use Rattle.model.specs.Seeing.{Live}
 use Rattle.model.specs.Steps.{postedRows, pendingRows, keyBefore, newKey, keyBuckets, repost, changedBuckets, published, madeRows}
-use Rattle.model.specs.Refusals.{Step, rows, publish, txnOf}
+use Rattle.model.specs.Refusals.{Step, publish, txnOf}
 use Rattle.model.specs.Machine.{at, accepted, step, run, canOpen}
 use Rattle.model.specs.Upstream.{Event, Postings, postingsOf, remove, insert, postingStep, postingReplay, liveRows, Coherent, stampAt, rawCandidates}
 use Rattle.model.specs.History.{eventOf, addEvents, stepEvents, historyOver, history, changing}
-use Rattle.model.specs.Seeing.{Live}
 use Rattle.model.specs.Given.{number}
+use Rattle.model.proofs.Tests.{lives-number}
 use Rattle.model.proofs.Ruled.{Publishes, may-publish, quiet, ruled}
 use Rattle.model.proofs.Made.{made-writes}
 use Rattle.model.proofs.Written.{posted-new}
 use Rattle.model.proofs.Good.{Good, sizes-run, good-run, opened-good}
-use Rattle.model.proofs.Conditions.{lives-number}
 use Rattle.model.proofs.Refused.{publish-0}
 use Rattle.model.proofs.Outcomes.{refused-store, done-does}
 
@@ -213,7 +213,7 @@ recorded-step s a es g h = by a (ruled s a .publishes)
   where
     by : (b : Step) → Publishes s b → Recorded (step s b .store) (stepEvents s b es)
     by b (may-publish t) = published-or-not s t es g h
-    by b (quiet i e) = rw (e es) (recorded-kept s (step s b .store) es (index-kept s b i) (sizes-kept s b) h)
+    by b (quiet i e silent) = rw (e es) (recorded-kept s (step s b .store) es (index-kept s b i) (sizes-kept s b) h)
 
 recorded-run : (s : Store) (es : List Event) (more : List Step) → Good s → Recorded s es → Recorded (run s more) (historyOver es s more)
 unfolding run historyOver

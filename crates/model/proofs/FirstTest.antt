@@ -10,7 +10,7 @@ use borrow.Author.Tests.{eqb-true, eqb-false, eq-eqb, ne-eqb, ltb-true, ltb-fals
 use Rattle.base_lists.specs.Lists.{some-of, all-of, Among}
 use Rattle.base_lists.proofs.ListLaws.{and-l, and-r, some-which, which-some, none-each, is-false}
 use Rattle.model.specs.Refusals.{Refusal, refusalNumber}
-use Rattle.model.specs.Given.{_and_}
+use Rattle.model.specs.Given.{_and_, given}
 
 -- a test holds exactly when Yes does, and fails exactly when No does
 pub record Test (b : Bool) (Yes No : Type 0) : Type 0 where
@@ -132,3 +132,21 @@ pub pass : {Yes No : Type 0} (b : Bool) (r : Refusal) → Test b Yes No → refu
 unfolding code
 pass true r t d = (λ e. absurd (d e), λ n. absurd (true≢false (t .if-no n)))
 pass false r t d = (λ e. t .fails refl, λ n. refl)
+
+-- A LIST OF TESTS AS A TABLE OF LINES
+
+module _ (n : ℕ) where
+  -- a test is a line of the table
+  pub line : {Yes No P : Type 0} (b : Bool) (r : Refusal) (cs : List (Bool × Refusal)) → Test b Yes No → (No → code cs ≡ n ↔ P) → code ((b, r) ∷ cs) ≡ n
+      ↔ given (refusalNumber r) Yes n P
+  unfolding code
+  line true r cs t later = (λ e. inl (t .holds refl, sym e), λ w. ⊎-elim (λ y. sym (y .1)) (λ o. absurd (o .0 (t .holds refl))) w)
+  line false r cs t later = (
+    λ e. inr ((λ y. false≢true (t .if-yes y)), later (t .fails refl) .0 e),
+    λ w. ⊎-elim (λ y. absurd (false≢true (t .if-yes (y .0)))) (λ o. later (t .fails refl) .1 (o .1)) w,
+  )
+
+  -- where no test holds, 0 is given
+  pub no-line : code [] ≡ n ↔ (n ≡ 0)
+  unfolding code
+  no-line = (λ e. sym e, λ e. sym e)

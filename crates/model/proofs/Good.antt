@@ -18,15 +18,16 @@ use Rattle.model.specs.Shape.{within, goodSizes, goodChains, goodCounts,
 use Rattle.model.specs.Machine.{step, stepIn, run, canOpen}
 use Rattle.model.specs.Holding.{Writes, Claims, Made}
 use Rattle.model.proofs.Move.{test-live, CanPrepare, Move, stay, did-begin, did-mark, did-capture, did-collect, did-rows, did-write, did-prepare}
-use Rattle.model.proofs.Move.{did-install, did-end, did-publish, did-abort, run-inv}
+use Rattle.model.proofs.Move.{did-install, did-end, did-publish, did-abort}
+use Rattle.model.proofs.Moving.{run-inv}
 use Rattle.model.proofs.Chained.{Chained, chained-move, chained-fresh}
 use Rattle.model.proofs.Numbers.{Numbers, numbers-move, numbers-fresh, BelowAt, below-move, below-fresh}
-use Rattle.model.proofs.Room.{RoomAt, room-move, room-fresh}
-use Rattle.model.proofs.Ranges.{good-sized, RangesAt, ranges-move, ranges-fresh}
 use Rattle.model.proofs.Owned.{free}
 use Rattle.model.proofs.Holders.{claims-busy, HoldersAt, holders-move, holders-fresh}
 use Rattle.model.proofs.Made.{made-head, no-gets}
 use Rattle.model.proofs.Written.{WrittenAt, posted-free, written-move, written-fresh}
+use Rattle.model.proofs.Room.{RoomAt, room-move, room-fresh}
+use Rattle.model.proofs.Ranges.{good-sized, RangesAt, ranges-move, ranges-fresh}
 use Rattle.model.proofs.Told.{ToldAt, told-move, told-fresh}
 use Rattle.model.proofs.Reading.{ReadingAt, reading-move, reading-fresh}
 

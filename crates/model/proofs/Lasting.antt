@@ -14,7 +14,8 @@ use Rattle.model.specs.Refusals.{Step}
 use Rattle.model.specs.Machine.{step, run}
 use Rattle.model.specs.Demands.{KeptVersion}
 use Rattle.model.proofs.Move.{Move, stay, did-begin, did-mark, did-capture, did-collect, did-rows, did-write, did-prepare, did-install, did-end}
-use Rattle.model.proofs.Move.{did-publish, did-abort, run-inv}
+use Rattle.model.proofs.Move.{did-publish, did-abort}
+use Rattle.model.proofs.Moving.{run-inv}
 use Rattle.model.proofs.Chained.{Chained}
 use Rattle.model.proofs.SeeingLaws.{same-key, keyAt-pos, keyAt-key, version-in}
 use Rattle.model.proofs.Written.{installs}

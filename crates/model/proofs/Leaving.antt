@@ -24,11 +24,12 @@ use Rattle.model.specs.Given.{number, Shaped, Lives, bucketFor, stampFor
 use Rattle.model.specs.Effects.{Stamps, posts, Takes, Frees, Claimed, Unclaimed}
 use Rattle.model.specs.Leaves.{Captures, TakenAt, askerAfter, IndexAfter, HeldAfter, Leaves}
 use Rattle.model.proofs.Phases.{open-is}
+use Rattle.model.proofs.Tests.{lives-number}
 use Rattle.model.proofs.Numbers.{active-which, which-active}
 use Rattle.model.proofs.SeeingLaws.{same-key, key-same, key-bucket, read-bucket, bucket-read}
 use Rattle.model.proofs.Made.{gets-writes}
 use Rattle.model.proofs.Making.{last-write, makes-all, makes-none}
-use Rattle.model.proofs.Conditions.{lives-number, each-below}
+use Rattle.model.proofs.Conditions.{each-below}
 use Rattle.model.proofs.Refused.{capture-0, write-0, prepare-0, validate-0, install-0, publish-0, abort-0}
 use Rattle.model.proofs.Outcomes.{done-does}
 

@@ -4,8 +4,10 @@ pub mod Printed
 pub mod Caught
 pub mod Phases
 pub mod FirstTest
-pub mod Ruled
+pub mod Tests
 pub mod Move
+pub mod Ruled
+pub mod Moving
 pub mod Chained
 pub mod Distinct
 pub mod Numbers

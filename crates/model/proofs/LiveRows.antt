@@ -20,7 +20,8 @@ use Rattle.model.specs.Machine.{at, accepted, step, run}
 use Rattle.model.specs.Holding.{Writes, Made, ErasesNothing}
 use Rattle.model.specs.Given.{number}
 use Rattle.model.proofs.Move.{Move, stay, did-begin, did-mark, did-capture, did-collect, did-rows, did-write, did-prepare, did-install, did-end}
-use Rattle.model.proofs.Move.{did-publish, did-abort, step-move}
+use Rattle.model.proofs.Move.{did-publish, did-abort}
+use Rattle.model.proofs.Moving.{step-move}
 use Rattle.model.proofs.Chained.{top}
 use Rattle.model.proofs.Numbers.{in-place, active-which, which-active}
 use Rattle.model.proofs.Walk.{Finds, nothing, here, down, version-finds, finds-one, finds-head, InChain, heads, finds-alike, chains-apart}

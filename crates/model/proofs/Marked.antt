@@ -1,7 +1,7 @@
 -- A marked transaction: it is Open in every reached store, and no more work is done in it. Assumes nothing.
 use mathlib.Core.Path.{_≡_, refl, sym, ap, subst, _∙_}
 use mathlib.Core.Bool.{Bool, true, false, true≢false, _||_, not}
-use mathlib.Core.Logic.{_≢_, _⊎_, inl, inr, ⊎-elim}
+use mathlib.Core.Logic.{_≢_, inl, inr, ⊎-elim}
 use mathlib.Core.List.{List, [], _∷_}
 use Prim.Native.Nat.{ℕ, _≤_, _<_}
 use native.Mathlib.Omega.{arith}
@@ -16,11 +16,13 @@ use Rattle.model.specs.Refusals.{Step, begin, capture, collect, rows, wr
 use Rattle.model.specs.Machine.{Judged, at, actor, accepted, step, run, canOpen}
 use Rattle.model.specs.Given.{number, Shaped, Lives, Names, RightPhase, StaleStamp}
 use Rattle.model.specs.Demands.{MarkedOpen, MarkedGives, NoMoreWork}
+use Rattle.model.proofs.Tests.{lives-test, lives-number}
 use Rattle.model.proofs.Move.{Move, stay, did-begin, did-mark, did-capture, did-collect, did-rows, did-write, did-prepare, did-install, did-end}
-use Rattle.model.proofs.Move.{did-publish, did-abort, run-inv, step-move}
+use Rattle.model.proofs.Move.{did-publish, did-abort}
+use Rattle.model.proofs.Moving.{run-inv, step-move}
 use Rattle.model.proofs.Good.{Good, good-move, right-shape, opened-good}
 use Rattle.model.proofs.Cleared.{clear-number, cleared}
-use Rattle.model.proofs.Conditions.{lives-test, lives-number, the-one}
+use Rattle.model.proofs.Conditions.{the-one}
 use Rattle.model.proofs.Refused.{every-4, every-5, capture-8, write-8, abort-0}
 use Rattle.model.proofs.Outcomes.{done-does, answers, free-place}
 use Rattle.model.proofs.Exact.{given-exactly}

@@ -1,20 +1,20 @@
 -- The mark: a stale stamp sets it and nothing else, and no step takes it from a transaction that goes on. Assumes nothing.
 use mathlib.Core.Path.{_≡_, refl, sym, ap, _∙_}
 use mathlib.Core.Bool.{true, false, true≢false}
-use mathlib.Core.List.{List}
 use mathlib.Core.Logic.{_↔_, _≢_, _⊎_, inl, inr, ⊎-elim}
+use mathlib.Core.List.{List}
 use Prim.Native.Nat.{ℕ}
 use native.Mathlib.Omega.{arith}
 use native.Mathlib.Decide.{ℕ-discrete}
 use Rattle.base_lists.specs.Table.{update-same, update-other}
 use Rattle.model.specs.Store.{Txn, Store}
 use Rattle.model.specs.Seeing.{Live}
-use Rattle.model.specs.Refusals.{Refusal, Step, begin, capture, collect, rows, write, prepare, install, end, publish, validate, abort, txnOf}
+use Rattle.model.specs.Refusals.{Refusal, Step, begin, capture, txnOf}
 use Rattle.model.specs.Machine.{Answer, Done, Number, Stamp, Count, Rows, Judged, Refused, answerNumber, lentAfter, at, actor, step}
 use Rattle.model.specs.Given.{number, StaleStamp}
 use Rattle.model.specs.Leaves.{part, MarksOnly}
 use Rattle.model.specs.Demands.{MarkLives}
-use Rattle.model.proofs.Ruled.{Marks, may-mark, never, ruled}
+use Rattle.model.proofs.Ruled.{Marks, may-mark, never, begins, ends, goes-on, Lasts, ruled}
 use Rattle.model.proofs.Refused.{capture-8}
 use Rattle.model.proofs.Outcomes.{unchanged, stale-marks, lent-kept, free-place}
 use Rattle.model.proofs.Exact.{only-stale-marks}
@@ -74,26 +74,19 @@ pub refused-list : (s : Store) (a : Step) → number s a ≢ 0 → (lent : List 
 refused-list s a d lent = let r = refused-by s a d in lent-kept s a (r .0) lent (r .1)
 
 -- the one who asks keeps its mark, unless its record began or ended
-kept-part : (s : Store) (a : Step) (x : Txn) → number s a ≡ 0 → (a ≡ begin → x .number ≡ 0) → Live x → part (s .clock) 0 (x .number) a ≡ x .number
+kept-part : (a : Step) (x : Txn) → Lasts a → (a ≡ begin → x .number ≡ 0) → Live x → (clock : ℕ) → part clock 0 (x .number) a ≡ x .number
     → part false false (x .marked) a ≡ x .marked
-kept-part s begin x z f l n = absurd (omega (arith, f refl))
-kept-part s (capture t k) x z f l n = refl
-kept-part s (collect t) x z f l n = refl
-kept-part s (rows t room) x z f l n = refl
-kept-part s (write t r c) x z f l n = refl
-kept-part s (prepare t) x z f l n = refl
-kept-part s (install t) x z f l n = refl
-kept-part s (end t) x z f l n = refl
-kept-part s (publish t) x z f l n = absurd (omega arith)
-kept-part s (validate t) x z f l n = refl
-kept-part s (abort t) x z f l n = absurd (omega arith)
+kept-part a x begins f l clock n = absurd (omega (arith, f refl))
+kept-part a x (ends e) f l clock n = absurd (omega (arith, e clock (x .number)))
+kept-part a x (goes-on k) f l clock n = k (x .marked)
 
 asker-mark : (s : Store) (a : Step) → number s a ≡ 0 → Live (txnOf s (actor a))
     → step s a .store .txns (at s (actor a)) .number ≡ txnOf s (actor a) .number → step s a .store .txns (at s (actor a)) .marked ≡ txnOf s (actor a) .marked
 asker-mark s a z l n =
     let h = leaves s a z .asker-is in
     ap (λ (y : Txn). y .marked) h
-    ∙ kept-part s a (txnOf s (actor a)) z (λ e. ap (λ (b : Step). txnOf s (actor b) .number) e ∙ free-place s (ap (number s) (sym e) ∙ z)) l
+    ∙ kept-part a (txnOf s (actor a)) (ruled s a .lasts)
+    (λ e. ap (λ (b : Step). txnOf s (actor b) .number) e ∙ free-place s (ap (number s) (sym e) ∙ z)) l (s .clock)
     (sym (ap (λ (y : Txn). y .number) h) ∙ n)
 
 -- a mark lives as long as its transaction

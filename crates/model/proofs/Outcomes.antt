@@ -19,10 +19,10 @@ use Rattle.model.specs.Refusals.{ManyWrites, NoVersions, Conflict, Malfo
 use Rattle.model.specs.Shape.{rightShape}
 use Rattle.model.specs.Machine.{Rows, Refused, answerNumber, lentAfter, at, actor, isStale, gives, checks, accepted, afterRefusal, carried, step, stepIn}
 use Rattle.model.specs.Given.{_and_, number, Ready, Free, bucketFor, stampFor, documented}
-use Rattle.model.proofs.Move.{place-number}
+use Rattle.model.proofs.Tests.{place-number, lives-test, stale-test, bucket-test}
 use Rattle.model.proofs.Ruled.{refuses, ruled}
 use Rattle.model.proofs.Unrefused.{is-accepted}
-use Rattle.model.proofs.Conditions.{lives-test, stale-test, zero-unless, unless-zero, bucket-test}
+use Rattle.model.proofs.Conditions.{zero-unless, unless-zero}
 use Rattle.model.proofs.Refused.{begin-0, capture-8}
 
 -- WHAT A REFUSAL LEAVES
@@ -129,6 +129,9 @@ capture-stale s t k = (
 -- 0 is given exactly where the step is carried out
 pub done-does : (s : Store) (a : Step) → number s a ≡ 0 → step s a ≡ accepted s a
 done-does s a e = is-accepted s a (unless-zero (step s a .answer) e) .does
+
+pub unrefused : (s : Store) (a : Step) → number s a ≡ 0 → refusal (checks s a) ≡ none
+unrefused s a e = is-accepted s a (unless-zero (step s a .answer) e) .tests
 
 pub answers : (s : Store) (a : Step) → number s a ≡ 0 → step s a .answer ≡ documented s a
 answers s a e = ap (λ w. w .answer) (done-does s a e) ∙ ruled s a .as-documented

@@ -17,9 +17,9 @@ use Rattle.model.specs.Machine.{checks, actor, canOpen}
 use Rattle.model.specs.Given.{_and_, number, Shaped, Lives, Names, RightPhase, Ready, ByAnother, Free, BucketTaken, BucketsFree, RowTaken, RowsFree}
 use Rattle.model.specs.Given.{bucketFor, stampFor, Seventeenth, RoomForRead, verdictOf, Outside, openNumber}
 use Rattle.model.proofs.FirstTest.{given-among, itself, opposite, less, at-most, equal, stop, skip, stop-or, pass, code}
-use Rattle.model.proofs.Ruled.{inOrder, ruled}
-use Rattle.model.proofs.Conditions.{all-tests, number-is, shape-test, past, ready-only, cannot-open, bucket-taken, stale-test, read-test, number-found}
-use Rattle.model.proofs.Conditions.{lives-test, bucket-test, needed-test}
+use Rattle.model.proofs.Tests.{shape-test, bucket-taken, stale-test, read-test, lives-test, bucket-test, needed-test}
+use Rattle.model.proofs.Ruled.{inOrder, ruled, all-tests}
+use Rattle.model.proofs.Conditions.{number-is, past, ready-only, cannot-open, number-found}
 
 -- a step gives no other number than those of its tests
 pub gives-only : (s : Store) (a : Step) → Among (number s a) (inOrder a)

@@ -7,15 +7,16 @@ use mathlib.Core.Option.{some}
 use mathlib.Core.List.{List}
 use Prim.Native.Nat.{ℕ, _≤_, _<_}
 use native.Mathlib.Omega.{arith}
-use Rattle.base_lists.specs.Table.{update, update-elim}
 use Rattle.base_lists.specs.Lists.{Among}
+use Rattle.base_lists.specs.Table.{update, update-elim}
 use Rattle.model.specs.Store.{Sizes, Chains, Snapshot, ReadRecord, Installed, Txn, Store, noTxn, rank, phasePrepared, phaseInstalled, bucketOf}
 use Rattle.model.specs.Seeing.{seen, versionOf, keyAt, recordOf, Live}
 use Rattle.model.specs.Steps.{newTxn, hasRead, foundRows, withPhase, installed, versionRows}
 use Rattle.model.specs.Refusals.{Step}
 use Rattle.model.specs.Machine.{run}
 use Rattle.model.proofs.Move.{Move, stay, did-begin, did-mark, did-capture, did-collect, did-rows, did-write, did-prepare, did-install, did-end}
-use Rattle.model.proofs.Move.{did-publish, did-abort, run-inv}
+use Rattle.model.proofs.Move.{did-publish, did-abort}
+use Rattle.model.proofs.Moving.{run-inv}
 use Rattle.model.proofs.Numbers.{clock-move}
 use Rattle.model.proofs.SeeingLaws.{addRead-keeps, recordAll-keeps}
 use Rattle.model.proofs.Grown.{Grown}

@@ -13,14 +13,18 @@ use Rattle.base_lists.specs.Lists.{member, Among, Rising}
 use Rattle.base_lists.specs.Table.{update, update-same, update-other, update-elim}
 use Rattle.base_lists.proofs.ListLaws.{rising-above, pick-rising, member-among, among-member}
 use Rattle.model.specs.Store.{Sizes, Chains, Installed, Txn, Store, noTxn, fresh, rank, phasePrepared, phaseInstalled, phaseEnded}
-use Rattle.model.specs.Steps.{withPhase, newKey, installed, published, versionRows, madeRows}
-use Rattle.model.specs.Upstream.{Event}
-use Rattle.model.specs.Refusals.{Step, begin, capture, collect, rows, write, prepare, install, end, publish, validate, abort, txnOf}
-use Rattle.model.specs.Machine.{at, actor, accepted, step, run, canOpen}
-use Rattle.model.specs.History.{eventOf, addEvents, stepEvents, historyOver, history}
 use Rattle.model.specs.Seeing.{Live}
+use Rattle.model.specs.Steps.{withPhase, newKey, installed, published, versionRows, madeRows}
+use Rattle.model.specs.Refusals.{Step, publish, txnOf}
+use Rattle.model.specs.Machine.{at, actor, accepted, step, run, canOpen}
+use Rattle.model.specs.Upstream.{Event}
+use Rattle.model.specs.History.{eventOf, addEvents, stepEvents, historyOver, history}
 use Rattle.model.specs.Holding.{Writes, Unpublished, Gets, Made}
 use Rattle.model.specs.Given.{number, Ready}
+use Rattle.model.proofs.Tests.{lives-number}
+use Rattle.model.proofs.Move.{Move, stay, did-begin, did-mark, did-capture, did-collect, did-rows, did-write, did-prepare, did-install, did-end}
+use Rattle.model.proofs.Move.{did-publish, did-abort, publishing}
+use Rattle.model.proofs.Ruled.{Publishes, may-publish, quiet, moves, ruled}
 use Rattle.model.proofs.Chained.{Chained}
 use Rattle.model.proofs.SeeingLaws.{keyAt-key}
 use Rattle.model.proofs.Holders.{one-claim}
@@ -28,9 +32,8 @@ use Rattle.model.proofs.Made.{gets-writes, made-writes, made-head}
 use Rattle.model.proofs.Grown.{Grown}
 use Rattle.model.proofs.Written.{Mine, installs, made-new, made-old, made-still}
 use Rattle.model.proofs.Good.{Good, good-run, opened-good}
-use Rattle.model.proofs.Conditions.{lives-number}
-use Rattle.model.proofs.Refused.{capture-0, collect-0, rows-0, write-0, prepare-0, install-0, end-0, publish-0, abort-0}
-use Rattle.model.proofs.Outcomes.{refused-store, done-does, free-place}
+use Rattle.model.proofs.Refused.{publish-0}
+use Rattle.model.proofs.Outcomes.{refused-store, done-does, unrefused}
 use Rattle.model.proofs.Snapshots.{Traced, start, own, other, RowTraced, whole, waiting, TracedAt}
 
 -- events of other rows are passed over
@@ -196,22 +199,28 @@ module _ (s : Store) (es : List Event) (g : Good s) (h : TracedAt s es) where
       rw (done-does s (publish t) z) (traced-publish s es g h (at s t) (ready-live s (publish t) w) (w .2))
   published-or-not t false e = no-event s (publish t) es h (λ z. absurd (eqb-false _ _ e z))
 
+  -- a move that is no publish
+  traced-move : {i : ℕ} {s′ : Store} (m : Move s i s′) → publishing m ≡ false → TracedAt s′ es
+  traced-move (stay i) e = h
+  traced-move (did-begin i a b c d) e = early i _ (λ l. absurd (omega arith)) (omega arith)
+  traced-move (did-mark i a b) e = early i _ (λ l. omega arith) (omega arith)
+  traced-move (did-capture i k a b c) e = early i _ (λ l. omega arith) (omega arith)
+  traced-move (did-collect i a b) e = early i _ (λ l. omega arith) (omega arith)
+  traced-move (did-rows i a b c) e = early i _ (λ l. omega arith) (omega arith)
+  traced-move (did-write i w a b c d) e = early i _ (λ l. omega arith) (omega arith)
+  traced-move (did-prepare i a b c) e = early i _ (λ l. omega arith) (omega arith)
+  traced-move (did-install i a b) e = traced-install s es g h i a b
+  traced-move (did-end i a b) e = λ r. row-on (s .sizes) (s .chains) (s .txns) es r i _ refl refl (λ v. omega arith) (λ v. omega arith) (h r)
+  traced-move (did-publish i a b) e = absurd (true≢false e)
+  traced-move (did-abort i a b) e = early i _ (λ l. b) (omega arith)
+
   traced-step : (a : Step) → TracedAt (step s a .store) (stepEvents s a es)
-  unfolding stepEvents accepted
-  traced-step begin = no-event s begin es h (λ z. early (at s 0) _ (λ l. absurd (omega (arith, free-place s z))) (omega arith))
-  traced-step (capture t k) = no-event s (capture t k) es h (λ z. early (at s t) _ (λ l. omega (arith, capture-0 s t k .0 z .0 .2)) (omega arith))
-  traced-step (collect t) = no-event s (collect t) es h (λ z. early (at s t) _ (λ l. omega (arith, collect-0 s t .0 z .2)) (omega arith))
-  traced-step (rows t room) = no-event s (rows t room) es h (λ z. early (at s t) _ (λ l. omega (arith, rows-0 s t room .0 z .0 .2)) (omega arith))
-  traced-step (write t r c) = no-event s (write t r c) es h
-      (λ z. early (at s t) _ (λ l. omega (arith, write-0 s t r c .0 z .0 .2)) (omega (arith, write-0 s t r c .0 z .0 .2)))
-  traced-step (prepare t) = no-event s (prepare t) es h (λ z. early (at s t) _ (λ l. omega (arith, prepare-0 s t .0 z .0 .2)) (omega arith))
-  traced-step (install t) =
-      no-event s (install t) es h (λ z. let w = install-0 s t .0 z in traced-install s es g h (at s t) (ready-live s (install t) w) (w .2))
-  traced-step (end t) = no-event s (end t) es h
-      (λ z r. row-on (s .sizes) (s .chains) (s .txns) es r (at s t) _ refl refl (λ v. omega (arith, end-0 s t .0 z .2)) (λ v. omega arith) (h r))
-  traced-step (publish t) = published-or-not t (eqb (number s (publish t)) 0) refl
-  traced-step (validate t) = no-event s (validate t) es h (λ z. h)
-  traced-step (abort t) = no-event s (abort t) es h (λ z. early (at s t) _ (λ l. abort-0 s t .0 z .2) (omega arith))
+  unfolding stepEvents
+  traced-step a = by a (ruled s a .publishes)
+    where
+      by : (b : Step) → Publishes s b → TracedAt (step s b .store) (stepEvents s b es)
+      by b (may-publish t) = published-or-not t (eqb (number s (publish t)) 0) refl
+      by b (quiet i same silent) = rw (same es) (no-event s b es h (λ z. let e = unrefused s b z in traced-move (moves s b e) (silent e)))
 
 traced-run : (s : Store) (es : List Event) (more : List Step) → Good s → TracedAt s es → TracedAt (run s more) (historyOver es s more)
 unfolding run historyOver

@@ -19,7 +19,6 @@ use Rattle.model.specs.Contents.{Content, shownTo, liveRow, pendingWrite}
 use Rattle.model.specs.Refusals.{Step, capture, collect, rows, write, validate, txnOf}
 use Rattle.model.specs.Machine.{at, accepted, actor, step}
 use Rattle.model.specs.Given.{number}
-use Rattle.model.proofs.Move.{step-move}
 use Rattle.model.proofs.SeeingLaws.{keyAt-pos, match-version, found-which}
 use Rattle.model.proofs.Good.{Good, good-move, right-shape}
 use Rattle.model.proofs.Refused.{capture-0, rows-0, write-0, validate-0, collect-0}
@@ -28,6 +27,7 @@ use Rattle.model_in_turn.specs.Done.{returned}
 use Rattle.model_in_turn.proofs.ByItself.{rowsIn, readIn, recordRows, addBucket, Local, phased, writing}
 use Rattle.model_in_turn.proofs.Returned.{found-is, read-is, records-is}
 use Rattle.model_in_turn.proofs.Alone.{Quiet, Alone, lives, place, txn-is, unheld, shows-quiet}
+use Rattle.model.proofs.Moving.{step-move}
 
 abbrev pub bucketsOf : List IndexRead → List ℕ
 bucketsOf rs = map (λ (r : IndexRead). r .bucket) rs

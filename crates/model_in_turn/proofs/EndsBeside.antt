@@ -21,13 +21,12 @@ use Rattle.model.specs.Refusals.{rows, end}
 use Rattle.model.specs.Machine.{at, step, run}
 use Rattle.model.specs.Holding.{Writes}
 use Rattle.model.specs.Given.{number}
-use Rattle.model.proofs.Move.{Move, did-end, step-move, run-append, untouched}
+use Rattle.model.proofs.Move.{Move, did-end, untouched}
 use Rattle.model.proofs.Numbers.{in-place}
 use Rattle.model.proofs.SeeingLaws.{which-pendingRows}
 use Rattle.model.proofs.Made.{versionsOver, versions-old, versions-same}
 use Rattle.model.proofs.Sums.{sum-has}
 use Rattle.model.proofs.Good.{Good, good-move}
-use Rattle.model.proofs.Conditions.{lives-number}
 use Rattle.model.proofs.Refused.{end-0}
 use Rattle.model.proofs.LiveRows.{key-before-end, live-others, live-own}
 use Rattle.model_in_turn.specs.Done.{Entry, entryOf, entries}
@@ -40,6 +39,8 @@ use Rattle.model_in_turn.proofs.Following.{Followed, follow-others}
 use Rattle.model_in_turn.proofs.OwnSteps.{own-end}
 use Rattle.model_in_turn.proofs.Counting.{waiting, running, Counts, count-installed, live-count, ends}
 use Rattle.model_in_turn.proofs.Beside.{renamed, gone-move, serially, Beside, SideBySide}
+use Rattle.model.proofs.Moving.{step-move, run-append}
+use Rattle.model.proofs.Tests.{lives-number}
 
 -- over the same sizes by another name
 resized : (a b : Sizes) (m : ℕ → Content) (n : ℕ) (es : List Entry) (x : Local) → a ≡ b → Played a m n es x → Played b m n es x

@@ -15,7 +15,6 @@ use Rattle.model.specs.Contents.{content, contentOf, liveRow}
 use Rattle.model.specs.Refusals.{install, end, publish}
 use Rattle.model.specs.Machine.{at, accepted, step}
 use Rattle.model.specs.Given.{number, Lives}
-use Rattle.model.proofs.Move.{step-move}
 use Rattle.model.proofs.SeeingLaws.{which-pendingRows}
 use Rattle.model.proofs.Room.{used-pushAll}
 use Rattle.model.proofs.Good.{Good, good-move, right-shape}
@@ -25,6 +24,7 @@ use Rattle.model.proofs.Outcomes.{done-does}
 use Rattle.model.proofs.LiveRows.{live-set, live-install, head-shown, live-others, live-own}
 use Rattle.model_in_turn.proofs.ByItself.{shownIn, Local}
 use Rattle.model_in_turn.proofs.Alone.{Quiet, Alone, quiet-head}
+use Rattle.model.proofs.Moving.{step-move}
 
 -- quiet again: two numbers later, with a version more for each pending row that gets one, and with the writes applied
 pub record Finished (s : Store) (ws : List Write) (t : Store) : Type 0 where

@@ -17,7 +17,6 @@ use Rattle.model.specs.Refusals.{Step, begin, capture, collect, rows, write, pr
 use Rattle.model.specs.Shape.{goodSizes, rightShape}
 use Rattle.model.specs.Machine.{at, actor, step, run}
 use Rattle.model.specs.Given.{number}
-use Rattle.model.proofs.Move.{step-move, run-append}
 use Rattle.model.proofs.Sums.{sum-zero}
 use Rattle.model.proofs.Good.{Good, good-move, good-fresh, sizes-run}
 use Rattle.model.proofs.Outcomes.{refused-store}
@@ -31,6 +30,7 @@ use Rattle.model_in_turn.proofs.StepsBeside.{beside-capture, beside-col
 use Rattle.model_in_turn.proofs.StepsBeside.{beside-publish, beside-abort, beside-begin}
 use Rattle.model_in_turn.proofs.MarksBeside.{beside-stale}
 use Rattle.model_in_turn.proofs.EndsBeside.{beside-end}
+use Rattle.model.proofs.Moving.{step-move, run-append}
 
 module _ (z : Sizes) (c₀ : ℕ) where
   beside-accepted : (s : Store) (es : List Entry) → SideBySide z c₀ s es → (a : Step) → number s a ≡ 0

@@ -21,14 +21,13 @@ use Rattle.model.specs.Refusals.{Step, capture, collect, rows, write, prepare, 
 use Rattle.model.specs.Machine.{Stepped, at, actor, accepted, step}
 use Rattle.model.specs.Given.{number}
 use Rattle.model.proofs.Phases.{open-is, holding-is, collected-is, prepared-is, installed-is}
-use Rattle.model.proofs.Move.{step-move}
 use Rattle.model.proofs.Numbers.{in-place}
 use Rattle.model.proofs.SeeingLaws.{key-same, keyAt-pos, match-version, version-match, addRead-keeps, recordAll-keeps, found-which}
 use Rattle.model.proofs.Good.{Good, good-move, right-shape}
 use Rattle.model.proofs.Finished.{found-whole, found-recorded}
 use Rattle.model.proofs.Cleared.{clear-number, Cleared, cleared}
 use Rattle.model.proofs.Relied.{Relied}
-use Rattle.model.proofs.Conditions.{the-one, another}
+use Rattle.model.proofs.Conditions.{the-one}
 use Rattle.model.proofs.Refused.{capture-0, rows-0, write-0, prepare-0, validate-0, collect-0, install-0, end-0}
 use Rattle.model.proofs.Outcomes.{done-does}
 use Rattle.model.proofs.LiveRows.{live-set, live-install}
@@ -39,6 +38,8 @@ use Rattle.model_in_turn.proofs.Returned.{found-is, read-is, records-is
 use Rattle.model_in_turn.proofs.ReadsHold.{agrees}
 use Rattle.model_in_turn.proofs.Acting.{bucketsOf, has-member, buckets-add}
 use Rattle.model_in_turn.proofs.Following.{Follow, Followed}
+use Rattle.model.proofs.Moving.{step-move}
+use Rattle.model.proofs.Tests.{another}
 
 -- the buckets of index reads are needed
 needed-read : (s : Store) (x : Txn) (b : ℕ) → Among b (readBuckets x) → Among b (neededBuckets s x)

@@ -19,7 +19,6 @@ use Rattle.model.specs.Refusals.{begin, prepare, placeOf, txnOf, liveCount, res
 use Rattle.model.specs.Machine.{at, accepted, step}
 use Rattle.model.specs.Causes.{by-none}
 use Rattle.model.specs.Given.{number}
-use Rattle.model.proofs.Move.{step-move}
 use Rattle.model.proofs.Room.{reserved-none, reserves-none}
 use Rattle.model.proofs.Good.{good-move, right-shape}
 use Rattle.model.proofs.Refused.{begin-0, prepare-0}
@@ -29,6 +28,7 @@ use Rattle.model_in_turn.specs.Done.{returned}
 use Rattle.model_in_turn.proofs.ByItself.{Local, started, phased}
 use Rattle.model_in_turn.proofs.Alone.{Quiet, Alone, lives, place, txn-is, unheld, unclaimed}
 use Rattle.model_in_turn.proofs.Acting.{Acts, alone-set, phase-of}
+use Rattle.model.proofs.Moving.{step-move}
 
 module _ (s : Store) (q : Quiet s) (x : Local) (t : Store) (a : Alone s x t) where
   -- nobody is Prepared, so nothing is reserved

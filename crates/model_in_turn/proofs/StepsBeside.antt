@@ -16,9 +16,8 @@ use Rattle.model.specs.Contents.{Content, contentOf}
 use Rattle.model.specs.Refusals.{Step, begin, capture, collect, rows, write, prepare, install, publish, validate, abort, placeOf, txnOf, liveCount}
 use Rattle.model.specs.Machine.{Stepped, at, accepted, step}
 use Rattle.model.specs.Given.{number, Lives}
-use Rattle.model.proofs.Move.{Move, place-number, step-move}
+use Rattle.model.proofs.Move.{Move}
 use Rattle.model.proofs.Numbers.{kept, clock-move}
-use Rattle.model.proofs.Conditions.{lives-number}
 use Rattle.model.proofs.Refused.{begin-0, capture-0, rows-0, write-0, prepare-0, validate-0, collect-0, install-0, publish-0, abort-0}
 use Rattle.model.proofs.Outcomes.{done-does}
 use Rattle.model_in_turn.specs.Done.{returned, Entry, entryOf}
@@ -28,6 +27,8 @@ use Rattle.model_in_turn.proofs.Entries.{mine-more, none-yet}
 use Rattle.model_in_turn.proofs.Following.{Follow, Followed}
 use Rattle.model_in_turn.proofs.OwnSteps.{own-capture, own-collect, own-rows, own-write, own-validate, own-prepare, own-install}
 use Rattle.model_in_turn.proofs.Beside.{renamed, SideBySide, beside-move}
+use Rattle.model.proofs.Tests.{place-number, lives-number}
+use Rattle.model.proofs.Moving.{step-move}
 
 module _ (z : Sizes) (c₀ : ℕ) where
   -- a step that names a transaction, takes it on, and neither ends nor publishes it

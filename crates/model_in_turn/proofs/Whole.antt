@@ -13,7 +13,6 @@ use Rattle.model.specs.Contents.{Content, liveRow}
 use Rattle.model.specs.Refusals.{Step, begin, capture, collect, rows, write, prepare, install, end, publish, validate}
 use Rattle.model.specs.Machine.{Stepped, accepted, step, run}
 use Rattle.model.specs.Given.{number}
-use Rattle.model.proofs.Move.{run-append}
 use Rattle.model.proofs.Outcomes.{done-does}
 use Rattle.model_in_turn.specs.Done.{returned, Entry, entryOf, entries}
 use Rattle.model_in_turn.specs.InTurn.{stepsIn}
@@ -23,6 +22,7 @@ use Rattle.model_in_turn.proofs.Alone.{Quiet, Alone}
 use Rattle.model_in_turn.proofs.Acting.{capture-acts, collect-acts, rows-acts, write-acts, validate-acts}
 use Rattle.model_in_turn.proofs.Preparing.{prepare-acts, begin-done, begin-alone}
 use Rattle.model_in_turn.proofs.Finishing.{Finished, install-done, install-is, end-done, end-is, publish-done, publish-is, finished}
+use Rattle.model.proofs.Moving.{run-append}
 
 -- runs and their entries, one after the other
 pub entries-append : (s : Store) (xs ys : List Step) → entries s (xs ++ ys) ≡ entries s xs ++ entries (run s xs) ys

@@ -19,12 +19,13 @@ use Rattle.model.specs.Given.{_and_, number, Ready, Free, bucketFor, stampFor}
 use Rattle.model.specs.Demands.{Distinct}
 use Rattle.model.proofs.Distinct.{distinct-opened}
 use Rattle.model.proofs.Move.{Move, stay, did-begin, did-mark, did-capture, did-collect, did-rows, did-write, did-prepare, did-install, did-end, did-publish}
-use Rattle.model.proofs.Move.{did-abort, run-inv}
+use Rattle.model.proofs.Move.{did-abort}
 use Rattle.model.proofs.Numbers.{Numbers, numbers-move, numbers-fresh}
 use Rattle.model.proofs.SeeingLaws.{read-bucket, bucket-read}
-use Rattle.model.proofs.Conditions.{lives-number}
 use Rattle.model.proofs.Refused.{capture-8, capture-0}
 use Rattle.model.proofs.Outcomes.{unchanged, stale-marks, capture-marked, capture-stale, done-does}
+use Rattle.model.proofs.Moving.{run-inv}
+use Rattle.model.proofs.Tests.{lives-number}
 use Rattle.model_upstream.specs.Clauses.{noRead, UniqueReads}
 
 -- the index read that a capture of the key takes

@@ -25,15 +25,15 @@ use Rattle.model.specs.Refusals.{Step, begin, capture, collect, rows, write, pr
 use Rattle.model.specs.Machine.{at, actor, accepted, step, run, canOpen}
 use Rattle.model.specs.Given.{number, Ready}
 use Rattle.model.proofs.Ruled.{Publishes, may-publish, quiet, ruled}
-use Rattle.model.proofs.Move.{live-test, place-number}
+use Rattle.model.proofs.Move.{live-test}
 use Rattle.model.proofs.Numbers.{active-which, which-active, in-place}
 use Rattle.model.proofs.Good.{Good, good-run, opened-good}
-use Rattle.model.proofs.Conditions.{lives-number}
 use Rattle.model.proofs.Refused.{begin-0, capture-0, collect-0, rows-0, prepare-0, install-0, end-0, publish-0, abort-0}
 use Rattle.model.proofs.Outcomes.{refused-store, done-does}
 use Rattle.model_upstream.specs.Protocol.{Protocol, Action, Start, End, Snapshot, Publish, afterAction, protocolAfter, ProtocolHistory, ProtocolValid}
 use Rattle.model_upstream.specs.Protocol.{actionsOf, stepActions, actionsOver, actions}
 use Rattle.model_upstream.proofs.Protocols.{none-some, protocol-valid}
+use Rattle.model.proofs.Tests.{place-number, lives-number}
 
 -- what the protocol says of a clock, the transactions and the events so far
 pub record Follows (clock : ℕ) (t : ℕ → Txn) (es : List Event) (p : Protocol) : Type 0 where
@@ -268,7 +268,7 @@ module _ (clock : ℕ) (s : Store) (es : List Event) (acts : List Action) (g : G
     where
       by : (b : Step) → Publishes s b → eqb (number s b) 0 ≡ false → stepEvents s b es ≡ es
       by b (may-publish t) e = rw e
-      by b (quiet i q) e = q es
+      by b (quiet i q silent) e = q es
 
   pub step-beside : (a : Step) → Beside clock (step s a .store) (stepEvents s a es) (stepActions s a acts)
   unfolding stepActions

@@ -111,7 +111,7 @@ module _ (clock : ℕ) (s : Store) (es : List Event) (acts : List Action) (h : B
       by b (may-publish t) = cond-elim (GuardedStampHistory z (λ b. 0)) (eqb (number s (publish t)) 0) _ es
           (λ e. guarded-added z s (txnOf s t) (madeRows (s .sizes) (s .chains) (txnOf s t .number) (txnOf s t .writes)) es
           (λ q m. omega (arith, stamp-below q m .1)) g) (λ e. g)
-      by b (quiet i q) = rw (q es) g
+      by b (quiet i q silent) = rw (q es) g
 
 guarded-run : (z : Sizes) (clock : ℕ) (s : Store) (es : List Event) (acts : List Action) (more : List Step) → Good s → Beside clock s es acts
     → GuardedStampHistory z (λ b. 0) es → GuardedStampHistory z (λ b. 0) (historyOver es s more)

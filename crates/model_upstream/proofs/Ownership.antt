@@ -19,15 +19,16 @@ use Rattle.model.specs.Seeing.{Live}
 use Rattle.model.specs.Holding.{Wants}
 use Rattle.model.specs.Given.{number, Lives, Free, ByAnother, bucketFor}
 use Rattle.model.proofs.Move.{Move, stay, did-begin, did-mark, did-capture, did-collect, did-rows, did-write, did-prepare, did-install, did-end, did-publish}
-use Rattle.model.proofs.Move.{did-abort, place-number, step-move, run-inv}
+use Rattle.model.proofs.Move.{did-abort}
 use Rattle.model.proofs.Numbers.{Numbering, began, kept, numbering, in-place}
 use Rattle.model.proofs.Phases.{holding-is}
 use Rattle.model.proofs.Holders.{wants-busy}
 use Rattle.model.proofs.Owned.{has-none, release-elim}
 use Rattle.model.proofs.Good.{Good, good-move, good-run}
-use Rattle.model.proofs.Conditions.{lives-number}
 use Rattle.model.proofs.Refused.{capture-0}
 use Rattle.model.proofs.Outcomes.{refused-store, done-does}
+use Rattle.model.proofs.Tests.{place-number, lives-number}
+use Rattle.model.proofs.Moving.{step-move, run-inv}
 use Rattle.model_upstream.specs.Clauses.{Gone, Others}
 
 -- `valid`: who holds a bucket is live, and its number is below the clock

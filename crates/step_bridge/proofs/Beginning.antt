@@ -20,7 +20,6 @@ use Rattle.model.specs.Seeing.{live, active, activeNumbers}
 use Rattle.model.specs.Steps.{newTxn}
 use Rattle.model.specs.Refusals.{Full, NoNumbers, liveCount, refusal}
 use Rattle.model.specs.Machine.{checks, accepted, afterRefusal, carried, stepIn}
-use Rattle.model.proofs.Move.{place-number}
 use Rattle.base_protocol.specs.declared.Step.the-variants as ask
 use Rattle.base_protocol.specs.View.{asked}
 use Rattle.table.specs.Regions.{listOf}
@@ -39,6 +38,7 @@ use Rattle.step_bridge.proofs.Places.{standing, number-at, there, nowhe
 use Rattle.step_bridge.proofs.Placed.{txns-set, sized-set}
 use Rattle.step_bridge.proofs.Same.{same-store, same-from, SameAt, Same, refused-same}
 use Rattle.step_bridge.proofs.Starting.{nonzero, pick-nonzero, live-nonzero, pick-all, pick-less, keep-all}
+use Rattle.model.proofs.Tests.{place-number}
 
 -- a place's number is 0 exactly where it is not active
 and-true : (b : Bool) → (b && true) ≡ b

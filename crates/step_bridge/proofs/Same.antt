@@ -16,7 +16,7 @@ use Rattle.model.specs.Machine as machine
 use Rattle.model.specs.Machine.{rule, actor, gives, lentAfter, carried, afterRefusal, stepIn}
 use Rattle.model.specs.Given.{Names}
 use Rattle.model.proofs.Ruled.{phase-of, own-tests, ruled}
-use Rattle.model.proofs.Move.{place-number}
+use Rattle.model.proofs.Tests.{place-number}
 use Rattle.base_protocol.specs.declared.Step.{Step}
 use Rattle.base_protocol.specs.declared.Answer.{Answer}
 use Rattle.base_protocol.specs.declared.Answer.the-variants as tell
