@@ -11,8 +11,7 @@ use Rattle.base_protocol.specs.declared.Answer.{Answer}
 use Rattle.base_protocol.specs.declared.Answer.the-variants as tell
 use Rattle.base_protocol.specs.declared.Sizes.{Sizes}
 use Rattle.base_protocol.specs.View.{sizesView}
-use Rattle.table.specs.Fields.{rowWords, versionWords, bucketWords}
-use Rattle.table_sweeps.specs.Sweeps.{releaseEvery, unclaimEvery}
+use Rattle.table.specs.Fields.{rowWords, versionWords, bucketWords, releaseEvery, unclaimEvery}
 use Rattle.txn.specs.Methods.{idleOf}
 use Rattle.txn.specs.declared.Transaction.{Transaction}
 use Rattle.txn_places.specs.Places.{freePlaces}

@@ -26,8 +26,7 @@ use Rattle.base_protocol.specs.declared.Answer.{Answer}
 use Rattle.base_protocol.specs.declared.Answer.the-variants as tell
 use Rattle.base_protocol.specs.View.{asked, told, sizesView}
 use Rattle.table.specs.Words.{field}
-use Rattle.table.specs.Fields.{rowWords, bucketWords, clearHolders, clearClaims}
-use Rattle.table_sweeps.specs.Sweeps.{releaseEvery, unclaimEvery}
+use Rattle.table.specs.Fields.{rowWords, bucketWords, clearHolders, clearClaims, releaseEvery, unclaimEvery}
 use Rattle.txn.specs.View.{phaseView, rowsPart, versionsPart, bucketsPart, chainsView, indexView, heldView}
 use Rattle.txn.specs.Methods.{idleOf, refusedOf}
 use Rattle.txn.specs.declared.Transaction.{Transaction}

@@ -14,11 +14,10 @@ use Rattle.base_lists.specs.Table.{cond-elim}
 use Rattle.base_lists.proofs.ListLaws.{among-left, among-right, among-last}
 use Rattle.model.specs.Store as model
 use Rattle.model.specs.Steps.{release, freed}
-use Rattle.table.specs.Words.{field, clearFields}
+use Rattle.table.specs.Words.{field, clearFields, clearEvery}
 use Rattle.table.proofs.Parts.{part-past}
 use Rattle.txn.specs.View.{rowsPart, bucketsPart, chainsView, indexView, heldView}
-use Rattle.table.specs.Fields.{rowWords, bucketWords, clearHolders, clearClaims}
-use Rattle.table_sweeps.specs.Sweeps.{releaseEvery, unclaimEvery}
+use Rattle.table.specs.Fields.{rowWords, bucketWords, clearHolders, clearClaims, releaseEvery, unclaimEvery}
 use Rattle.step_bridge.proofs.Same.{two-held}
 use Rattle.step_bridge.proofs.Tabled.{part, InRange}
 use Rattle.step_bridge.proofs.Freeing.{freedAt, freed-release, clear-all, clear-other, clear-length}
@@ -43,16 +42,17 @@ unfolding clearFields
 clear-append w k v xs [] js = refl
 clear-append w k v xs (i ∷ is) js = clear-append w k v _ is js
 
-module _ (v : ℕ) where
-  pub release-all : (n : ℕ) (xs : List ℕ) → releaseEvery xs n v ≡ clearHolders xs v (below n)
-  unfolding releaseEvery clearFields
-  release-all zero xs = refl
-  release-all (suc n) xs = rw (release-all n xs) (sym (clear-append 2 1 v xs (below n) (n ∷ [])))
+every-below : (w k v n : ℕ) (xs : List ℕ) → clearEvery w k xs n v ≡ clearFields w k xs v (below n)
+unfolding clearEvery clearFields
+every-below w k v zero xs = refl
+every-below w k v (suc n) xs = rw (every-below w k v n xs) (sym (clear-append w k v xs (below n) (n ∷ [])))
 
-  pub unclaim-all-below : (n : ℕ) (xs : List ℕ) → unclaimEvery xs n v ≡ clearClaims xs v (below n)
-  unfolding unclaimEvery clearFields
-  unclaim-all-below zero xs = refl
-  unclaim-all-below (suc n) xs = rw (unclaim-all-below n xs) (sym (clear-append 4 1 v xs (below n) (n ∷ [])))
+-- so of every bucket, and of every row
+pub release-all : (v n : ℕ) (xs : List ℕ) → releaseEvery xs n v ≡ clearHolders xs v (below n)
+release-all = every-below bucketWords 1
+
+pub unclaim-all-below : (v n : ℕ) (xs : List ℕ) → unclaimEvery xs n v ≡ clearClaims xs v (below n)
+unclaim-all-below = every-below rowWords 1
 
 -- an entry past the part carries no number
 part-below : (s k n : ℕ) (xs : List ℕ) (v : ℕ) → 1 ≤ v → (j : ℕ) → field s k (part s n xs) j ≡ v → Among j (below n)
@@ -76,9 +76,9 @@ module _ (z : model.Sizes) (v : ℕ) (l : 1 ≤ v) (rows buckets : List ℕ) whe
       rw (release-all v (z .buckets) buckets, unclaim-all-below v (z .rows) rows)
       (two-held _ _ _ _
       (clear-all bucketWords 1 (omega arith) (z .buckets) v buckets (below (z .buckets)) (below-in (z .buckets)) b
-      ∙ freed-release v _ (below (z .buckets)) (part-below 2 1 (z .buckets) buckets v l))
+      ∙ freed-release v _ (below (z .buckets)) (part-below bucketWords 1 (z .buckets) buckets v l))
       (clear-all rowWords 1 (omega arith) (z .rows) v rows (below (z .rows)) (below-in (z .rows)) r
-      ∙ freed-release v _ (below (z .rows)) (part-below 4 1 (z .rows) rows v l)))
+      ∙ freed-release v _ (below (z .rows)) (part-below rowWords 1 (z .rows) rows v l)))
 
   pub swept-chains : (versions : List ℕ) (used : ℕ)
       → chainsView (rowsPart z (unclaimEvery rows (z .rows) v)) versions used ≡ chainsView (rowsPart z rows) versions used

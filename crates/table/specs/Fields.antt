@@ -1,7 +1,7 @@
 -- The fields of the three tables: what stands at which word of an entry.
 use Prim.Native.Nat.{ℕ}
 use mathlib.Core.List.{List}
-use Rattle.table.specs.Words.{field, setField, setFields, clearFields}
+use Rattle.table.specs.Words.{field, setField, setFields, clearField, clearFields, clearEvery}
 
 -- a row, from 0 up
 abbrev pub rowWords : ℕ
@@ -21,12 +21,19 @@ claimOf = field rowWords 1
 abbrev pub setClaim : List ℕ → ℕ → ℕ → List ℕ
 setClaim = setField rowWords 1
 
--- of every row of a list; 0 where it was this number
+-- of every row of a list
 abbrev pub setClaims : List ℕ → ℕ → List ℕ → List ℕ
 setClaims = setFields rowWords 1
 
+-- 0 where it was this number: of one row, of every row of a list, of every row below a count
+abbrev pub unclaimed : List ℕ → ℕ → ℕ → List ℕ
+unclaimed = clearField rowWords 1
+
 abbrev pub clearClaims : List ℕ → ℕ → List ℕ → List ℕ
 clearClaims = clearFields rowWords 1
+
+abbrev pub unclaimEvery : List ℕ → ℕ → ℕ → List ℕ
+unclaimEvery = clearEvery rowWords 1
 
 -- 0 where the row has no posting
 abbrev pub postedOf : List ℕ → ℕ → ℕ
@@ -110,9 +117,16 @@ holderOf = field bucketWords 1
 abbrev pub setHolder : List ℕ → ℕ → ℕ → List ℕ
 setHolder = setField bucketWords 1
 
--- of every bucket of a list; 0 where it was this number
+-- of every bucket of a list
 abbrev pub setHolders : List ℕ → ℕ → List ℕ → List ℕ
 setHolders = setFields bucketWords 1
 
+-- 0 where it was this number: of one bucket, of every bucket of a list, of every bucket below a count
+abbrev pub released : List ℕ → ℕ → ℕ → List ℕ
+released = clearField bucketWords 1
+
 abbrev pub clearHolders : List ℕ → ℕ → List ℕ → List ℕ
 clearHolders = clearFields bucketWords 1
+
+abbrev pub releaseEvery : List ℕ → ℕ → ℕ → List ℕ
+releaseEvery = clearEvery bucketWords 1

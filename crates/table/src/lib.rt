@@ -2,10 +2,10 @@
 ghost use mathlib.Core.Path.{_≡_};
 ghost use Prim.Native.Nat.{_≤_};
 ghost use lib.ListN.{getD, set, take};
-ghost use Rattle.table.specs.Words.{field, setField, setFields};
+ghost use Rattle.table.specs.Words.{field, setField, setFields, clearField, clearEvery};
 ghost use Rattle.table.specs.Fields.{xminOf, setXmin, xmaxOf, setXmax, nextOf, setNext, keyedOf, setKeyed, keyOf, setKey, payloadOf, setPayload};
-ghost use Rattle.table.specs.Fields.{headOf, setHead, claimOf, setClaim, postedOf, setPosted, postedKeyOf, setPostedKey};
-ghost use Rattle.table.specs.Fields.{stampOf, setStamp, setStamps, holderOf, setHolder, setHolders};
+ghost use Rattle.table.specs.Fields.{headOf, setHead, claimOf, setClaim, unclaimed, unclaimEvery, postedOf, setPosted, postedKeyOf, setPostedKey};
+ghost use Rattle.table.specs.Fields.{stampOf, setStamp, setStamps, holderOf, setHolder, setHolders, released, releaseEvery};
 
 pub mod lists; // lists.rt: the lists of a transaction, in its slot
 
@@ -70,6 +70,28 @@ fn set_fields(xs: &mut [u64], w: usize, k: usize, list: &[u64], n: usize, v: u64
     }
 }
 
+// Field k of entry i becomes 0 where it was v.
+fn clear_field(xs: &mut [u64], w: usize, k: usize, i: usize, v: u64)
+    requires { ⌜ (1 ≤ w) × (w ≤ 8) × (k ≤ 8) ⌝ }
+    ensures { λ _. ⌜ now (xs .exit) ≡ clearField w k (now (xs .entry)) i v ⌝ }
+{
+    if field_at(xs, w, k, i) == v {
+        set_field(xs, w, k, i, 0);
+    }
+}
+
+// The same at each entry below n.
+fn clear_every(xs: &mut [u64], w: usize, k: usize, n: u64, v: u64)
+    requires { ⌜ (1 ≤ w) × (w ≤ 8) × (k ≤ 8) ⌝ }
+    ensures { λ _. ⌜ now (xs .exit) ≡ clearEvery w k (now (xs .entry)) n v ⌝ }
+{
+    let mut i: u64 = 0;
+    while i < n {
+        clear_field(xs, w, k, i as usize, v);
+        i += 1;
+    }
+}
+
 // Rows: head, claim, posted, posted key.
 pub fn head_at(rows: &[u64], r: usize) -> u64
     ensures { λ x. ⌜ x ≡ headOf (now (rows .entry)) r ⌝ }
@@ -93,6 +115,20 @@ pub fn set_claim(rows: &mut [u64], r: usize, x: u64)
     ensures { λ _. ⌜ now (rows .exit) ≡ setClaim (now (rows .entry)) r x ⌝ }
 {
     set_field(rows, ROW_WORDS, 1, r, x);
+}
+
+// A row is freed where its claim is the number.
+pub fn unclaim(rows: &mut [u64], r: usize, number: u64)
+    ensures { λ _. ⌜ now (rows .exit) ≡ unclaimed (now (rows .entry)) r number ⌝ }
+{
+    clear_field(rows, ROW_WORDS, 1, r, number);
+}
+
+// Every row below the count whose claim is the number becomes free.
+pub fn unclaim_every(rows: &mut [u64], count: u64, number: u64)
+    ensures { λ _. ⌜ now (rows .exit) ≡ unclaimEvery (now (rows .entry)) count number ⌝ }
+{
+    clear_every(rows, ROW_WORDS, 1, count, number);
 }
 
 pub fn posted_at(rows: &[u64], r: usize) -> u64
@@ -229,4 +265,18 @@ pub fn set_holders(buckets: &mut [u64], list: &[u64], n: usize, x: u64)
     ensures { λ _. ⌜ now (buckets .exit) ≡ setHolders (now (buckets .entry)) x (take n (now (list .entry))) ⌝ }
 {
     set_fields(buckets, BUCKET_WORDS, 1, list, n, x);
+}
+
+// A bucket is freed where its holder is the number.
+pub fn release(buckets: &mut [u64], b: usize, number: u64)
+    ensures { λ _. ⌜ now (buckets .exit) ≡ released (now (buckets .entry)) b number ⌝ }
+{
+    clear_field(buckets, BUCKET_WORDS, 1, b, number);
+}
+
+// Every bucket below the count whose holder is the number becomes free.
+pub fn release_every(buckets: &mut [u64], count: u64, number: u64)
+    ensures { λ _. ⌜ now (buckets .exit) ≡ releaseEvery (now (buckets .entry)) count number ⌝ }
+{
+    clear_every(buckets, BUCKET_WORDS, 1, count, number);
 }

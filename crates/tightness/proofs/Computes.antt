@@ -5,7 +5,7 @@ use Rattle.model.specs.Log as log
 use Rattle.model.specs.Report.{digitsStep, digitsFor, decimal, spaced, line}
 use Rattle.model.specs.Replay.{writeThen, recordThen, replayFor, replayFrom, replay}
 use Rattle.base_numbers.specs.Numbers.{oneMore}
-use Rattle.table.specs.Words.{field, setField, setFields, clearFields}
+use Rattle.table.specs.Words.{field, setField, setFields, clearFields, clearEvery}
 use Rattle.table.specs.Regions.{words, listOf}
 use Rattle.table_buckets.specs.Buckets.{canonicalOf}
 use Rattle.table_scans.specs.Scans.{firstFrom, lastBelow}
@@ -24,7 +24,6 @@ use Rattle.read_match.specs.Matching.{matchOf}
 use Rattle.read_gather.specs.Gathering.{only}
 use Rattle.read_record.specs.Recording.{planned, recordsFor, putRecords, recordedOf}
 use Rattle.read.specs.Rows.{matchedRows, newRecords, readingOf, rowsOf}
-use Rattle.table_sweeps.specs.Sweeps.{releaseEvery, unclaimEvery}
 use Rattle.step.specs.Steps.{publishStep, stepOf}
 use Rattle.step.specs.Words.{placeFor, movedBy}
 use Rattle.shape_txn.specs.Fits.{rangesFit, headsFit, txnFits, placeFits}
@@ -41,5 +40,5 @@ unfolding model.computes log.number log.widths log.total log.whole log.readRecor
     keysNeed firstWhere oneMore rowsListed pendingInto kept versionsInto lastWriteOf versionStored pushedRow pushedRows toInstall installOf
     readsTakenIn validateOf versionsIn reservedIn lacks neededInto prepareWith prepareOf endOf postedOne postedAll stampedIn neededIn freedIn publishOf
     abortOf keepActive keepAll snapshotOf spent beginOf matchOf only planned recordsFor putRecords recordedOf matchedRows newRecords readingOf rowsOf
-    releaseEvery unclaimEvery publishStep stepOf placeFor movedBy rangesFit headsFit txnFits placeFits tablesFit sweptFor cleared openOf decodedOf writtenAt
+    clearEvery publishStep stepOf placeFor movedBy rangesFit headsFit txnFits placeFits tablesFit sweptFor cleared openOf decodedOf writtenAt
 computes = tt

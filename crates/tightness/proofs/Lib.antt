@@ -6,7 +6,7 @@ pub mod Tables
 pub mod Buckets
 pub mod Scans
 pub mod Chain
-pub mod Sweeps
+pub mod TableFreed
 pub mod Postings
 pub mod Record
 pub mod Places
