@@ -1,5 +1,5 @@
 # `make help` lists the targets.
-KIT := rattle-kit-5b logic 064da1ca440f63e7
+KIT := rattle-kit-5b-plain logic 097e4c862dff5811
 LOGIC := $(lastword $(KIT))
 TARGET ?= $(shell uname -m)-unknown-linux-gnu
 STEPS ?= 10000000
