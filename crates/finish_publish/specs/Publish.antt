@@ -42,10 +42,10 @@ stampedIn rows versions buckets lists e t = setStamps buckets (e .clock) (front 
 
 -- what a transaction needs of the buckets, and its holders freed
 unfoldable pub neededIn : List ℕ → List ℕ → List ℕ → ℕ → Transaction → List ℕ
-neededIn rows versions lists count t = (bucketIn (phaseView (t .phase)) ∷ []) ++ readsNeed lists t ++ writesNeed rows versions lists count t
+neededIn rows versions lists bucketCount t = (bucketIn (phaseView (t .phase)) ∷ []) ++ readsNeed lists t ++ writesNeed rows versions lists bucketCount t
 
 unfoldable pub freedIn : List ℕ → List ℕ → List ℕ → List ℕ → ℕ → Transaction → List ℕ
-freedIn rows versions buckets lists count t = clearHolders buckets (t .number) (front (listedIn mostHeld (neededIn rows versions lists count t)))
+freedIn rows versions buckets lists bucketCount t = clearHolders buckets (t .number) (front (listedIn mostHeld (neededIn rows versions lists bucketCount t)))
 
 -- an answer, rows and buckets
 pub record Left : Type 0 where
@@ -65,10 +65,10 @@ publishOf rows versions buckets lists e t =
 
 -- abort: wrong phase; else buckets and claims are freed, and the record ends
 unfoldable pub abortOf : List ℕ → List ℕ → List ℕ → List ℕ → ℕ → Transaction → Left
-abortOf rows versions buckets lists count t =
+abortOf rows versions buckets lists bucketCount t =
     cond (leb phaseInstalled (rank (phaseView (t .phase)))) (record { reply = refusedOf t (refusalNumber WrongPhase); rows = rows; buckets = buckets })
     (record {
       reply = record { answer = tell.Done; txn = idleOf (t .slot) };
       rows = clearClaims rows (t .number) (writtenBy lists t);
-      buckets = freedIn rows versions buckets lists count t;
+      buckets = freedIn rows versions buckets lists bucketCount t;
     })

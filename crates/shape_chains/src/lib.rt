@@ -6,11 +6,11 @@ ghost use mathlib.Core.Path.{_≡_};
 ghost use Rattle.shape_chains.specs.Links.{headsIn, nextsFall, chainsFit};
 
 // Whether heads are at most the last used pointer.
-fn heads_in(rows: &[u64], count: u64, used: u64) -> bool
-    ensures { λ r. ⌜ r ≡ headsIn (now (rows .entry)) count used ⌝ }
+fn heads_in(rows: &[u64], row_count: u64, used: u64) -> bool
+    ensures { λ r. ⌜ r ≡ headsIn (now (rows .entry)) «row_count» used ⌝ }
 {
     let mut row: u64 = 0;
-    while row < count {
+    while row < row_count {
         if used < head_at(rows, row as usize) {
             return false;
         }

@@ -31,7 +31,7 @@ module _ (w k v : ℕ) (xs : List ℕ) where
   unfolding setFields
   set-none l e = rw e
 
-  pub clear-next : (xs′ l rest : List ℕ) (x : ℕ) → l ≡ x ∷ rest → xs′ ≡ clearFields w k xs v (x ∷ []) → clearFields w k xs v l ≡ clearFields w k xs′ v rest
+  pub clear-next : (xs′ l rest : List ℕ) (x : ℕ) → l ≡ x ∷ rest → xs′ ≡ clearField w k xs x v → clearFields w k xs v l ≡ clearFields w k xs′ v rest
   unfolding clearFields
   clear-next xs′ l rest x e d = rw (e, d)
 

@@ -125,10 +125,10 @@ pub fn unclaim(rows: &mut [u64], r: usize, number: u64)
 }
 
 // Every row below the count whose claim is the number becomes free.
-pub fn unclaim_every(rows: &mut [u64], count: u64, number: u64)
-    ensures { λ _. ⌜ now (rows .exit) ≡ unclaimEvery (now (rows .entry)) count number ⌝ }
+pub fn unclaim_every(rows: &mut [u64], row_count: u64, number: u64)
+    ensures { λ _. ⌜ now (rows .exit) ≡ unclaimEvery (now (rows .entry)) «row_count» number ⌝ }
 {
-    clear_every(rows, ROW_WORDS, 1, count, number);
+    clear_every(rows, ROW_WORDS, 1, row_count, number);
 }
 
 pub fn posted_at(rows: &[u64], r: usize) -> u64
@@ -275,8 +275,8 @@ pub fn release(buckets: &mut [u64], b: usize, number: u64)
 }
 
 // Every bucket below the count whose holder is the number becomes free.
-pub fn release_every(buckets: &mut [u64], count: u64, number: u64)
-    ensures { λ _. ⌜ now (buckets .exit) ≡ releaseEvery (now (buckets .entry)) count number ⌝ }
+pub fn release_every(buckets: &mut [u64], bucket_count: u64, number: u64)
+    ensures { λ _. ⌜ now (buckets .exit) ≡ releaseEvery (now (buckets .entry)) «bucket_count» number ⌝ }
 {
-    clear_every(buckets, BUCKET_WORDS, 1, count, number);
+    clear_every(buckets, BUCKET_WORDS, 1, bucket_count, number);
 }

@@ -35,11 +35,11 @@ front l = take (l .n) (l .out)
 
 -- the bucket of a key; no key needs none
 unfoldable pub bucketsFor : ℕ → Key → List ℕ
-bucketsFor count k = cond (eqb (k .keyed) 0) [] ((k .key % count) ∷ [])
+bucketsFor bucketCount k = cond (eqb (k .keyed) 0) [] ((k .key % bucketCount) ∷ [])
 
 -- the buckets of a row's old and new key
 unfoldable pub keysNeed : ℕ → Keys → List ℕ
-keysNeed count k = bucketsFor count (k .old) ++ bucketsFor count (k .new)
+keysNeed bucketCount k = bucketsFor bucketCount (k .old) ++ bucketsFor bucketCount (k .new)
 
 -- the buckets of the index reads
 abbrev pub readsNeed : List ℕ → Transaction → List ℕ
@@ -54,14 +54,14 @@ writtenBy lists t = rowsWritten lists (t .slot) (t .«writes_n»)
 
 -- the buckets of the old and the new key of a pending row, and of every one
 abbrev pub writeNeeds : List ℕ → List ℕ → List ℕ → ℕ → Transaction → ℕ → List ℕ
-writeNeeds rows versions lists count t r = keysNeed count (keysOf rows versions lists t r)
+writeNeeds rows versions lists bucketCount t r = keysNeed bucketCount (keysOf rows versions lists t r)
 
 abbrev pub writesNeed : List ℕ → List ℕ → List ℕ → ℕ → Transaction → List ℕ
-writesNeed rows versions lists count t = join (writeNeeds rows versions lists count t) (writtenBy lists t)
+writesNeed rows versions lists bucketCount t = join (writeNeeds rows versions lists bucketCount t) (writtenBy lists t)
 
 -- the same, only where the transaction made a version and old and new key differ
 abbrev pub writeChanges : List ℕ → List ℕ → List ℕ → ℕ → Transaction → ℕ → List ℕ
-writeChanges rows versions lists count t r = keysNeed count (changedKeys rows versions lists t r)
+writeChanges rows versions lists bucketCount t r = keysNeed bucketCount (changedKeys rows versions lists t r)
 
 abbrev pub writesChange : List ℕ → List ℕ → List ℕ → ℕ → Transaction → List ℕ
-writesChange rows versions lists count t = join (writeChanges rows versions lists count t) (writtenBy lists t)
+writesChange rows versions lists bucketCount t = join (writeChanges rows versions lists bucketCount t) (writtenBy lists t)

@@ -9,8 +9,9 @@ use table::lists::write_key_at;
 use table::lists::write_keyed_at;
 use table::lists::write_row_at;
 use table::next_at;
+use table::release;
 use table::set_claim;
-use table::set_holder;
+use table::unclaim;
 use table::xmin_at;
 use table_scans::Found;
 use table_scans::latest_pending;
@@ -21,7 +22,6 @@ use txn::bucket_of;
 use txn::by_another;
 use txn::phase_rank;
 ghost use mathlib.Core.Path.{_≡_};
-ghost use mathlib.Core.List.{[], _∷_};
 ghost use lib.ListN.{take};
 ghost use Rattle.model.specs.Store.{sameKey};
 ghost use Rattle.txn_needs.specs.Keys.{getsVersionOf, headedBy, keyOf, versionKey, isInstalled, oldKeyOf, newKeyOf, keysOf, changedKeys};
@@ -288,15 +288,6 @@ pub fn any_claimed(rows: &[u64], lists: &[u64], t: Transaction) -> bool
     false
 }
 
-// One bucket is freed where it carries the number.
-fn free(buckets: &mut [u64], bucket: u64, number: u64)
-    ensures { λ _. ⌜ now (buckets .exit) ≡ clearHolders (now (buckets .entry)) number (bucket ∷ []) ⌝ }
-{
-    if holder_at(buckets, bucket as usize) == number {
-        set_holder(buckets, bucket as usize, 0);
-    }
-}
-
 // Frees those of the first n buckets of a list that carry the number.
 pub fn release_all(buckets: &mut [u64], list: &[u64], n: usize, number: u64)
     ensures { λ _. ⌜ now (buckets .exit) ≡ clearHolders (now (buckets .entry)) number (take n (now (list .entry))) ⌝ }
@@ -306,7 +297,7 @@ pub fn release_all(buckets: &mut [u64], list: &[u64], n: usize, number: u64)
         if n <= i {
             return;
         }
-        free(buckets, list[i], number);
+        release(buckets, list[i] as usize, number);
         i += 1;
     }
 }
@@ -322,22 +313,13 @@ pub fn claim_all(rows: &mut [u64], lists: &[u64], t: Transaction)
     }
 }
 
-// One row's claim is freed where it carries the number.
-fn unclaim(rows: &mut [u64], row: u64, number: u64)
-    ensures { λ _. ⌜ now (rows .exit) ≡ clearClaims (now (rows .entry)) number (row ∷ []) ⌝ }
-{
-    if claim_at(rows, row as usize) == number {
-        set_claim(rows, row as usize, 0);
-    }
-}
-
 // Frees the claims of those pending rows that carry the number.
 pub fn unclaim_all(rows: &mut [u64], lists: &[u64], t: Transaction)
     ensures { λ _. ⌜ now (rows .exit) ≡ clearClaims (now (rows .entry)) (t .number) (writtenBy (now (lists .entry)) t) ⌝ }
 {
     let mut i: u32 = 0;
     while i < t.writes_n {
-        unclaim(rows, write_row_at(lists, t.slot, i), t.number);
+        unclaim(rows, write_row_at(lists, t.slot, i) as usize, t.number);
         i += 1;
     }
 }

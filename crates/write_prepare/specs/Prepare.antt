@@ -51,7 +51,7 @@ lacks rows versions lists e prepared t =
 
 -- the buckets that prepare needs, listed
 unfoldable pub neededInto : List ℕ → List ℕ → List ℕ → ℕ → Transaction → List ℕ → Listed
-neededInto rows versions lists count t out = pushAll (record { out = out; n = 0 }) (readsNeed lists t ++ writesNeed rows versions lists count t)
+neededInto rows versions lists bucketCount t out = pushAll (record { out = out; n = 0 }) (readsNeed lists t ++ writesNeed rows versions lists bucketCount t)
 
 -- an answer, rows and buckets
 pub record Left : Type 0 where

@@ -14,11 +14,11 @@ use Rattle.shape_chains.proofs.heads_in.Statement.{statement}
 use Rattle.shape_chains.proofs.heads_in.Tie as tie
 
 abbrev Inv-loop : tie.InvT-loop
-Inv-loop rows count used row₀ row =
-    (row ≤ count) × (headsIn rows row used ≡ true)
+Inv-loop rows «row_count» used row₀ row =
+    (row ≤ «row_count») × (headsIn rows row used ≡ true)
 
 abbrev μ-loop : tie.MeasureT-loop
-μ-loop rows count used row₀ row = count - row
+μ-loop rows «row_count» used row₀ row = «row_count» - row
 
 loop-holds : tie.Need-loop-holds Inv-loop μ-loop
 loop-holds c = (search needs, every-none _)
@@ -30,7 +30,7 @@ returns : tie.Need-returns Inv-loop μ-loop
 returns c =
     let at = c .before .before .before in
     let a = at .before .before .args in
-    every-fails (λ r. leb (headOf (a .rows .now) r) (a .used)) (at .loop .row) (a .count) (omega arith)
+    every-fails (λ r. leb (headOf (a .rows .now) r) (a .used)) (at .loop .row) (a .row-count) (omega arith)
     (rw (← c .before .head-at .ensures) (lt-leb _ _ (c .if1 .taken)))
 
 add-row : tie.Need-add-row Inv-loop μ-loop
@@ -52,7 +52,7 @@ returns-2 : tie.Need-returns-2 Inv-loop μ-loop
 returns-2 c =
     let at = c .before in
     let a = at .before .before .args in
-    every-done (λ r. leb (headOf (a .rows .now) r) (a .used)) (at .loop .row) (a .count) (omega arith) (omega arith) (at .loop .inv .1)
+    every-done (λ r. leb (headOf (a .rows .now) r) (a .used)) (at .loop .row) (a .row-count) (omega arith) (omega arith) (at .loop .inv .1)
 
 pub heads-in-spec : {M : Type 1} → statement M
 heads-in-spec =

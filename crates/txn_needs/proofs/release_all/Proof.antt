@@ -2,11 +2,11 @@
 -- Assumes nothing.
 use Prim.Native.Nat.{ℕ, _+_, _-_, _≤_, _<_, min}
 use mathlib.Core.Path.{_≡_, refl, sym, _∙_}
-use mathlib.Core.List.{List, [], _∷_}
+use mathlib.Core.List.{List}
 use native.Mathlib.Omega.{arith}
 use lib.ListN.{length, take, drop, getD}
 use borrow.Author.Needs.{needs}
-use Rattle.table.specs.Fields.{clearHolders}
+use Rattle.table.specs.Fields.{released, clearHolders}
 use Rattle.table.proofs.Each.{left-next, left-end, clear-next, clear-none}
 use Rattle.txn_needs.proofs.release_all.Statement.{statement}
 use Rattle.txn_needs.proofs.release_all.Tie as tie
@@ -28,7 +28,7 @@ passed c h =
 
 -- one bucket more
 again : (c : tie.At-loop Inv-loop μ-loop) → let a = c .before .before .before .args in c .loop .i < a .n → c .loop .i < length (a .list .now)
-    → (buckets : List ℕ) → buckets ≡ clearHolders (c .loop .buckets) (a .number) (getD (a .list .now) (c .loop .i) 0 ∷ [])
+    → (buckets : List ℕ) → buckets ≡ released (c .loop .buckets) (getD (a .list .now) (c .loop .i) 0) (a .number)
     → clearHolders (a .buckets .now) (a .number) (take (a .n) (a .list .now))
     ≡ clearHolders buckets (a .number) (drop (c .loop .i + 1) (take (a .n) (a .list .now)))
 again c h k buckets e =
@@ -44,14 +44,14 @@ same-length c = c .before .before .loop .inv .1
 returns : tie.Need-returns Inv-loop μ-loop
 returns c = passed (c .before .before) (omega arith)
 
-mul-free : tie.Need-mul-free Inv-loop μ-loop
-mul-free c = search needs
+mul-release : tie.Need-mul-release Inv-loop μ-loop
+mul-release c = search needs
 
-shared-slice-read-free : tie.Need-shared-slice-read-free Inv-loop μ-loop
-shared-slice-read-free c = search needs
+shared-slice-read-release : tie.Need-shared-slice-read-release Inv-loop μ-loop
+shared-slice-read-release c = search needs
 
-free-requires : tie.Need-free-requires Inv-loop μ-loop
-free-requires c κs = search needs
+release-requires : tie.Need-release-requires Inv-loop μ-loop
+release-requires c κs = search needs
 
 add-i : tie.Need-add-i Inv-loop μ-loop
 add-i c = search needs
@@ -63,7 +63,7 @@ loop-again : tie.Need-loop-again Inv-loop μ-loop
 loop-again c =
     let freed = c .before .before in
     let at = freed .before .before .before .before .before in
-    (omega arith, freed .free .kept .0 ∙ at .loop .inv .1, again at (omega arith) (omega arith) _ (freed .free .ensures))
+    (omega arith, freed .release .kept .0 ∙ at .loop .inv .1, again at (omega arith) (omega arith) _ (freed .release .ensures))
 
 same-length-2 : tie.Need-same-length-2 Inv-loop μ-loop
 same-length-2 c = c .before .loop .inv .1
@@ -80,9 +80,9 @@ release-all-spec =
     loop-holds
     same-length
     returns
-    mul-free
-    shared-slice-read-free
-    free-requires
+    mul-release
+    shared-slice-read-release
+    release-requires
     add-i
     loop-less
     loop-again

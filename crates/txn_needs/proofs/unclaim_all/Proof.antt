@@ -2,11 +2,11 @@
 -- Assumes nothing.
 use Prim.Native.Nat.{ℕ, _+_, _-_, _≤_, _<_}
 use mathlib.Core.Path.{_≡_, refl, sym, _∙_}
-use mathlib.Core.List.{List, [], _∷_}
+use mathlib.Core.List.{List}
 use native.Mathlib.Omega.{arith}
 use lib.ListN.{length, drop}
 use borrow.Author.Needs.{needs}
-use Rattle.table.specs.Fields.{clearClaims}
+use Rattle.table.specs.Fields.{unclaimed, clearClaims}
 use Rattle.table.specs.Lists.{writeAt}
 use Rattle.table.proofs.Each.{clear-next, clear-none}
 use Rattle.txn_needs.specs.Needs.{writtenBy}
@@ -35,7 +35,7 @@ passed c h =
 
 -- one write more
 again : (c : tie.At-loop Inv-loop μ-loop) → let a = entered c .args in c .loop .i < a .t .«writes_n»
-    → (row : ℕ) → row ≡ writeAt (a .lists .now) (a .t .slot) (c .loop .i) .row → (rows : List ℕ) → rows ≡ clearClaims (c .loop .rows) (a .t .number) (row ∷ [])
+    → (row : ℕ) → row ≡ writeAt (a .lists .now) (a .t .slot) (c .loop .i) .row → (rows : List ℕ) → rows ≡ unclaimed (c .loop .rows) row (a .t .number)
     → clearClaims (a .rows .now) (a .t .number) (writtenBy (a .lists .now) (a .t))
     ≡ clearClaims rows (a .t .number) (drop (c .loop .i + 1) (writtenBy (a .lists .now) (a .t)))
 again c h row e rows d =
