@@ -27,7 +27,7 @@ use Rattle.table_scans.specs.declared.Found.{Found}
 use Rattle.table_scans.specs.declared.Found.the-variants.{At, Nothing}
 use Rattle.txn.specs.Methods.{idleOf}
 use Rattle.txn.specs.declared.Transaction.{Transaction}
-use Rattle.shape_txn.specs.Fits.{countsFit}
+use Rattle.shape_txn.specs.TxnShape.{countsFit}
 use Rattle.txn_places.specs.Places.{missesOf}
 use Rattle.read_match.specs.Matching.{Look, look, matchBy, matchOf}
 use Rattle.read.specs.Rows.{matchedRows, through, newRecords, roomFor, readingOf, readingBy, rowsOf}

@@ -36,7 +36,7 @@ use Rattle.txn_begin.specs.Begin.{spent, beginOf}
 use Rattle.finish_install.specs.Install.{installOf}
 use Rattle.finish_publish.specs.Publish.{endOf, publishOf, abortOf}
 use Rattle.txn_needs.specs.Needs.{front}
-use Rattle.txn_needs.specs.Holders.{anyTaken, anyClaimed}
+use Rattle.txn_needs.specs.Taken.{anyTaken, anyClaimed}
 use Rattle.write_verdict.specs.Judged.{verdictOf}
 use Rattle.write_prepare.specs.Prepare.{readsTakenIn, validateOf, isClear, lacks, neededInto, mostNeeded, prepareWith, prepareOf}
 use Rattle.read_match.specs.Matching.{look}

@@ -42,8 +42,8 @@ use Rattle.step_bridge.proofs.Headed.{Headed, WritesIn, chainsIn, headed-same, 
 use Rattle.step_bridge.proofs.Needing.{written-pending, pending-written}
 use Rattle.step_bridge.proofs.Distinct.{gets-same}
 use Rattle.step_bridge.proofs.Reserving.{reserved-same}
-use Rattle.shape_chains.specs.Links.{chainsFit}
-use Rattle.shape_txn.specs.Fits.{countsFit, writesIn, rangesFit, rowFits, headsFit, leastOf, txnFits, placeFits}
+use Rattle.shape_chains.specs.ChainsShape.{chainsFit}
+use Rattle.shape_txn.specs.TxnShape.{countsFit, writesIn, rangesFit, rowFits, headsFit, leastOf, txnFits, placeFits}
 use Rattle.shape.specs.Shape.{tablesLent, inPlace, allInPlace, tablesFit, shapeOf}
 use Rattle.shape.specs.Tests.{txnsFit, unlike, distinctAt, allDistinct}
 

@@ -12,7 +12,7 @@ use Rattle.table.specs.Fields.{rowWords, versionWords, bucketWords}
 use Rattle.table.specs.Lists.{listsWords}
 use Rattle.txn.specs.Methods.{idleOf}
 use Rattle.txn.specs.declared.Transaction.{Transaction}
-use Rattle.shape_txn.specs.Fits.{countsFit}
+use Rattle.shape_txn.specs.TxnShape.{countsFit}
 use Rattle.step.specs.Words.{Words, view}
 use Rattle.shape.specs.declared.Machine.{Machine}
 

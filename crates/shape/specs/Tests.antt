@@ -9,7 +9,7 @@ use Rattle.base_lists.specs.Lists.{every}
 use Rattle.base_protocol.specs.declared.Extent.{Extent}
 use Rattle.txn.specs.Methods.{idleOf}
 use Rattle.txn.specs.declared.Transaction.{Transaction}
-use Rattle.shape_txn.specs.Fits.{placeFits}
+use Rattle.shape_txn.specs.TxnShape.{placeFits}
 
 -- each record has its shape, or its place is free
 abbrev pub txnsFit : List ℕ → List ℕ → List ℕ → Extent → List Transaction → Bool

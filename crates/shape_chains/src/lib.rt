@@ -3,7 +3,7 @@ use base_protocol::Sizes;
 use table::head_at;
 use table::next_at;
 ghost use mathlib.Core.Path.{_≡_};
-ghost use Rattle.shape_chains.specs.Links.{headsIn, nextsFall, chainsFit};
+ghost use Rattle.shape_chains.specs.ChainsShape.{headsIn, nextsFall, chainsFit};
 
 // Whether heads are at most the last used pointer.
 fn heads_in(rows: &[u64], row_count: u64, used: u64) -> bool

@@ -18,8 +18,8 @@ use txn::phase_rank;
 use txn_needs::gets_version;
 use txn_needs::headed_by;
 ghost use mathlib.Core.Path.{_≡_};
-ghost use Rattle.shape_txn.specs.Fits.{countsFit, writesIn, recordIn, recordsIn, candidatesIn, readsIn, rangesFit, rowFits, rowsHeaded, headsFit};
-ghost use Rattle.shape_txn.specs.Fits.{txnFits, placeFits};
+ghost use Rattle.shape_txn.specs.TxnShape.{countsFit, writesIn, recordIn, recordsIn, candidatesIn, readsIn, rangesFit, rowFits, rowsHeaded, headsFit};
+ghost use Rattle.shape_txn.specs.TxnShape.{txnFits, placeFits};
 
 // Whether counts are within limits.
 pub fn counts_fit(t: Transaction) -> bool

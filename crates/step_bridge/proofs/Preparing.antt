@@ -29,7 +29,7 @@ use Rattle.txn.specs.declared.Phase.the-variants as phase
 use Rattle.txn_needs.specs.Keys.{isInstalled}
 use Rattle.txn_needs.specs.Needs.{Listed, front, writtenBy}
 use Rattle.table.specs.Fields.{rowWords, bucketWords, setHolders, setClaims}
-use Rattle.txn_needs.specs.Holders.{anyTaken, anyClaimed}
+use Rattle.txn_needs.specs.Taken.{anyTaken, anyClaimed}
 use Rattle.txn_needs.specs.Versions.{versionsIn, reservedIn}
 use Rattle.write_prepare.specs.Prepare.{isClear, lacks, mostNeeded, neededInto, left, prepareWith, prepareOf}
 use Rattle.step.specs.Steps.{inPrepared}

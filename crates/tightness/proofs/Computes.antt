@@ -26,7 +26,7 @@ use Rattle.read_record.specs.Recording.{planned, recordsFor, putRecords, record
 use Rattle.read.specs.Rows.{matchedRows, newRecords, readingOf, rowsOf}
 use Rattle.step.specs.Steps.{publishStep, stepOf}
 use Rattle.step.specs.Words.{placeFor, movedBy}
-use Rattle.shape_txn.specs.Fits.{rangesFit, headsFit, txnFits, placeFits}
+use Rattle.shape_txn.specs.TxnShape.{rangesFit, headsFit, txnFits, placeFits}
 use Rattle.shape.specs.Shape.{tablesFit}
 use Rattle.call.specs.Calls.{sweptFor, cleared, openOf}
 use Rattle.log.specs.Records.{decodedOf}

@@ -1,4 +1,4 @@
 pub mod Keys
 pub mod Needs
-pub mod Holders
+pub mod Taken
 pub mod Versions

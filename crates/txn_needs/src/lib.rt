@@ -27,7 +27,7 @@ ghost use Rattle.model.specs.Store.{sameKey};
 ghost use Rattle.txn_needs.specs.Keys.{getsVersionOf, headedBy, keyOf, versionKey, isInstalled, oldKeyOf, newKeyOf, keysOf, changedKeys};
 ghost use Rattle.txn_needs.specs.Needs.{pushOne, pushAll, bucketsFor, keysNeed, readsNeed, writtenBy, writesNeed, writesChange};
 ghost use Rattle.table.specs.Fields.{setClaims, clearClaims, clearHolders};
-ghost use Rattle.txn_needs.specs.Holders.{anyTaken, anyClaimed};
+ghost use Rattle.txn_needs.specs.Taken.{anyTaken, anyClaimed};
 
 pub mod versions; // versions.rt: the rows that get a version
 

@@ -15,7 +15,7 @@ use Rattle.txn.specs.declared.Phase.the-variants as phase
 use Rattle.txn.specs.declared.Transaction.{Transaction}
 use Rattle.txn_needs.specs.Needs.{Listed, pushAll, front, readsNeed, writtenBy, writesNeed}
 use Rattle.table.specs.Fields.{setHolders, setClaims}
-use Rattle.txn_needs.specs.Holders.{anyTaken, anyClaimed}
+use Rattle.txn_needs.specs.Taken.{anyTaken, anyClaimed}
 use Rattle.txn_needs.proofs.Laws.{push-append}
 use Rattle.write_verdict.specs.Judged.{verdictOf}
 use Rattle.write_prepare.specs.Prepare.{mostNeeded, readsTakenIn, isClear, lacks, neededInto, left, prepareWith, prepareOf}

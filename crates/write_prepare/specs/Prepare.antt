@@ -18,7 +18,7 @@ use Rattle.txn.specs.declared.Transaction.{Transaction}
 use Rattle.txn.specs.declared.Answered.{Answered}
 use Rattle.txn_needs.specs.Needs.{Listed, pushAll, listedIn, front, readsNeed, writtenBy, writesNeed}
 use Rattle.table.specs.Fields.{setHolders, setClaims}
-use Rattle.txn_needs.specs.Holders.{anyTaken, anyClaimed}
+use Rattle.txn_needs.specs.Taken.{anyTaken, anyClaimed}
 use Rattle.txn_needs.specs.Versions.{versionsIn, reservedIn}
 use Rattle.write_verdict.specs.Judged.{verdictOf}
 

@@ -14,7 +14,7 @@ use Rattle.txn_needs.specs.Versions.{reservedIn}
 use Rattle.txn_places.specs.declared.Others.{Others}
 use Rattle.txn_places.specs.Places.{liveIn}
 use Rattle.step.specs.Words.{Words, othersIn, extentIn}
-use Rattle.shape_chains.specs.Links.{chainsFit}
+use Rattle.shape_chains.specs.ChainsShape.{chainsFit}
 use Rattle.shape_chains.proofs.Laws.{passed, failed}
 use Rattle.shape.specs.Shape.{allInPlace, tablesFit, shapeOf, wordsOf}
 use Rattle.shape.specs.Tests.{txnsFit, allDistinct}

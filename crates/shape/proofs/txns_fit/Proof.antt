@@ -13,7 +13,7 @@ use Rattle.txn.specs.Methods.{idleOf}
 use Rattle.txn.specs.declared.Transaction.{Transaction}
 use Rattle.shape_chains.proofs.Laws.{every-none, every-next, every-done, every-fails}
 use Rattle.shape.proofs.Laws.{test-at}
-use Rattle.shape_txn.specs.Fits.{placeFits}
+use Rattle.shape_txn.specs.TxnShape.{placeFits}
 use Rattle.shape.proofs.txns_fit.Statement.{statement}
 use Rattle.shape.proofs.txns_fit.Tie as tie
 

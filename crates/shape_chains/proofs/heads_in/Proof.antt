@@ -9,7 +9,7 @@ use Rattle.shape_chains.proofs.Laws.{every-none, every-next, every-done
 use borrow.Author.Tests.{le-leb, lt-leb}
 use lib.Dec.{leb}
 use Rattle.table.specs.Fields.{headOf}
-use Rattle.shape_chains.specs.Links.{headsIn}
+use Rattle.shape_chains.specs.ChainsShape.{headsIn}
 use Rattle.shape_chains.proofs.heads_in.Statement.{statement}
 use Rattle.shape_chains.proofs.heads_in.Tie as tie
 

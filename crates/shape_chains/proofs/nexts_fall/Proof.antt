@@ -10,7 +10,7 @@ use borrow.Author.Tests.{lt-ltb, le-ltb}
 use lib.Dec.{ltb}
 use native.Mathlib.Numerals.{add-one}
 use Rattle.table.specs.Fields.{nextOf}
-use Rattle.shape_chains.specs.Links.{nextsFall}
+use Rattle.shape_chains.specs.ChainsShape.{nextsFall}
 use Prim.Native.Nat.{suc}
 use Rattle.shape_chains.proofs.nexts_fall.Statement.{statement}
 use Rattle.shape_chains.proofs.nexts_fall.Tie as tie

@@ -1,7 +1,7 @@
 -- `shape_txn::heads_fit` meets its contract.
 -- Assumes nothing.
 use borrow.Author.Tests.{lt-ltb, le-ltb}
-use Rattle.shape_txn.specs.Fits.{headsFit}
+use Rattle.shape_txn.specs.TxnShape.{headsFit}
 use borrow.Author.Needs.{needs}
 use Rattle.shape_txn.proofs.heads_fit.Statement.{statement}
 use Rattle.shape_txn.proofs.heads_fit.Tie as tie

@@ -1,7 +1,7 @@
 -- `shape_txn::place_fits` meets its contract.
 -- Assumes nothing.
 use borrow.Author.Tests.{eq-eqb, ne-eqb}
-use Rattle.shape_txn.specs.Fits.{placeFits}
+use Rattle.shape_txn.specs.TxnShape.{placeFits}
 use borrow.Author.Needs.{needs}
 use Rattle.shape_txn.proofs.place_fits.Statement.{statement}
 use Rattle.shape_txn.proofs.place_fits.Tie as tie

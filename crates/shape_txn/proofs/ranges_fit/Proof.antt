@@ -6,7 +6,7 @@ use lib.Dec.{ltb}
 use Rattle.model.specs.Store.{bucketIn}
 use Rattle.txn.specs.View.{phaseView}
 use Rattle.shape_chains.proofs.Laws.{passed, failed}
-use Rattle.shape_txn.specs.Fits.{recordsIn, candidatesIn, readsIn, rangesFit}
+use Rattle.shape_txn.specs.TxnShape.{recordsIn, candidatesIn, readsIn, rangesFit}
 use borrow.Author.Needs.{needs}
 use Rattle.shape_txn.proofs.ranges_fit.Statement.{statement}
 use Rattle.shape_txn.proofs.ranges_fit.Tie as tie

@@ -8,7 +8,7 @@ use native.Mathlib.Omega.{arith}
 use Rattle.base_lists.specs.Lists.{every}
 use Rattle.shape_chains.proofs.Laws.{every-none, every-next, every-done, every-fails, passed, failed}
 use Rattle.table.specs.Lists.{recordAt}
-use Rattle.shape_txn.specs.Fits.{recordIn}
+use Rattle.shape_txn.specs.TxnShape.{recordIn}
 use Rattle.shape_txn.proofs.records_in.Statement.{statement}
 use Rattle.shape_txn.proofs.records_in.Tie as tie
 

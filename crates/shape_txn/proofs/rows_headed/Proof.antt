@@ -9,7 +9,7 @@ use borrow.Author.Tests.{not-true, not-false}
 use Rattle.base_lists.specs.Lists.{every}
 use Rattle.shape_chains.proofs.Laws.{every-none, every-next, every-done, every-fails}
 use Rattle.table.specs.Lists.{writeAt}
-use Rattle.shape_txn.specs.Fits.{rowFits}
+use Rattle.shape_txn.specs.TxnShape.{rowFits}
 use Rattle.shape_txn.proofs.rows_headed.Statement.{statement}
 use Rattle.shape_txn.proofs.rows_headed.Tie as tie
 

@@ -5,7 +5,7 @@ use mathlib.Core.Path.{_≡_, _∙_}
 use mathlib.Core.Bool.{Bool, true, _&&_}
 use lib.Dec.{eqb}
 use Rattle.shape_chains.proofs.Laws.{passed, failed}
-use Rattle.shape_txn.specs.Fits.{countsFit, rangesFit, headsFit, leastOf, txnFits}
+use Rattle.shape_txn.specs.TxnShape.{countsFit, rangesFit, headsFit, leastOf, txnFits}
 use borrow.Author.Needs.{needs}
 use Rattle.shape_txn.proofs.txn_fits.Statement.{statement}
 use Rattle.shape_txn.proofs.txn_fits.Tie as tie

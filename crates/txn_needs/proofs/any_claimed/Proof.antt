@@ -10,7 +10,7 @@ use native.Mathlib.Omega.{arith}
 use Rattle.table.specs.Fields.{claimOf}
 use Rattle.txn.specs.Methods.{takenBy}
 use Rattle.txn_needs.specs.Needs.{writtenBy}
-use Rattle.txn_needs.specs.Holders.{anyClaimed}
+use Rattle.txn_needs.specs.Taken.{anyClaimed}
 use Rattle.txn_needs.proofs.any_claimed.Statement.{statement}
 use Rattle.txn_needs.proofs.any_claimed.Tie as tie
 

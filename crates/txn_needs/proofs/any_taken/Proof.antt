@@ -7,7 +7,7 @@ use Rattle.base_lists.specs.Lists.{some-of}
 use Rattle.table.proofs.Each.{left-next, left-end}
 use mathlib.Core.Path.{_≡_, refl, _∙_}
 use native.Mathlib.Omega.{arith}
-use Rattle.txn_needs.specs.Holders.{anyTaken}
+use Rattle.txn_needs.specs.Taken.{anyTaken}
 use Rattle.txn_needs.proofs.any_taken.Statement.{statement}
 use Rattle.txn_needs.proofs.any_taken.Tie as tie
 

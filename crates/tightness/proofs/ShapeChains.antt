@@ -7,7 +7,7 @@ use mathlib.Core.List.{List, [], _∷_}
 use Rattle.model.specs.Shape as model
 use lib.Dec.{leb}
 use Rattle.base_protocol.specs.declared.Sizes.{Sizes}
-use Rattle.shape_chains.specs.Links.{headsIn, nextsFall, chainsFit}
+use Rattle.shape_chains.specs.ChainsShape.{headsIn, nextsFall, chainsFit}
 use Rattle.tightness.specs.Wrong.{Excludes}
 use Rattle.tightness.proofs.Apart.{apart, bit}
 use Rattle.tightness.proofs.Computes.{computes}

@@ -15,7 +15,7 @@ use Rattle.txn.specs.Methods.{withWrites}
 use Rattle.txn.specs.declared.Phase.the-variants as phase
 use Rattle.txn.specs.declared.Transaction.{Transaction}
 use Rattle.txn_needs.specs.Keys.{newKeyOf, headedBy}
-use Rattle.shape_txn.specs.Fits.{countsFit, rangesFit, leastOf, txnFits, placeFits}
+use Rattle.shape_txn.specs.TxnShape.{countsFit, rangesFit, leastOf, txnFits, placeFits}
 use Rattle.tightness.specs.Wrong.{Excludes}
 use Rattle.tightness.proofs.Apart.{apart, bit}
 use Rattle.tightness.proofs.Computes.{computes}

@@ -21,11 +21,11 @@ use Rattle.txn_needs.specs.declared.Key.{Key}
 use Rattle.txn_needs.specs.Keys as keys
 use Rattle.txn_needs.specs.Keys.{keyOf, noKey, versionKey, oldKeyOf, writtenAt, newKeyOf, getsVersionOf, keysOf, sameKeys, changedKeys}
 use Rattle.txn_needs.specs.Needs.{Listed, pushOne, pushAll, bucketsFor, keysNeed, readsNeed, rowsWritten, writtenBy, writesNeed, writesChange}
-use Rattle.txn_needs.specs.Holders as spec
+use Rattle.txn_needs.specs.Taken as spec
 use Rattle.tightness.specs.Wrong.{Excludes}
 use Rattle.tightness.proofs.Apart.{apart, bit, count}
 use Rattle.tightness.proofs.Computes.{computes}
-use Rattle.tightness.proofs.Tables.{two}
+use Rattle.tightness.proofs.Table.{two}
 use Rattle.tightness.proofs.Small.{live, starting, erases, headed, keyedBy, erasedBy, twice}
 
 -- row 0 of head 2 and claim 6, whose chain is version 2, of key 7, over version 1, of this key
