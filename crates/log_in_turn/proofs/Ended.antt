@@ -24,7 +24,8 @@ went-on : (room : ℕ) (text next : List ℕ) (go : List ℕ → Replayed) → w
 unfolding writeThen
 went-on room text next go = by (leb (length text + length next) room)
   where
-    by : (b : Bool) → cond b (go (text ++ next)) (stops (refusalNumber NoRoom) text) .status ≡ 0 → cond b (go (text ++ next)) (stops (refusalNumber NoRoom) text) ≡ go (text ++ next)
+    by : (b : Bool) → cond b (go (text ++ next)) (stops (refusalNumber NoRoom) text) .status ≡ 0
+        → cond b (go (text ++ next)) (stops (refusalNumber NoRoom) text) ≡ go (text ++ next)
     by true e = refl
     by false e = absurd (omega arith)
 

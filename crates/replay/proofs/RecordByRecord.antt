@@ -51,7 +51,8 @@ module _ (room : ℕ) (text : List ℕ) where
   reads-agrees so (some c) n h f g e = obeys-agrees so (c .0) (f (c .1)) (g (c .1)) (λ s w. e (c .1) s w (h c refl))
 
   record-agrees : (f g : List ℕ → Store → List ℕ → Replayed) (log : List ℕ) (so : Option Store)
-      → ((more : List ℕ) (s : Store) (w : List ℕ) → length more < length log → f more s w ≡ g more s w) → recordThen room f log so text ≡ recordThen room g log so text
+      → ((more : List ℕ) (s : Store) (w : List ℕ) → length more < length log → f more s w ≡ g more s w)
+      → recordThen room f log so text ≡ recordThen room g log so text
   unfolding recordThen
   record-agrees f g [] so e = refl
   record-agrees f g (b ∷ bs) so e = reads-agrees so (readRecord (b ∷ bs)) (length (b ∷ bs)) (read-less (b ∷ bs)) f g e

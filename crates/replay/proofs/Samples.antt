@@ -11,7 +11,8 @@ use Rattle.model.proofs.Computes as model
 
 -- opens every definition that a replay goes through, so that a log of numerals computes
 unfoldable computes : Unit {0}
-unfolding model.computes number widths total fields commandOf whole readRecord digitsStep digitsFor decimal spaced line writeThen recordThen replayFor replayFrom
+unfolding model.computes number widths total fields commandOf whole readRecord digitsStep digitsFor decimal spaced line writeThen recordThen
+    replayFor replayFrom
     replay
 computes = tt
 

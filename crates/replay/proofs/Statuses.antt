@@ -21,7 +21,8 @@ Status r = (r .status ≡ 0) ⊎ (r .status ≡ 1) ⊎ (r .status ≡ 10) ⊎ (r
 write-status : (room : ℕ) (text next : List ℕ) (go : List ℕ → Replayed) → ((more : List ℕ) → Status (go more)) → Status (writeThen room text next go)
 unfolding writeThen
 write-status room text next go h =
-    cond-elim Status (leb (length text + length next) room) (go (text ++ next)) (stops (refusalNumber NoRoom) text) (λ e. h (text ++ next)) (λ e. inr (inr (inl refl)))
+    cond-elim Status (leb (length text + length next) room) (go (text ++ next)) (stops (refusalNumber NoRoom) text)
+    (λ e. h (text ++ next)) (λ e. inr (inr (inl refl)))
 
 malformed-status : (room : ℕ) (text line : List ℕ) → Status (writeThen room text line (stops (refusalNumber Malformed)))
 malformed-status room text line = write-status room text line (stops (refusalNumber Malformed)) (λ more. inr (inr (inr refl)))

@@ -5,6 +5,7 @@ use mathlib.Core.Path.{_≡_, refl}
 use mathlib.Core.Bool.{true, cond, not}
 use mathlib.Core.List.{List, []}
 use lib.ListN.{getD, set}
+use Rattle.model.specs.Refusals.{WrongShape, refusalNumber}
 use Rattle.model.specs.Machine.{canOpen}
 use Rattle.base_protocol.specs.declared.Step.{Step}
 use Rattle.base_protocol.specs.declared.Step.the-variants as ask
@@ -94,6 +95,6 @@ claimed-shape = refl
 -- what carries the number of a transaction that ended is freed only where the transaction lists it
 pub call-unswept : Excludes calls
     (λ (l, m, s). cond (shapeOf (over l m)) (record { answer = movedBy (over l m) s .stepped .answer; words = wordsAfter (over l m) s })
-    (record { answer = tell.Refused 16; words = over l m }))
+    (record { answer = tell.Refused (refusalNumber WrongShape); words = over l m }))
 unfolding computes callOf
 call-unswept = apart (claimed, machine phase.Open, ask.Abort 1) (λ (l : Left). getD (l .words .tables .rows) 1 0) (rw claimed-shape)

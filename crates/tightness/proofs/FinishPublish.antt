@@ -7,6 +7,7 @@ use mathlib.Core.List.{List, [], _∷_}
 use lib.Dec.{eqb}
 use lib.ListN.{getD}
 use Rattle.model.specs.Store.{rank, phaseInstalled}
+use Rattle.model.specs.Refusals.{WrongPhase, refusalNumber}
 use Rattle.base_protocol.specs.declared.Answer.the-variants as tell
 use Rattle.base_protocol.specs.declared.Extent.{Extent}
 use Rattle.txn.specs.View.{phaseView}
@@ -28,7 +29,7 @@ end-any-phase = apart (live 1 phase.Open) (λ (a : Answered). numberIn (a .answe
 
 -- `end`: the transaction stays Installed
 pub end-stays-installed : Excludes endOf
-    (λ t. cond (not (eqb (rank (phaseView (t .phase))) phaseInstalled)) (refusedOf t 5) (record { answer = tell.Done; txn = t }))
+    (λ t. cond (not (eqb (rank (phaseView (t .phase))) phaseInstalled)) (refusedOf t (refusalNumber WrongPhase)) (record { answer = tell.Done; txn = t }))
 unfolding computes
 end-stays-installed = apart (live 1 phase.Installed) (λ (a : Answered). rank (phaseView (a .txn .phase))) refl
 

@@ -6,6 +6,7 @@ use mathlib.Core.Bool.{true, false, true≢false}
 use lib.Dec.{eqb}
 use lib.ListN.{getD}
 use Rattle.model.specs.Store.{bucketIn}
+use Rattle.model.specs.Refusals.{Full, NoSuch, refusalNumber}
 use Rattle.base_protocol.specs.declared.Step.{Step}
 use Rattle.base_protocol.specs.declared.Step.the-variants as ask
 use Rattle.base_protocol.specs.declared.Answer.the-variants as tell
@@ -119,7 +120,7 @@ unfolding computes
 begin-not-kept = apart (lent, machine phase.Open) (λ (l : Left). l .words .clock) (rw (call-done phase.Open refl ask.Begin))
 
 -- `toruxeng::begin`: always no free place
-pub begin-full : Excludes begin (λ (l, m). record { answer = tell.Refused 3; words = over l m })
+pub begin-full : Excludes begin (λ (l, m). record { answer = tell.Refused (refusalNumber Full); words = over l m })
 unfolding computes
 begin-full = apart (lent, machine phase.Open) code (rw (call-done phase.Open refl ask.Begin))
 
@@ -151,7 +152,8 @@ unfolding computes
 placed s e = rw e
 
 strange-step : (s : Step) → isBegin s ≡ false → wantedOf s ≡ 2
-    → movedBy (store phase.Ended) s ≡ stays (record { answer = tell.Refused 4; txn = live 1 phase.Ended; clock = 2; used = 0 }) (store phase.Ended .tables)
+    → movedBy (store phase.Ended) s ≡ stays (record { answer = tell.Refused (refusalNumber NoSuch); txn = live 1 phase.Ended; clock = 2; used = 0 })
+    (store phase.Ended .tables)
 unfolding computes
 strange-step s b e = rw (placed s e, missed s b e)
 

@@ -7,6 +7,7 @@ use mathlib.Core.List.{List, [], _∷_}
 use lib.Dec.{eqb, leb}
 use lib.ListN.{getD}
 use Rattle.model.specs.Store.{rank, phaseHolding, phaseInstalled, bucketIn, keyIn}
+use Rattle.model.specs.Refusals.{WrongPhase, Marked, ManyWrites, refusalNumber}
 use Rattle.table.specs.Lists.{writes}
 use Rattle.txn.specs.declared.Phase.{Phase}
 use Rattle.txn.specs.declared.Phase.the-variants as phase
@@ -72,7 +73,7 @@ pub refused-marks : Excludes {A = Transaction × ℕ} (λ (t, why). refusedOf t 
 refused-marks = apart (idleOf 0, 5) (λ (a : Answered). bit (a .txn .marked)) refl
 
 -- `refused`: always with number 5
-pub refused-always-5 : Excludes {A = Transaction × ℕ} (λ (t, why). refusedOf t why) (λ (t, why). refusedOf t 5)
+pub refused-always-5 : Excludes {A = Transaction × ℕ} (λ (t, why). refusedOf t why) (λ (t, why). refusedOf t (refusalNumber WrongPhase))
 refused-always-5 = apart (idleOf 0, 7) (λ (a : Answered). numberIn (a .answer)) refl
 
 -- `with_phase`: the phase stays
@@ -126,7 +127,7 @@ unfolding computes
 capture-key-itself = apart capturing (λ (l : Left). getD (l .buckets) 1 0) refl
 
 -- `capture`: always refused
-pub capture-refuses : Excludes capture (λ (t, buckets, lists, count, key). left (refusedOf t 8) buckets lists)
+pub capture-refuses : Excludes capture (λ (t, buckets, lists, count, key). left (refusedOf t (refusalNumber Marked)) buckets lists)
 unfolding computes
 capture-refuses = apart capturing (λ (l : Left). numberIn (l .reply .answer)) refl
 
@@ -167,7 +168,8 @@ put-row-before-mark = apart (withMark (live 5 phase.Open), roomFor writes, 1, 1,
 
 -- `put`: 8 before 5
 pub put-mark-before-phase : Excludes put
-    (λ (t, lists, rows, row, key, payload). cond (t .marked) (record { reply = refusedOf t 8; lists = lists }) (put (t, lists, rows, row, key, payload)))
+    (λ (t, lists, rows, row, key, payload). cond (t .marked) (record { reply = refusedOf t (refusalNumber Marked); lists = lists })
+    (put (t, lists, rows, row, key, payload)))
 unfolding computes
 put-mark-before-phase = apart (withMark (live 5 phase.Prepared), roomFor writes, 1, 0, 7, 9) (λ (l : LeftLists). numberIn (l .reply .answer)) refl
 
@@ -182,7 +184,7 @@ unfolding computes
 erase-keyed = apart (live 5 phase.Open, roomFor writes, 1, 0) (λ (l : LeftLists). getD (l .lists) (writes .off + 1) 0) refl
 
 -- `erase`: always refused
-pub erase-refuses : Excludes erase (λ (t, lists, rows, row). record { reply = refusedOf t 12; lists = lists })
+pub erase-refuses : Excludes erase (λ (t, lists, rows, row). record { reply = refusedOf t (refusalNumber ManyWrites); lists = lists })
 unfolding computes
 erase-refuses = apart (live 5 phase.Open, roomFor writes, 1, 0) (λ (l : LeftLists). numberIn (l .reply .answer)) refl
 

@@ -8,6 +8,7 @@ use lib.Dec.{eqb, ltb}
 use lib.ListN.{getD, replicate}
 use Rattle.base_limits.specs.Limits.{mostLive, mostWrites}
 use Rattle.model.specs.Store.{rank, phaseOpen}
+use Rattle.model.specs.Refusals.{WrongPhase, Taken, NoVersions, refusalNumber}
 use Rattle.base_protocol.specs.declared.Answer.the-variants as tell
 use Rattle.base_protocol.specs.declared.Extent.{Extent}
 use Rattle.table.specs.Fields.{rowWords, setClaims}
@@ -44,14 +45,14 @@ validates (versions, buckets, lists, t) = validateOf versions buckets lists t
 
 -- `validate`: the phase is not tested
 pub validate-any-phase : Excludes validates (λ (versions, buckets, lists, t).
-    cond (readsTakenIn buckets lists t) (refusedOf t 7)
+    cond (readsTakenIn buckets lists t) (refusedOf t (refusalNumber Taken))
     (record { answer = tell.Judged (verdictOf versions buckets lists t); txn = t }))
 unfolding computes
 validate-any-phase = apart ([], [], [], live 1 phase.Ended) (λ (a : Answered). numberIn (a .answer)) refl
 
 -- `validate`: a bucket that another holds is read
 pub validate-held-read : Excludes validates (λ (versions, buckets, lists, t).
-    cond (not (eqb (rank (phaseView (t .phase))) phaseOpen)) (refusedOf t 5)
+    cond (not (eqb (rank (phaseView (t .phase))) phaseOpen)) (refusedOf t (refusalNumber WrongPhase))
     (record { answer = tell.Judged (verdictOf versions buckets lists t); txn = t }))
 unfolding computes
 validate-held-read = apart ([], heldBy 2, captured, reader) (λ (a : Answered). numberIn (a .answer)) refl
@@ -91,7 +92,8 @@ prepare-rows-unclaimed = apart (given (replicate rowWords 0) [] puts (writer pha
 
 -- `prepare`: 13 counts an erase of nothing
 pub prepare-13-of-nothing : Excludes prepares (λ (rows, versions, buckets, lists, e, prepared, t).
-    cond (ltb (e .sizes .versions) (e .used + pendingInto lists (t .slot) (t .«writes_n») (replicate mostWrites 0) .n)) (left (refusedOf t 13) rows buckets)
+    cond (ltb (e .sizes .versions) (e .used + pendingInto lists (t .slot) (t .«writes_n») (replicate mostWrites 0) .n))
+    (left (refusedOf t (refusalNumber NoVersions)) rows buckets)
     (prepares (rows, versions, buckets, lists, e, prepared, t)))
 unfolding computes
 prepare-13-of-nothing = apart ([], [], [], erases, reaching 0, replicate mostLive 0, writer phase.Open) (λ (l : Left). numberIn (l .reply .answer)) refl

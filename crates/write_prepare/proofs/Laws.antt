@@ -7,6 +7,7 @@ use mathlib.Core.List.{List}
 use lib.Dec.{eqb}
 use lib.ListN.{replicate}
 use Rattle.model.specs.Store.{rank}
+use Rattle.model.specs.Refusals.{Taken, NoVersions, Conflict, refusalNumber}
 use Rattle.base_protocol.specs.declared.Answer.the-variants as tell
 use Rattle.base_protocol.specs.declared.Extent.{Extent}
 use Rattle.txn.specs.View.{phaseView}
@@ -40,24 +41,25 @@ module _ (rows versions buckets lists : List ℕ) (e : Extent) (prepared : List 
   unfolding prepareOf
   on = rw (p, q)
 
-  pub prepare-taken : anyTaken buckets (front st) (t .number) ≡ true → left (refusedOf t 7) rows buckets
+  pub prepare-taken : anyTaken buckets (front st) (t .number) ≡ true → left (refusedOf t (refusalNumber Taken)) rows buckets
       ≡ prepareOf rows versions buckets lists e prepared t
   unfolding prepareWith
   prepare-taken a = sym (on ∙ rw a)
 
   module _ (a : anyTaken buckets (front st) (t .number) ≡ false) where
-    pub prepare-claimed : anyClaimed rows lists t ≡ true → left (refusedOf t 7) rows buckets ≡ prepareOf rows versions buckets lists e prepared t
+    pub prepare-claimed : anyClaimed rows lists t ≡ true → left (refusedOf t (refusalNumber Taken)) rows buckets
+        ≡ prepareOf rows versions buckets lists e prepared t
     unfolding prepareWith
     prepare-claimed b = sym (on ∙ rw (a, b))
 
     module _ (b : anyClaimed rows lists t ≡ false) where
-      pub prepare-conflict : isClear (verdictOf versions buckets lists t) ≡ false → left (refusedOf t 14) rows buckets
+      pub prepare-conflict : isClear (verdictOf versions buckets lists t) ≡ false → left (refusedOf t (refusalNumber Conflict)) rows buckets
           ≡ prepareOf rows versions buckets lists e prepared t
       unfolding prepareWith
       prepare-conflict d = sym (on ∙ rw (a, b, d))
 
       module _ (d : isClear (verdictOf versions buckets lists t) ≡ true) where
-        pub prepare-lacks : lacks rows versions lists e prepared t ≡ true → left (refusedOf t 13) rows buckets
+        pub prepare-lacks : lacks rows versions lists e prepared t ≡ true → left (refusedOf t (refusalNumber NoVersions)) rows buckets
             ≡ prepareOf rows versions buckets lists e prepared t
         unfolding prepareWith
         prepare-lacks f = sym (on ∙ rw (a, b, d, f))
