@@ -122,7 +122,8 @@ module _ (c : tie.After-open-line) where
   abbrev lent : List ℕ
   lent = c .open-line .last .0
 
-  full : c .open-line .result ≡ Full → Leaves (record { status = refusalNumber NoRoom; wrote = 0 }) lent (replay (log read) (length (report read))) (report read)
+  full : c .open-line .result ≡ Full
+      → Leaves (record { status = refusalNumber NoRoom; wrote = 0 }) lent (replay (log read) (length (report read))) (report read)
   full q = left-full (log read) (report read) (some-bytes read) (read .decode-at .ensures) (opens asked) can (c .open-line .ensures) q
 
   module _ (end : ℕ) (q : c .open-line .result ≡ Next end) where
