@@ -18,6 +18,9 @@ use Rattle.txn.specs.declared.Transaction.{Transaction}
 use Rattle.table.specs.Lists.{Kind, listAt, entryAt, writes, writeOf, writeAt}
 use Rattle.table.specs.declared.lists.Write.{Write}
 use Rattle.table_scans.proofs.Laws.{fields-length, fields-at}
+use Rattle.txn_needs.specs.declared.Key.{Key}
+use Rattle.txn_needs.specs.declared.Keys.{Keys}
+use Rattle.txn_needs.specs.Keys.{isInstalled, oldKeyOf, newKeyOf, keysOf}
 use Rattle.txn_needs.specs.Needs.{Listed, pushOne, pushAll, writtenBy}
 
 -- a list pushed after a list
@@ -79,3 +82,10 @@ push-fits st st′ v e h = rw e (by (ltb (st .n) (length (st .out))) refl)
     by : (b : Bool) → ltb (st .n) (length (st .out)) ≡ b → pushOne st v .n ≤ length (pushOne st v .out)
     by true t = rw (t, length-set) (omega (arith, ltb-true (st .n) (length (st .out)) t))
     by false t = rw t h
+
+-- the two keys of a row, once it is known whether the writes are installed
+pub keys-are : (rows versions lists : List ℕ) (t : Transaction) (r : ℕ) (installed : Bool) (old new : Key) → installed ≡ isInstalled (t .phase)
+    → old ≡ oldKeyOf rows versions installed r → new ≡ newKeyOf lists (t .slot) (t .«writes_n») r
+    → _≡_ {A = Keys} (record { old = old; new = new }) (keysOf rows versions lists t r)
+unfolding keysOf
+keys-are rows versions lists t r installed old new e f g = rw (f, g, e)

@@ -173,11 +173,15 @@ pub fn push_writes(
         ≡ pushAll (record { out = now (out .entry); n = n })
         (writesNeed (now (rows .entry)) (now (versions .entry)) (now (lists .entry)) «bucket_count» t) ⌝ }
 {
+    let phase = t.phase;
+    let installed = is_installed(phase);
     let mut m = n;
     let mut i: u32 = 0;
     while i < t.writes_n {
-        let keys = keys_of(rows, versions, lists, t, write_row_at(lists, t.slot, i));
-        m = push_keys(out, m, bucket_count, keys);
+        let row = write_row_at(lists, t.slot, i);
+        let old = old_key(rows, versions, installed, row);
+        let new = new_key(lists, t.slot, t.writes_n, row);
+        m = push_keys(out, m, bucket_count, Keys { old: old, new: new });
         i += 1;
     }
     m
