@@ -3,6 +3,7 @@ use Prim.Native.Nat.{ℕ, _+_}
 use mathlib.Core.Bool.{cond, not}
 use mathlib.Core.List.{List, [], _∷_, _++_}
 use lib.Dec.{eqb, leb}
+use lib.ListN.{replicate}
 use Rattle.base_limits.specs.Limits.{mostIndexReads, mostWrites}
 use Rattle.model.specs.Store.{rank, phaseInstalled, phaseEnded, bucketIn}
 use Rattle.model.specs.Refusals.{WrongPhase, refusalNumber}
@@ -14,7 +15,7 @@ use Rattle.txn.specs.declared.Phase.the-variants as phase
 use Rattle.txn.specs.declared.Transaction.{Transaction}
 use Rattle.txn.specs.declared.Answered.{Answered}
 use Rattle.txn_needs.specs.Keys.{newKeyOf}
-use Rattle.txn_needs.specs.Needs.{listedIn, front, readsNeed, writtenBy, writesNeed, writesChange}
+use Rattle.txn_needs.specs.Needs.{Listed, pushAll, listedIn, front, readsNeed, writtenBy, writesNeed, writesChange}
 use Rattle.table.specs.Fields.{setPosted, setPostedKey, setStamps, clearHolders, clearClaims}
 
 -- end: wrong phase; else Ended
@@ -40,12 +41,15 @@ mostHeld = mostIndexReads + mostWrites + mostWrites + 1
 unfoldable pub stampedIn : List ℕ → List ℕ → List ℕ → List ℕ → Extent → Transaction → List ℕ
 stampedIn rows versions buckets lists e t = setStamps buckets (e .clock) (front (listedIn mostHeld (writesChange rows versions lists (e .sizes .buckets) t)))
 
--- what a transaction needs of the buckets, and its holders freed
+-- what a transaction needs of the buckets, listed, and its holders freed
 unfoldable pub neededIn : List ℕ → List ℕ → List ℕ → ℕ → Transaction → List ℕ
 neededIn rows versions lists bucketCount t = (bucketIn (phaseView (t .phase)) ∷ []) ++ readsNeed lists t ++ writesNeed rows versions lists bucketCount t
 
+abbrev pub heldInto : List ℕ → List ℕ → List ℕ → ℕ → Transaction → List ℕ → Listed
+heldInto rows versions lists bucketCount t out = pushAll (record { out = out; n = 0 }) (neededIn rows versions lists bucketCount t)
+
 unfoldable pub freedIn : List ℕ → List ℕ → List ℕ → List ℕ → ℕ → Transaction → List ℕ
-freedIn rows versions buckets lists bucketCount t = clearHolders buckets (t .number) (front (listedIn mostHeld (neededIn rows versions lists bucketCount t)))
+freedIn rows versions buckets lists bucketCount t = clearHolders buckets (t .number) (front (heldInto rows versions lists bucketCount t (replicate mostHeld 0)))
 
 -- an answer, rows and buckets
 pub record Left : Type 0 where

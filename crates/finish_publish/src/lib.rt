@@ -26,7 +26,7 @@ use txn_needs::release_all;
 use txn_needs::unclaim_all;
 ghost use mathlib.Core.Path.{_≡_};
 ghost use Rattle.txn_needs.specs.Needs.{writtenBy};
-ghost use Rattle.finish_publish.specs.Publish.{endOf, postedOne, postedAll, stampedIn, freedIn, publishOf, abortOf};
+ghost use Rattle.finish_publish.specs.Publish.{endOf, postedOne, postedAll, stampedIn, heldInto, publishOf, abortOf};
 
 // Words for the buckets of all index reads and of the old and the new keys of all pending writes, and for the one that Holding carries.
 pub const MOST_HELD: usize = (MOST_INDEX_READS + MOST_WRITES + MOST_WRITES + 1) as usize;
@@ -83,24 +83,22 @@ fn stamp_changes(
     set_stamps(buckets, &list, n, extent.clock);
 }
 
-// Frees what the transaction needs of the buckets: the one that Holding carries, the index reads', the old and the new keys'.
-fn free_needed(
+// What the transaction needs of the buckets: the one that Holding carries, the index reads', the old and the new keys'.
+fn push_held(
     rows: &[u64],
     versions: &[u64],
-    buckets: &mut [u64],
     lists: &[u64],
     bucket_count: u64,
     t: Transaction,
-)
-    ensures { λ _. ⌜ now (buckets .exit)
-        ≡ freedIn (now (rows .entry)) (now (versions .entry)) (now (buckets .entry)) (now (lists .entry)) «bucket_count» t ⌝ }
+    out: &mut [u64],
+) -> usize
+    ensures { λ r. ⌜ record { out = now (out .exit); n = r }
+        ≡ heldInto (now (rows .entry)) (now (versions .entry)) (now (lists .entry)) «bucket_count» t (now (out .entry)) ⌝ }
 {
     let phase = t.phase;
-    let mut list = [0u64; MOST_HELD];
-    let held = push(&mut list, 0, bucket_in(phase));
-    let read = push_reads(lists, t, &mut list, held);
-    let n = push_writes(rows, versions, lists, bucket_count, t, &mut list, read);
-    release_all(buckets, &list, n, t.number);
+    let held = push(out, 0, bucket_in(phase));
+    let read = push_reads(lists, t, out, held);
+    push_writes(rows, versions, lists, bucket_count, t, out, read)
 }
 
 // Publish (Ended): the stamp is the clock; buckets and claims are freed, the record ends.
@@ -121,7 +119,9 @@ pub fn publish(
         return refused(t, WRONG_PHASE);
     }
     stamp_changes(rows, versions, buckets, lists, extent, t);
-    free_needed(rows, versions, buckets, lists, sizes.buckets, t);
+    let mut list = [0u64; MOST_HELD];
+    let n = push_held(rows, versions, lists, sizes.buckets, t, &mut list);
+    release_all(buckets, &list, n, t.number);
     post_all(rows, lists, t);
     unclaim_all(rows, lists, t);
     Answered {
@@ -146,7 +146,9 @@ pub fn abort(
     if phase_rank(phase) >= INSTALLED {
         return refused(t, WRONG_PHASE);
     }
-    free_needed(rows, versions, buckets, lists, bucket_count, t);
+    let mut list = [0u64; MOST_HELD];
+    let n = push_held(rows, versions, lists, bucket_count, t, &mut list);
+    release_all(buckets, &list, n, t.number);
     unclaim_all(rows, lists, t);
     Answered {
         answer: Answer::Done,

@@ -2,8 +2,10 @@
 -- Assumes nothing.
 use borrow.Author.Tests.{le-leb, lt-leb}
 use borrow.Author.Needs.{needs}
+use mathlib.Core.Path.{_∙_}
 use Prim.Native.Nat.{_-_}
 use Rattle.finish_publish.specs.Publish.{abortOf}
+use Rattle.finish_publish.proofs.Laws.{freed-made}
 use Rattle.finish_publish.proofs.abort.Statement.{statement}
 use Rattle.finish_publish.proofs.abort.Tie as tie
 
@@ -17,8 +19,17 @@ returns : tie.Need-returns
 unfolding abortOf
 returns c = rw (c .refused .ensures, ← c .before .before .phase-rank .ensures, le-leb _ _ (c .before .if1 .taken))
 
-free-needed-requires : tie.Need-free-needed-requires
-free-needed-requires c κs = search needs
+slice-aggregate-push-held : tie.Need-slice-aggregate-push-held
+slice-aggregate-push-held c = search needs
+
+push-held-requires : tie.Need-push-held-requires
+push-held-requires c κs = search needs
+
+slice-aggregate-release-all : tie.Need-slice-aggregate-release-all
+slice-aggregate-release-all c = search needs
+
+release-all-requires : tie.Need-release-all-requires
+release-all-requires c κs = search needs
 
 unclaim-all-requires : tie.Need-unclaim-all-requires
 unclaim-all-requires c κs = search needs
@@ -37,11 +48,12 @@ unfolding abortOf
 returns-2 c =
     let unclaimed = c .before .before .before in
     let freed = unclaimed .before .before .before .before in
-    let tested = freed .before .before .before in
+    let listed = freed .before .before .before .before in
+    let tested = listed .before .before .before in
     rw (
       ← tested .before .phase-rank .ensures,
       lt-leb _ _ (tested .if1 .left),
-      ← freed .free-needed .ensures,
+      ← freed .release-all .ensures ∙ freed-made _ _ _ _ _ _ _ (listed .push-held .ensures),
       ← unclaimed .unclaim-all .ensures,
       c .idle .ensures,
     )
@@ -53,7 +65,10 @@ abort-spec =
     phase-rank-requires
     refused-requires
     returns
-    free-needed-requires
+    slice-aggregate-push-held
+    push-held-requires
+    slice-aggregate-release-all
+    release-all-requires
     unclaim-all-requires
     idle-requires
     same-length

@@ -3,6 +3,8 @@
 use borrow.Author.Tests.{eq-eqb, ne-eqb}
 use Rattle.finish_publish.specs.Publish.{publishOf}
 use borrow.Author.Needs.{needs}
+use mathlib.Core.Path.{_∙_}
+use Rattle.finish_publish.proofs.Laws.{freed-made}
 use Rattle.finish_publish.proofs.publish.Statement.{statement}
 use Rattle.finish_publish.proofs.publish.Tie as tie
 
@@ -19,8 +21,17 @@ returns c = rw (c .refused .ensures, ← c .before .before .phase-rank .ensures,
 stamp-changes-requires : tie.Need-stamp-changes-requires
 stamp-changes-requires c κs = search needs
 
-free-needed-requires : tie.Need-free-needed-requires
-free-needed-requires c κs = search needs
+slice-aggregate-push-held : tie.Need-slice-aggregate-push-held
+slice-aggregate-push-held c = search needs
+
+push-held-requires : tie.Need-push-held-requires
+push-held-requires c κs = search needs
+
+slice-aggregate-release-all : tie.Need-slice-aggregate-release-all
+slice-aggregate-release-all c = search needs
+
+release-all-requires : tie.Need-release-all-requires
+release-all-requires c κs = search needs
 
 post-all-requires : tie.Need-post-all-requires
 post-all-requires c κs = search needs
@@ -43,13 +54,14 @@ returns-2 c =
     let unclaimed = c .before .before .before in
     let posted = unclaimed .before .before .before .before in
     let freed = posted .before .before .before .before in
-    let stamped = freed .before .before .before .before .before in
+    let listed = freed .before .before .before .before in
+    let stamped = listed .before .before .before .before .before in
     let tested = stamped .before .before .before in
     rw (
       ← tested .before .phase-rank .ensures,
       eq-eqb _ _ (tested .if1 .left),
       ← stamped .stamp-changes .ensures,
-      ← freed .free-needed .ensures,
+      ← freed .release-all .ensures ∙ freed-made _ _ _ _ _ _ _ (listed .push-held .ensures),
       ← posted .post-all .ensures,
       ← unclaimed .unclaim-all .ensures,
       c .idle .ensures,
@@ -63,7 +75,10 @@ publish-spec =
     refused-requires
     returns
     stamp-changes-requires
-    free-needed-requires
+    slice-aggregate-push-held
+    push-held-requires
+    slice-aggregate-release-all
+    release-all-requires
     post-all-requires
     unclaim-all-requires
     idle-requires
