@@ -1,4 +1,5 @@
--- What the table says of each step, read off by computation, a line for each; what is proved of the tests of all steps rests on it. Assumes nothing.
+-- Of each step, once: its tests as the lines of document 01's table, what it does where none refuses, whether it marks, publishes, begins or ends a record.
+-- What is proved of all steps is read off this. Assumes nothing.
 use mathlib.Core.Path.{_≡_, refl}
 use mathlib.Core.Bool.{Bool, true, false, not, true≢false, _&&_}
 use mathlib.Core.Logic.{_⊎_, inl, inr, _↔_}
@@ -114,11 +115,12 @@ exactly s (publish t) n = named-lines n s t _ _ (phase-test s (publish t)) (λ l
 exactly s (validate t) n = named-lines n s t _ _ (phase-test s (validate t)) (λ l. line n _ _ _ (bucket-taken s t (readBuckets (txnOf s t)) l) (λ f. no-line n))
 exactly s (abort t) n = named-lines n s t _ _ (phase-test s (abort t)) (λ l. no-line n)
 
--- what a step does that no test refuses
+-- the bucket has an index read, or there is room for one
 capture-room : (a : Bool) (n : ℕ) → not a && leb mostIndexReads n ≡ false → (a ≡ true) ⊎ (n < mostIndexReads)
 capture-room true n e = inl refl
 capture-room false n e = inr (leb-false mostIndexReads n e)
 
+-- what a step does that no test refuses
 pub moves : (s : Store) (a : Step) → refusal (checks s a) ≡ none → Move s (at s (actor a)) (accepted s a .store)
 unfolding checks accepted liveCount placeOf
 moves s begin e =
