@@ -1,6 +1,6 @@
 -- The known kinds, and the lengths of their records.
 -- Assumes nothing.
-use borrow.Author.Tests.{eqb-true, eqb-false, leb-true, leb-false, ne-eqb, lt-leb, le-leb}
+use borrow.Author.Tests.{eqb-true, eqb-false, leb-true, leb-false, ne-eqb, lt-leb}
 use Prim.Native.Nat.{ℕ, zero, suc, _+_, _≤_, _<_}
 use mathlib.Core.Path.{_≡_, refl, sym}
 use mathlib.Core.Bool.{Bool, true, false, and-false}
@@ -35,7 +35,7 @@ pub behind : (n k j : ℕ) → NoneOf j k n → k ≤ j → k + n ≤ j
 behind zero k j un h = omega arith
 behind (suc n) k j un h = let more = behind n k j (un .0) h in let ne = un .1 in omega (arith, more, ne)
 
-pub length-above : (kind : ℕ) → 13 < kind → lengthOf kind ≡ 65536
+length-above : (kind : ℕ) → 13 < kind → lengthOf kind ≡ 65536
 unfolding lengthOf widths
 length-above kind h =
     rw (
@@ -49,11 +49,16 @@ length-above kind h =
       and-false,
     )
 
-pub length-zero : lengthOf 0 ≡ 65536
+length-zero : lengthOf 0 ≡ 65536
 unfolding lengthOf widths
 length-zero = refl
 
--- kinds that name a transaction: 8 bytes for it, and those from 8 on name nothing else
+-- a kind that is none of the thirteen
+pub length-unknown : (kind : ℕ) → NoneOf kind 1 13 → lengthOf kind ≡ 65536
+length-unknown zero un = length-zero
+length-unknown (suc k) un = length-above (suc k) (behind 13 1 (suc k) un (omega arith))
+
+-- kinds that name a transaction: 8 bytes for it
 pub length-named : (kind : ℕ) → 3 ≤ kind → kind ≤ 13 → 10 ≤ lengthOf kind
 unfolding lengthOf widths total
 length-named kind h k =
@@ -62,20 +67,6 @@ length-named kind h k =
     (omega arith, (ten, (omega arith, (omega arith, (omega arith, (ten, (ten, (ten, (ten, (ten, (ten, tt)))))))))))
     h
     (omega arith)
-
-pub length-only : (kind : ℕ) → 8 ≤ kind → kind < 14 → lengthOf kind ≡ 10
-unfolding lengthOf widths total
-length-only kind h k =
-    rw (
-      ne-eqb kind 1 (λ e. omega arith),
-      ne-eqb kind 2 (λ e. omega arith),
-      ne-eqb kind 3 (λ e. omega arith),
-      ne-eqb kind 5 (λ e. omega arith),
-      ne-eqb kind 6 (λ e. omega arith),
-      ne-eqb kind 7 (λ e. omega arith),
-      le-leb 4 kind (omega arith),
-      le-leb kind 13 (omega arith),
-    )
 
 above-by : (kind : ℕ) (b : Bool) → leb kind 13 ≡ b → lengthOf kind < 65536 → kind ≤ 13
 above-by kind true e h = leb-true kind 13 e

@@ -1,10 +1,9 @@
 -- `log::length_of` meets its contract.
 -- Assumes nothing.
-use mathlib.Core.Path.{_≡_, sym}
-use native.Mathlib.Omega.{arith}
+use mathlib.Core.Path.{sym}
 use Rattle.log.specs.Records.{lengthOf}
 use Rattle.model.specs.Log.{widths, total}
-use Rattle.log.proofs.Known.{behind, length-zero, length-above, length-only}
+use Rattle.log.proofs.Known.{length-unknown}
 use Rattle.log.proofs.length_of.Statement.{statement}
 use Rattle.log.proofs.length_of.Tie as tie
 
@@ -37,15 +36,31 @@ unfolding lengthOf widths total
 returns-7 c = rw (c .match .keys7)
 
 returns-8 : tie.Need-returns-8
-returns-8 c =
-    let kind = c .before .before .before .args .kind in
-    sym (length-only kind (behind 7 1 kind (c .before .before .match .rest) (c .before .if1 .left)) (c .if2 .taken))
+unfolding lengthOf widths total
+returns-8 c = rw (c .match .keys8)
 
 returns-9 : tie.Need-returns-9
-returns-9 c = let e : c .before .before .args .kind ≡ 0 = let h = c .if1 .taken in omega (arith, h) in rw (e, length-zero)
+unfolding lengthOf widths total
+returns-9 c = rw (c .match .keys9)
 
 returns-10 : tie.Need-returns-10
-returns-10 c = sym (length-above (c .before .before .before .args .kind) (c .if2 .left))
+unfolding lengthOf widths total
+returns-10 c = rw (c .match .keys10)
+
+returns-11 : tie.Need-returns-11
+unfolding lengthOf widths total
+returns-11 c = rw (c .match .keys11)
+
+returns-12 : tie.Need-returns-12
+unfolding lengthOf widths total
+returns-12 c = rw (c .match .keys12)
+
+returns-13 : tie.Need-returns-13
+unfolding lengthOf widths total
+returns-13 c = rw (c .match .keys13)
+
+returns-14 : tie.Need-returns-14
+returns-14 c = sym (length-unknown (c .before .args .kind) (c .match .rest))
 
 pub length-of-spec : {M : Type 1} → statement M
 length-of-spec =
@@ -60,4 +75,8 @@ length-of-spec =
     returns-7
     returns-8
     returns-9
-    returns-10)
+    returns-10
+    returns-11
+    returns-12
+    returns-13
+    returns-14)
