@@ -85,6 +85,9 @@ pub fn version_rows(
 pub fn count_versions(rows: &[u64], versions: &[u64], lists: &[u64], slot: u32, count: u32) -> u64
     ensures { λ r. ⌜ r ≡ versionsIn (now (rows .entry)) (now (versions .entry)) (now (lists .entry)) slot count ⌝ }
 {
+    if count == 0 {
+        return 0;
+    }
     let mut list = [0u64; MOST_PENDING];
     let n = version_rows(rows, versions, lists, slot, count, &mut list);
     lesser_usize(n, MOST_PENDING) as u64
