@@ -9,12 +9,39 @@ ghost use Rattle.table.specs.Fields.{stampOf, setStamp, setStamps, holde
 
 pub mod lists; // lists.rt: the lists of a transaction, in its slot
 
-// Words of a row's entry, of a version's and of a bucket's.
+// How many words a row's entry has, a version's and a bucket's.
 pub const ROW_WORDS: usize = 4;
 
 pub const VERSION_WORDS: usize = 6;
 
 pub const BUCKET_WORDS: usize = 2;
+
+// Where the words of a row's entry stand in it.
+pub const HEAD: usize = 0;
+
+pub const CLAIM: usize = 1;
+
+pub const POSTED: usize = 2;
+
+pub const POSTED_KEY: usize = 3;
+
+// Of a version's.
+pub const XMIN: usize = 0;
+
+pub const XMAX: usize = 1;
+
+pub const NEXT: usize = 2;
+
+pub const KEYED: usize = 3;
+
+pub const KEY: usize = 4;
+
+pub const PAYLOAD: usize = 5;
+
+// Of a bucket's.
+pub const STAMP: usize = 0;
+
+pub const HOLDER: usize = 1;
 
 // The word at `at`, or 0.
 pub fn word(xs: &[u64], at: usize) -> u64
@@ -96,187 +123,187 @@ fn clear_every(xs: &mut [u64], w: usize, k: usize, n: u64, v: u64)
 pub fn head_at(rows: &[u64], r: usize) -> u64
     ensures { λ x. ⌜ x ≡ headOf (now (rows .entry)) r ⌝ }
 {
-    field_at(rows, ROW_WORDS, 0, r)
+    field_at(rows, ROW_WORDS, HEAD, r)
 }
 
 pub fn set_head(rows: &mut [u64], r: usize, x: u64)
     ensures { λ _. ⌜ now (rows .exit) ≡ setHead (now (rows .entry)) r x ⌝ }
 {
-    set_field(rows, ROW_WORDS, 0, r, x);
+    set_field(rows, ROW_WORDS, HEAD, r, x);
 }
 
 pub fn claim_at(rows: &[u64], r: usize) -> u64
     ensures { λ x. ⌜ x ≡ claimOf (now (rows .entry)) r ⌝ }
 {
-    field_at(rows, ROW_WORDS, 1, r)
+    field_at(rows, ROW_WORDS, CLAIM, r)
 }
 
 pub fn set_claim(rows: &mut [u64], r: usize, x: u64)
     ensures { λ _. ⌜ now (rows .exit) ≡ setClaim (now (rows .entry)) r x ⌝ }
 {
-    set_field(rows, ROW_WORDS, 1, r, x);
+    set_field(rows, ROW_WORDS, CLAIM, r, x);
 }
 
 // A row is freed where its claim is the number.
 pub fn unclaim(rows: &mut [u64], r: usize, number: u64)
     ensures { λ _. ⌜ now (rows .exit) ≡ unclaimed (now (rows .entry)) r number ⌝ }
 {
-    clear_field(rows, ROW_WORDS, 1, r, number);
+    clear_field(rows, ROW_WORDS, CLAIM, r, number);
 }
 
 // Every row below the count whose claim is the number becomes free.
 pub fn unclaim_every(rows: &mut [u64], row_count: u64, number: u64)
     ensures { λ _. ⌜ now (rows .exit) ≡ unclaimEvery (now (rows .entry)) «row_count» number ⌝ }
 {
-    clear_every(rows, ROW_WORDS, 1, row_count, number);
+    clear_every(rows, ROW_WORDS, CLAIM, row_count, number);
 }
 
 pub fn posted_at(rows: &[u64], r: usize) -> u64
     ensures { λ x. ⌜ x ≡ postedOf (now (rows .entry)) r ⌝ }
 {
-    field_at(rows, ROW_WORDS, 2, r)
+    field_at(rows, ROW_WORDS, POSTED, r)
 }
 
 pub fn set_posted(rows: &mut [u64], r: usize, x: u64)
     ensures { λ _. ⌜ now (rows .exit) ≡ setPosted (now (rows .entry)) r x ⌝ }
 {
-    set_field(rows, ROW_WORDS, 2, r, x);
+    set_field(rows, ROW_WORDS, POSTED, r, x);
 }
 
 pub fn posted_key_at(rows: &[u64], r: usize) -> u64
     ensures { λ x. ⌜ x ≡ postedKeyOf (now (rows .entry)) r ⌝ }
 {
-    field_at(rows, ROW_WORDS, 3, r)
+    field_at(rows, ROW_WORDS, POSTED_KEY, r)
 }
 
 pub fn set_posted_key(rows: &mut [u64], r: usize, x: u64)
     ensures { λ _. ⌜ now (rows .exit) ≡ setPostedKey (now (rows .entry)) r x ⌝ }
 {
-    set_field(rows, ROW_WORDS, 3, r, x);
+    set_field(rows, ROW_WORDS, POSTED_KEY, r, x);
 }
 
 // Versions: xmin, xmax, next, keyed, key, payload.
 pub fn xmin_at(versions: &[u64], p: usize) -> u64
     ensures { λ x. ⌜ x ≡ xminOf (now (versions .entry)) p ⌝ }
 {
-    field_at(versions, VERSION_WORDS, 0, p)
+    field_at(versions, VERSION_WORDS, XMIN, p)
 }
 
 pub fn set_xmin(versions: &mut [u64], p: usize, x: u64)
     ensures { λ _. ⌜ now (versions .exit) ≡ setXmin (now (versions .entry)) p x ⌝ }
 {
-    set_field(versions, VERSION_WORDS, 0, p, x);
+    set_field(versions, VERSION_WORDS, XMIN, p, x);
 }
 
 pub fn xmax_at(versions: &[u64], p: usize) -> u64
     ensures { λ x. ⌜ x ≡ xmaxOf (now (versions .entry)) p ⌝ }
 {
-    field_at(versions, VERSION_WORDS, 1, p)
+    field_at(versions, VERSION_WORDS, XMAX, p)
 }
 
 pub fn set_xmax(versions: &mut [u64], p: usize, x: u64)
     ensures { λ _. ⌜ now (versions .exit) ≡ setXmax (now (versions .entry)) p x ⌝ }
 {
-    set_field(versions, VERSION_WORDS, 1, p, x);
+    set_field(versions, VERSION_WORDS, XMAX, p, x);
 }
 
 pub fn next_at(versions: &[u64], p: usize) -> u64
     ensures { λ x. ⌜ x ≡ nextOf (now (versions .entry)) p ⌝ }
 {
-    field_at(versions, VERSION_WORDS, 2, p)
+    field_at(versions, VERSION_WORDS, NEXT, p)
 }
 
 pub fn set_next(versions: &mut [u64], p: usize, x: u64)
     ensures { λ _. ⌜ now (versions .exit) ≡ setNext (now (versions .entry)) p x ⌝ }
 {
-    set_field(versions, VERSION_WORDS, 2, p, x);
+    set_field(versions, VERSION_WORDS, NEXT, p, x);
 }
 
 pub fn keyed_at(versions: &[u64], p: usize) -> u64
     ensures { λ x. ⌜ x ≡ keyedOf (now (versions .entry)) p ⌝ }
 {
-    field_at(versions, VERSION_WORDS, 3, p)
+    field_at(versions, VERSION_WORDS, KEYED, p)
 }
 
 pub fn set_keyed(versions: &mut [u64], p: usize, x: u64)
     ensures { λ _. ⌜ now (versions .exit) ≡ setKeyed (now (versions .entry)) p x ⌝ }
 {
-    set_field(versions, VERSION_WORDS, 3, p, x);
+    set_field(versions, VERSION_WORDS, KEYED, p, x);
 }
 
 pub fn key_at(versions: &[u64], p: usize) -> u64
     ensures { λ x. ⌜ x ≡ keyOf (now (versions .entry)) p ⌝ }
 {
-    field_at(versions, VERSION_WORDS, 4, p)
+    field_at(versions, VERSION_WORDS, KEY, p)
 }
 
 pub fn set_key(versions: &mut [u64], p: usize, x: u64)
     ensures { λ _. ⌜ now (versions .exit) ≡ setKey (now (versions .entry)) p x ⌝ }
 {
-    set_field(versions, VERSION_WORDS, 4, p, x);
+    set_field(versions, VERSION_WORDS, KEY, p, x);
 }
 
 pub fn payload_at(versions: &[u64], p: usize) -> u64
     ensures { λ x. ⌜ x ≡ payloadOf (now (versions .entry)) p ⌝ }
 {
-    field_at(versions, VERSION_WORDS, 5, p)
+    field_at(versions, VERSION_WORDS, PAYLOAD, p)
 }
 
 pub fn set_payload(versions: &mut [u64], p: usize, x: u64)
     ensures { λ _. ⌜ now (versions .exit) ≡ setPayload (now (versions .entry)) p x ⌝ }
 {
-    set_field(versions, VERSION_WORDS, 5, p, x);
+    set_field(versions, VERSION_WORDS, PAYLOAD, p, x);
 }
 
 // Buckets: stamp, holder.
 pub fn stamp_at(buckets: &[u64], b: usize) -> u64
     ensures { λ x. ⌜ x ≡ stampOf (now (buckets .entry)) b ⌝ }
 {
-    field_at(buckets, BUCKET_WORDS, 0, b)
+    field_at(buckets, BUCKET_WORDS, STAMP, b)
 }
 
 pub fn set_stamp(buckets: &mut [u64], b: usize, x: u64)
     ensures { λ _. ⌜ now (buckets .exit) ≡ setStamp (now (buckets .entry)) b x ⌝ }
 {
-    set_field(buckets, BUCKET_WORDS, 0, b, x);
+    set_field(buckets, BUCKET_WORDS, STAMP, b, x);
 }
 
 // The first n buckets of a list get a stamp.
 pub fn set_stamps(buckets: &mut [u64], list: &[u64], n: usize, x: u64)
     ensures { λ _. ⌜ now (buckets .exit) ≡ setStamps (now (buckets .entry)) x (take n (now (list .entry))) ⌝ }
 {
-    set_fields(buckets, BUCKET_WORDS, 0, list, n, x);
+    set_fields(buckets, BUCKET_WORDS, STAMP, list, n, x);
 }
 
 pub fn holder_at(buckets: &[u64], b: usize) -> u64
     ensures { λ x. ⌜ x ≡ holderOf (now (buckets .entry)) b ⌝ }
 {
-    field_at(buckets, BUCKET_WORDS, 1, b)
+    field_at(buckets, BUCKET_WORDS, HOLDER, b)
 }
 
 pub fn set_holder(buckets: &mut [u64], b: usize, x: u64)
     ensures { λ _. ⌜ now (buckets .exit) ≡ setHolder (now (buckets .entry)) b x ⌝ }
 {
-    set_field(buckets, BUCKET_WORDS, 1, b, x);
+    set_field(buckets, BUCKET_WORDS, HOLDER, b, x);
 }
 
 // The first n buckets of a list get a holder.
 pub fn set_holders(buckets: &mut [u64], list: &[u64], n: usize, x: u64)
     ensures { λ _. ⌜ now (buckets .exit) ≡ setHolders (now (buckets .entry)) x (take n (now (list .entry))) ⌝ }
 {
-    set_fields(buckets, BUCKET_WORDS, 1, list, n, x);
+    set_fields(buckets, BUCKET_WORDS, HOLDER, list, n, x);
 }
 
 // A bucket is freed where its holder is the number.
 pub fn release(buckets: &mut [u64], b: usize, number: u64)
     ensures { λ _. ⌜ now (buckets .exit) ≡ released (now (buckets .entry)) b number ⌝ }
 {
-    clear_field(buckets, BUCKET_WORDS, 1, b, number);
+    clear_field(buckets, BUCKET_WORDS, HOLDER, b, number);
 }
 
 // Every bucket below the count whose holder is the number becomes free.
 pub fn release_every(buckets: &mut [u64], bucket_count: u64, number: u64)
     ensures { λ _. ⌜ now (buckets .exit) ≡ releaseEvery (now (buckets .entry)) «bucket_count» number ⌝ }
 {
-    clear_every(buckets, BUCKET_WORDS, 1, bucket_count, number);
+    clear_every(buckets, BUCKET_WORDS, HOLDER, bucket_count, number);
 }
