@@ -1,13 +1,14 @@
 -- The rows posted with a key, and where a collect keeps them.
-use Prim.Native.Nat.{ℕ, _+_, min}
-use mathlib.Core.Bool.{Bool, cond, not, _&&_}
-use mathlib.Core.List.{List, [], _∷_}
+use Prim.Native.Nat.{ℕ, _+_, _-_, min}
+use mathlib.Core.Bool.{Bool, not, _&&_, _||_}
+use mathlib.Core.List.{List}
 use lib.Dec.{eqb}
+use lib.ListN.{length}
 use lib.Seq.{sets}
 use Rattle.base_limits.specs.Limits.{mostRows}
 use Rattle.base_lists.specs.Lists.{pick}
 use Rattle.table.specs.Fields.{postedOf, postedKeyOf}
-use Rattle.table.specs.Lists.{candidates, placeOf, stored}
+use Rattle.table.specs.Lists.{candidates, placeOf}
 
 -- a row is posted with exactly this key
 abbrev pub postedWith : List ℕ → ℕ → ℕ → Bool
@@ -26,6 +27,15 @@ pub record Kept : Type 0 where
   pub n : ℕ
   pub lists : List ℕ
 
--- one row: it is kept behind those kept before it where it is posted with the key
-abbrev pub keepOne : List ℕ → ℕ → ℕ → ℕ → Kept → Kept
-keepOne rows k slot r st = cond (postedWith rows k r) (record { n = st .n + 1; lists = stored candidates (st .lists) slot (st .n) (r ∷ []) }) st
+-- rows kept behind those kept before them
+abbrev pub keepAll : ℕ → List ℕ → Kept → Kept
+keepAll slot rs st = record { n = st .n + length rs; lists = sets (st .lists) (placeOf candidates slot (st .n)) rs }
+
+-- the rows from r to end that are posted with this key, ascending
+abbrev pub postedFrom : List ℕ → ℕ → ℕ → ℕ → List ℕ
+postedFrom rows k r end = pick (postedWith rows k) r (end - r)
+
+-- one of four rows from r on has this key in its posting's place
+abbrev pub anyKeyed : List ℕ → ℕ → ℕ → Bool
+anyKeyed rows k r =
+    ((eqb (postedKeyOf rows r) k || eqb (postedKeyOf rows (r + 1)) k) || eqb (postedKeyOf rows (r + 2)) k) || eqb (postedKeyOf rows (r + 3)) k

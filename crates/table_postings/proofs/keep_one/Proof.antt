@@ -2,14 +2,12 @@
 -- Assumes nothing.
 use borrow.Author.Tests.{not-true, not-false}
 use borrow.Author.Needs.{needs}
+use native.Mathlib.Nat.{add-zero}
 use Rattle.table_postings.proofs.keep_one.Statement.{statement}
 use Rattle.table_postings.proofs.keep_one.Tie as tie
 
-posted-with-requires : tie.Need-posted-with-requires
-posted-with-requires c κs = search needs
-
 returns : tie.Need-returns
-returns c = rw (← c .before .posted-with .ensures, not-true (c .before .posted-with .result) (c .if1 .taken))
+returns c = rw (not-true (c .before .before .args .posted) (c .if1 .taken), add-zero)
 
 put-candidate-requires : tie.Need-put-candidate-requires
 put-candidate-requires c κs = search needs
@@ -23,10 +21,9 @@ same-length c = search needs
 returns-2 : tie.Need-returns-2
 returns-2 c =
     let put = c .before .before in
-    let posted = put .before .before in
-    rw (← posted .before .posted-with .ensures, not-false (posted .before .posted-with .result) (posted .if1 .left), put .put-candidate .ensures)
+    let tested = put .before .before in
+    rw (not-false (tested .before .before .args .posted) (tested .if1 .left), put .put-candidate .ensures)
 
 pub keep-one-spec : {M : Type 1} → statement M
 keep-one-spec =
-    tie.close
-    (tie.spec posted-with-requires returns put-candidate-requires add-result same-length returns-2)
+    tie.close (tie.spec returns put-candidate-requires add-result same-length returns-2)
