@@ -1,15 +1,17 @@
 // Chains of versions, and what a snapshot sees of them.
 ghost use mathlib.Core.Path.{_≡_};
 ghost use mathlib.Core.Bool.{not, _||_};
+ghost use Prim.Native.Nat.{_+_, _*_, _<_, _≤_};
 ghost use lib.Dec.{eqb};
-ghost use lib.ListN.{take};
-ghost use Rattle.table.specs.Fields.{xminOf, xmaxOf};
+ghost use lib.ListN.{length, take};
+ghost use Rattle.table.specs.Words.{field};
+ghost use Rattle.table.specs.Fields.{versionWords, xminOf, xmaxOf};
 ghost use Rattle.table_chain.specs.Chain.{NoneBelow, seenBy, visibleTo, walkFrom, firstVisible};
 use base_limits::MOST_ACTIVE;
+use table::NEXT;
 use table::VERSION_WORDS;
-use table::next_at;
-use table::xmax_at;
-use table::xmin_at;
+use table::XMAX;
+use table::XMIN;
 use table_scans::active_contains;
 use table_scans::least_of;
 
@@ -76,6 +78,14 @@ pub fn visible(
     }
 }
 
+// Word k of a version that stands whole in the table.
+fn word_of(versions: &[u64], at: usize, k: usize) -> u64
+    requires { ⌜ (k < versionWords) × (versionWords * (at + 1) ≤ length (now versions)) ⌝ }
+    ensures { λ r. ⌜ r ≡ field versionWords k (now (versions .entry)) at ⌝ }
+{
+    versions[VERSION_WORDS * at + k]
+}
+
 // Whether it sees the version at a place. The xmax is read only where the xmin is seen: most versions that a walk passes are newer than the snapshot.
 fn visible_at(
     versions: &[u64],
@@ -85,11 +95,11 @@ fn visible_at(
     active_n: usize,
     xmax: u64,
 ) -> bool
-    requires { ⌜ NoneBelow low (take «active_n» (now active)) ⌝ }
+    requires { ⌜ NoneBelow low (take «active_n» (now active)) × (versionWords * (at + 1) ≤ length (now versions)) ⌝ }
     ensures { λ r. ⌜ r ≡ visibleTo (take «active_n» (now (active .entry))) xmax (xminOf (now (versions .entry)) at) (xmaxOf (now (versions .entry)) at) ⌝ }
 {
-    if seen_above(xmin_at(versions, at), low, active, active_n, xmax) {
-        not_ended(xmax_at(versions, at), low, active, active_n, xmax)
+    if seen_above(word_of(versions, at, XMIN), low, active, active_n, xmax) {
+        not_ended(word_of(versions, at, XMAX), low, active, active_n, xmax)
     } else {
         false
     }
@@ -105,7 +115,7 @@ fn walk(
     xmax: u64,
     p: u64,
 ) -> u64
-    requires { ⌜ NoneBelow low (take «active_n» (now active)) ⌝ }
+    requires { ⌜ NoneBelow low (take «active_n» (now active)) × (versionWords * (p + 1) ≤ length (now (now versions))) ⌝ }
     ensures { λ r. ⌜ r ≡ walkFrom (now (now (versions .entry))) (take «active_n» (now (active .entry))) xmax p ⌝ }
 {
     if p == 0 {
@@ -115,7 +125,7 @@ fn walk(
     if visible_at(*versions, at, low, &active[..], active_n, xmax) {
         return p;
     }
-    let next = next_at(*versions, at);
+    let next = word_of(*versions, at, NEXT);
     if next < p {
         walk(versions, low, active, active_n, xmax, next)
     } else {

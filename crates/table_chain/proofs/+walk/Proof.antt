@@ -17,7 +17,7 @@ use Rattle.table_chain.proofs.walk.Reads as walk
 use Rattle.table_chain.proofs.walk.Kinds as walk-kinds
 use Rattle.table_chain.proofs.+walk.Lts-walk as walk-lts
 use Rattle.table_chain.proofs.visible_at.Reads as visible-at-reads
-use Rattle.table.proofs.next_at.Reads as next-at-reads
+use Rattle.table_chain.proofs.word_of.Reads as word-of-reads
 use Rattle.table_chain.proofs.+walk.{statement}
 use Rattle.table_chain.proofs.+walk.Tie.{close}
 
@@ -32,13 +32,13 @@ walk-below t = and 3 walk-kinds.ps (falls 3 walk-kinds.ps _<_ μ-walk t) walk.Pr
 
 -- what its callees ask and give: itself too, at a lower pointer
 abbrev claims : ℕ → walk-lts.Claims
-claims t = (visible-at-reads.Asked, visible-at-reads.Learnt, next-at-reads.Asked, next-at-reads.Learnt, walk-below t, walk.Post)
+claims t = (visible-at-reads.Asked, visible-at-reads.Learnt, word-of-reads.Asked, word-of-reads.Learnt, walk-below t, walk.Post)
 
 module _ (t : ℕ) where
   abbrev nonzero : walk-lts.After-visible-at (claims t) (walk-at t) walk.Post → walk-lts.Else1 (claims t) (walk-at t) walk.Post
   nonzero c = c .before .before .before
 
-  abbrev passed : walk-lts.After-next-at (claims t) (walk-at t) walk.Post → walk-lts.Else2 (claims t) (walk-at t) walk.Post
+  abbrev passed : walk-lts.After-word-of (claims t) (walk-at t) walk.Post → walk-lts.Else2 (claims t) (walk-at t) walk.Post
   passed c = c .before .before
 
   -- the version at p is not seen: the walk goes on from the next pointer, if that falls
@@ -59,26 +59,29 @@ module _ (t : ℕ) where
   unfolding stepFrom
   walk-returns-2 c = rw (walk-step, ne-eqb _ _ (nonzero (c .before) .if1 .left), sym (c .before .visible-at .ensures) ∙ c .if2 .taken)
 
-  walk-next-at-requires : walk-lts.Need-next-at-requires (claims t) (walk-at t) walk.Post
-  walk-next-at-requires c κs = search needs
+  walk-word-of-requires : walk-lts.Need-word-of-requires (claims t) (walk-at t) walk.Post
+  walk-word-of-requires c κs = (omega arith, nonzero (c .before .before) .before .pre .1 .1)
 
   walk-walk-requires : walk-lts.Need-walk-requires (claims t) (walk-at t) walk.Post
-  walk-walk-requires c κs = (omega arith, nonzero (passed (c .before) .before) .before .pre .1)
+  walk-walk-requires c κs =
+      let pre = nonzero (passed (c .before) .before) .before .pre .1 in
+      let h = pre .1 in
+      (omega arith, (pre .0, omega (arith, h)))
 
   walk-returns-3 : walk-lts.Need-returns-3 (claims t) (walk-at t) walk.Post
   walk-returns-3 c =
       let next = c .before .before in
-      c .walk .ensures ∙ sym (rw (unseen (passed next), ← next .next-at .ensures, lt-ltb _ _ (c .before .if3 .taken)))
+      c .walk .ensures ∙ sym (rw (unseen (passed next), ← next .word-of .ensures, lt-ltb _ _ (c .before .if3 .taken)))
 
   walk-returns-4 : walk-lts.Need-returns-4 (claims t) (walk-at t) walk.Post
-  walk-returns-4 c = rw (unseen (passed (c .before)), ← c .before .next-at .ensures, le-ltb _ _ (c .if3 .left))
+  walk-returns-4 c = rw (unseen (passed (c .before)), ← c .before .word-of .ensures, le-ltb _ _ (c .if3 .left))
 
 pub +walk-spec : {M : Type 1} → statement M
 +walk-spec = close μ-walk λ t. walk-lts.spec (claims t) (walk-at t) walk.Post
     (walk-returns t)
     (walk-visible-at-requires t)
     (walk-returns-2 t)
-    (walk-next-at-requires t)
+    (walk-word-of-requires t)
     (walk-walk-requires t)
     (walk-returns-3 t)
     (walk-returns-4 t)

@@ -3,6 +3,7 @@
 use borrow.Author.Tests.{le-leb, lt-leb, lt-ltb, le-ltb, eq-eqb, ne-eqb}
 use mathlib.Core.Path.{_≡_, sym, _∙_}
 use mathlib.Core.Bool.{and-false}
+use native.Mathlib.Omega.{arith}
 use Rattle.base_lists.proofs.ListLaws.{below-least}
 use Rattle.table_chain.specs.Chain.{pointer, firstVisible}
 use borrow.Author.Needs.{needs}
@@ -29,7 +30,9 @@ least-of-requires : tie.Need-least-of-requires
 least-of-requires c κs = search needs
 
 walk-requires : tie.Need-walk-requires
-walk-requires c κs = λ n l. below-least _ _ n (rw (c .before .before .least-of .ensures) at l)
+walk-requires c κs =
+    let tested = c .before .before .before .before in
+    ((λ n l. below-least _ _ n (rw (c .before .before .least-of .ensures) at l)), let h = tested .if2 .left in omega (arith, h))
 
 returns-3 : tie.Need-returns-3
 returns-3 c = sym (walked (c .before) ∙ rw (eq-eqb _ _ (c .if3 .taken)))
