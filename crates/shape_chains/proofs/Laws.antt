@@ -1,15 +1,20 @@
 -- Tests of every number below a bound, and how the loops go through them.
 -- Assumes nothing.
-use Prim.Native.Nat.{ℕ, zero, suc, _+_, _<_, _≤_}
+use Prim.Native.Nat.{ℕ, zero, suc, _+_, _*_, _<_, _≤_}
 use mathlib.Core.Path.{_≡_, refl, sym, ap, _∙_}
+use mathlib.Core.List.{List}
 use mathlib.Core.Bool.{Bool, true, false, not, and-false}
 use native.Mathlib.Decide.{decLt}
 use native.Mathlib.Numerals.{add-one}
 use native.Mathlib.Omega.{arith}
-use borrow.Author.Tests.{not-true, not-false}
+use borrow.Author.Tests.{not-true, not-false, le-leb, lt-ltb}
+use lib.Dec.{leb, ltb}
+use lib.ListN.{length, List·getD-eq-default}
 use Rattle.base_lists.specs.Lists.{every}
+use Rattle.table.specs.Words.{field}
+use Rattle.table.specs.Fields.{rowWords, versionWords, headOf, nextOf}
 
--- none, one more, all, and one that fails
+-- none, one more, all, all past one, and one that fails
 pub every-none : (test : ℕ → Bool) → every 0 test ≡ true
 unfolding every
 every-none test = refl
@@ -22,6 +27,14 @@ module _ (test : ℕ → Bool) (i : ℕ) where
   pub every-done : (n : ℕ) → i ≤ n → n ≤ i → every i test ≡ true → true ≡ every n test
   every-done n a b e = let d : i ≡ n = omega arith in sym (sym (ap (λ (j : ℕ). every j test) d) ∙ e)
 
+  pub every-past : (n : ℕ) → i ≤ n → ((j : ℕ) → i ≤ j → j < n → test j ≡ true) → every i test ≡ true → true ≡ every n test
+  unfolding every
+  every-past zero a b e = every-done zero a (omega arith) e
+  every-past (suc n) a b e = elim (decLt n i) [
+    | yes l ↦ every-done (suc n) a l e
+    | no l ↦ rw (← every-past n (omega (arith, l)) (λ j h k. b j h (omega arith)) e, b n (omega (arith, l)) (omega arith))
+  ]
+
   pub every-fails : (n : ℕ) → i < n → test i ≡ false → false ≡ every n test
   unfolding every
   every-fails zero h e = absurd (omega arith)
@@ -33,3 +46,12 @@ passed {r} e l = sym e ∙ not-false r l
 
 pub failed : {r test : Bool} → r ≡ test → not r ≡ true → test ≡ false
 failed {r} e t = sym e ∙ not-true r t
+
+-- a row past the table has head 0, a version past it next 0
+pub head-past : (rows : List ℕ) (r used : ℕ) → length rows ≤ rowWords * r → leb (headOf rows r) used ≡ true
+unfolding field
+head-past rows r used h = rw (List·getD-eq-default rows 0 {n = rowWords * r + 0} (omega arith)) (le-leb 0 used (omega arith))
+
+pub next-past : (versions : List ℕ) (p : ℕ) → length versions ≤ versionWords * p + 2 → 0 < p → ltb (nextOf versions p) p ≡ true
+unfolding field
+next-past versions p h k = rw (List·getD-eq-default versions 0 {n = versionWords * p + 2} h) (lt-ltb 0 p k)

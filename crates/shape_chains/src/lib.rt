@@ -1,17 +1,22 @@
 // Pointers in range: heads at most the last used pointer, each next below its own.
+use base_numbers::lesser_u64;
 use base_protocol::Sizes;
-use table::head_at;
-use table::next_at;
+use table::HEAD;
+use table::NEXT;
+use table::ROW_WORDS;
+use table::VERSION_WORDS;
 ghost use mathlib.Core.Path.{_≡_};
 ghost use Rattle.shape_chains.specs.ChainsShape.{headsIn, nextsFall, chainsFit};
 
-// Whether heads are at most the last used pointer.
+// Whether heads are at most the last used pointer; only those that the table holds are looked at, since a row past it has head 0.
 fn heads_in(rows: &[u64], row_count: u64, used: u64) -> bool
     ensures { λ r. ⌜ r ≡ headsIn (now (rows .entry)) «row_count» used ⌝ }
 {
+    let held = (rows.len() + (ROW_WORDS - 1 - HEAD)) / ROW_WORDS;
+    let end = lesser_u64(row_count, held as u64);
     let mut row: u64 = 0;
-    while row < row_count {
-        if used < head_at(rows, row as usize) {
+    while row < end {
+        if used < rows[ROW_WORDS * (row as usize) + HEAD] {
             return false;
         }
         row += 1;
@@ -19,13 +24,18 @@ fn heads_in(rows: &[u64], row_count: u64, used: u64) -> bool
     true
 }
 
-// Whether each next is below its own pointer.
+// Whether each next is below its own pointer; only those that the table holds are looked at, since a version past it has next 0.
 fn nexts_fall(versions: &[u64], used: u64) -> bool
     ensures { λ r. ⌜ r ≡ nextsFall (now (versions .entry)) used ⌝ }
 {
+    if versions.len() <= NEXT {
+        return true;
+    }
+    let last = (versions.len() - 1 - NEXT) / VERSION_WORDS;
+    let end = lesser_u64(used, last as u64);
     let mut p: u64 = 0;
-    while p < used {
-        if p + 1 <= next_at(versions, (p + 1) as usize) {
+    while p < end {
+        if p + 1 <= versions[VERSION_WORDS * (p as usize + 1) + NEXT] {
             return false;
         }
         p += 1;
