@@ -7,7 +7,7 @@ use native.Mathlib.Numerals.{add-one}
 use native.Mathlib.Nat.{add-assoc, add-zero}
 use native.Mathlib.Omega.{arith}
 use lib.ListN.{length, take, drop, getD, set, length-append, length-drop, take-append-drop}
-use lib.Seq.{take-at, drop-append-add, drop-drop, set-split, take-suc, length-take-le}
+use lib.Seq.{take-at, drop-append-add, drop-drop, set-split, set-at, take-suc, length-take-le}
 use Rattle.report_lines.specs.Lines.{laid}
 
 module _ (old : List ℕ) (at : ℕ) (s : List ℕ) (fits : at + length s ≤ length old) where
@@ -51,3 +51,11 @@ pub word-next : (old l : List ℕ) (w : List ℕ) (i : ℕ) → i < length w →
 word-next old l w i h fits e =
     let n : length (take i w) ≡ i = length-take-le i w (omega arith) in
     rw (add-one, take-suc w i 0) (then-store old 0 (take i w) l i e (omega arith) (getD w i 0) (omega arith))
+
+-- a byte stored right before a text makes it longer
+pub store-before : (old l s : List ℕ) (p v : ℕ) → p < length old → l ≡ laid old (p + 1) s → set l p v ≡ laid old p (v ∷ s)
+store-before old l s p v h e =
+    let rest = drop (p + 1 + length s) old in
+    let places : p + 1 + length s ≡ p + length (v ∷ s) = omega arith in
+    let opened : laid old (p + 1) s ≡ take p old ++ getD old p 0 ∷ (s ++ rest) = rw (add-one, take-suc old p 0 h) (simp append-assoc) in
+    rw (e, opened, set-at (take p old) (getD old p 0) (s ++ rest) v p (length-take-le p old (omega arith)), ← places) (simp append-assoc)

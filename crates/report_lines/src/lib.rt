@@ -24,7 +24,16 @@ fn width(n: u64) -> usize
     if n < 10 {
         return 1;
     }
-    width(n / 10) + 1
+    if n < 100 {
+        return 2;
+    }
+    if n < 1000 {
+        return 3;
+    }
+    if n < 10000 {
+        return 4;
+    }
+    width(n / 10000) + 4
 }
 
 // How long the numbers are, each after its space.
@@ -59,13 +68,15 @@ fn put_digits(out: &mut [u8], at: usize, n: u64) -> usize
     requires { ⌜ at + length (decimal n) ≤ length (now out) ⌝ }
     ensures { λ r. ⌜ (r ≡ at + length (decimal n)) × (now (out .exit) ≡ laid (now (out .entry)) at (decimal n)) ⌝ }
 {
-    if n < 10 {
-        out[at] = b'0' + n as u8;
-        return at + 1;
+    let end = at + width(n);
+    let mut p = end;
+    let mut rest = n;
+    while p > at {
+        p -= 1;
+        out[p] = b'0' + (rest % 10) as u8;
+        rest = rest / 10;
     }
-    let p = put_digits(out, at, n / 10);
-    out[p] = b'0' + (n % 10) as u8;
-    p + 1
+    end
 }
 
 // Writes the numbers from `at` on, each after a space, and returns the place after them.

@@ -1,0 +1,103 @@
+-- `report_lines::put_digits` meets its contract.
+-- Assumes nothing.
+use borrow.Author.Needs.{needs}
+use Prim.Native.Nat.{_+_, _-_, _<_, _≤_}
+use mathlib.Core.Path.{_≡_, refl, _∙_}
+use native.Mathlib.Omega.{arith}
+use lib.ListN.{length, take, drop, length-set}
+use lib.Seq.{take-length, drop-length}
+use Rattle.model.specs.Report.{decimal}
+use Rattle.report_lines.specs.Lines.{laid}
+use Rattle.report_lines.proofs.Digits.{digits-left, digit-laid}
+use Rattle.report_lines.proofs.Laid.{laid-none}
+use Rattle.report_lines.proofs.put_digits.Statement.{statement}
+use Rattle.report_lines.proofs.put_digits.Tie as tie
+
+-- the digits from p on are laid, and those before it are the digits of `rest`
+abbrev Inv-loop : tie.InvT-loop
+Inv-loop out₀ at n end p₀ rest₀ out p rest =
+    (at ≤ p)
+    × (p ≤ at + length (decimal n))
+    × (length out ≡ length out₀)
+    × (at < p → take (p - at) (decimal n) ≡ decimal rest)
+    × (out ≡ laid out₀ p (drop (p - at) (decimal n)))
+
+abbrev μ-loop : tie.MeasureT-loop
+μ-loop out₀ at n end p₀ rest₀ out p rest = p
+
+width-requires : tie.Need-width-requires Inv-loop μ-loop
+width-requires c κs = search needs
+
+add-end : tie.Need-add-end Inv-loop μ-loop
+add-end c = search needs
+
+loop-holds : tie.Need-loop-holds Inv-loop μ-loop
+loop-holds c =
+    let a = c .before .before .args in
+    let digits = decimal (a .n) in
+    let long = c .width .ensures .0 in
+    let whole : a .at + c .width .result - a .at ≡ length digits = omega arith in (
+      omega arith,
+      omega arith,
+      refl,
+      λ some. rw whole (take-length digits),
+      rw (whole, drop-length digits) (laid-none (a .out .now) (a .at + c .width .result)),
+    )
+
+sub-p : tie.Need-sub-p Inv-loop μ-loop
+sub-p c = search needs
+
+cast-out : tie.Need-cast-out Inv-loop μ-loop
+cast-out c = search needs
+
+add-out : tie.Need-add-out Inv-loop μ-loop
+add-out c = search needs
+
+slice-write-out : tie.Need-slice-write-out Inv-loop μ-loop
+slice-write-out c = search needs
+
+loop-less : tie.Need-loop-less Inv-loop μ-loop
+loop-less c = search needs
+
+loop-again : tie.Need-loop-again Inv-loop μ-loop
+loop-again c =
+    let l = c .before .loop in
+    let a = c .before .before .before .before .args in
+    let front = l .inv .3 (c .loop-test .taken) in (
+      omega arith,
+      omega arith,
+      simp length-set (l .inv .2),
+      digits-left (a .out .now) (l .out) (a .n) (a .at) (l .p) (l .rest) (omega arith) (omega arith) front,
+      digit-laid (a .out .now) (l .out) (a .n) (a .at) (l .p) (l .rest) (omega arith) (omega arith) front (omega arith) (l .inv .4),
+    )
+
+same-length : tie.Need-same-length Inv-loop μ-loop
+same-length c = search needs
+
+returns : tie.Need-returns Inv-loop μ-loop
+returns c =
+    let l = c .before .loop in
+    let width = c .before .before in
+    let a = width .before .before .args in
+    let long = width .width .ensures .0 in
+    let first : l .p ≡ a .at = omega arith in
+    let none : a .at - a .at ≡ 0 = omega arith in
+    (omega arith, rw none at (rw first at (l .inv .4)))
+
+pub put-digits-spec : {M : Type 1} → statement M
+put-digits-spec =
+    tie.close
+    (tie.spec
+    Inv-loop
+    μ-loop
+    width-requires
+    add-end
+    loop-holds
+    sub-p
+    cast-out
+    add-out
+    slice-write-out
+    loop-less
+    loop-again
+    same-length
+    returns)
