@@ -19,10 +19,10 @@ use Rattle.log.specs.declared.Command.the-variants.{Open, Ask, Malformed}
 use Rattle.log.specs.declared.Decoded.{Decoded}
 use Rattle.log.specs.Records.{decodedOf}
 use Rattle.log.proofs.Reading.{NoOpen, not-open, Reads, reads, read-malformed, read-open, read-ask}
-use Rattle.report_lines.specs.declared.Wrote.the-variants.{Next, Full}
-use Rattle.report_lines.specs.Lines.{Written, writtenAt}
-use Rattle.report_lines.proofs.Reported.{shown, shown-long}
+use Rattle.report.specs.declared.Wrote.the-variants.{Next, Full}
+use Rattle.report.specs.Written.{Written, writtenAt}
 use Rattle.report.specs.Lines.{badLine, openLine}
+use Rattle.report.proofs.Reported.{shown, shown-long}
 use Rattle.replay.specs.declared.stop.Stopped.{Stopped}
 use Rattle.replay.specs.Stops.{Left, malformedAt, unopenedAt}
 use Rattle.replay.specs.declared.Opened.{Opened}

@@ -27,10 +27,10 @@ use Rattle.log.specs.declared.Command.the-variants.{Open, Ask, Malformed}
 use Rattle.log.specs.declared.Decoded.{Decoded}
 use Rattle.log.specs.Records.{decodedOf}
 use Rattle.log.proofs.Reading.{NoStep, not-step, Reads, reads, read-malformed, read-open, read-ask, read-on}
-use Rattle.report_lines.specs.declared.Wrote.the-variants.{Next, Full}
-use Rattle.report_lines.specs.Lines.{Written, writtenAt}
-use Rattle.report_lines.proofs.Reported.{shown}
+use Rattle.report.specs.declared.Wrote.the-variants.{Next, Full}
+use Rattle.report.specs.Written.{Written, writtenAt}
 use Rattle.report.specs.Lines.{badLine, lineFor}
+use Rattle.report.proofs.Reported.{shown}
 use Rattle.report.proofs.Answers.{line-told}
 use Rattle.replay.specs.Stops.{Left, malformedAt}
 use Rattle.replay.specs.Replay.{Leaves}

@@ -9,9 +9,9 @@ use native.Mathlib.Omega.{arith}
 use lib.Dec.{leb}
 use lib.ListN.{length, length-append}
 use Rattle.model.specs.Replay.{stops, writeThen, mostRoom}
-use Rattle.report_lines.specs.declared.Wrote.the-variants.{Next, Full}
-use Rattle.report_lines.specs.Lines.{Written, writtenAt}
-use Rattle.report_lines.proofs.Reported.{shown, written-on, written-stop}
+use Rattle.report.specs.declared.Wrote.the-variants.{Next, Full}
+use Rattle.report.specs.Written.{Written, writtenAt}
+use Rattle.report.proofs.Reported.{shown, written-on, written-stop}
 use Rattle.replay.specs.Stops.{Left, stopWith}
 use Rattle.replay.specs.Replay.{Leaves}
 use Rattle.replay.proofs.RecordByRecord.{goes-on, goes-full}

@@ -2,9 +2,9 @@
 use Prim.Native.Nat.{ℕ}
 use mathlib.Core.List.{List}
 use Rattle.model.specs.Refusals.{WrongSize, NoRoom, Malformed, refusalNumber}
-use Rattle.report_lines.specs.declared.Wrote.{Wrote}
-use Rattle.report_lines.specs.declared.Wrote.the-variants.{Next, Full}
-use Rattle.report_lines.specs.Lines.{Written, writtenAt}
+use Rattle.report.specs.declared.Wrote.{Wrote}
+use Rattle.report.specs.declared.Wrote.the-variants.{Next, Full}
+use Rattle.report.specs.Written.{Written, writtenAt}
 use Rattle.report.specs.Lines.{openLine, badLine}
 use Rattle.replay.specs.declared.stop.Stopped.{Stopped}
 

@@ -2,9 +2,9 @@
 use base_protocol::MALFORMED;
 use base_protocol::NO_ROOM;
 use base_protocol::WRONG_SIZE;
+use report::Wrote;
 use report::bad_line;
 use report::open_line;
-use report_lines::Wrote;
 ghost use mathlib.Core.Path.{_≡_};
 ghost use Rattle.replay.specs.Stops.{stopAfter, malformedAt, unopenedAt};
 

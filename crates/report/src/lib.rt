@@ -3,16 +3,23 @@ use base_numbers::lesser_usize;
 use base_protocol::Answer;
 use base_protocol::MALFORMED;
 use base_protocol::Step;
+use lines::write_line;
 use report_answers::numbers_of;
-use report_lines::Wrote;
-use report_lines::write_line;
 ghost use mathlib.Core.Path.{_≡_};
 ghost use Prim.Native.Nat.{_≤_};
 ghost use lib.ListN.{take};
 ghost use Rattle.model.specs.Report.{wordOf};
 ghost use Rattle.base_protocol.specs.View.{asked};
-ghost use Rattle.report_lines.specs.Lines.{writtenAt};
+ghost use Rattle.report.specs.Written.{writtenAt};
 ghost use Rattle.report.specs.Lines.{openLine, badLine, lineFor};
+
+mod lines; // lines.rt: a line of a word and numbers
+
+// Where the next line begins, or that the line does not fit.
+pub enum Wrote {
+    Next(usize),
+    Full,
+}
 
 // The kind's name, in the first `long` of eight bytes.
 struct Word {

@@ -30,7 +30,7 @@ use Rattle.shape_txn.specs.TxnShape.{rangesFit, headsFit, txnFits, placeFits}
 use Rattle.shape.specs.Shape.{tablesFit}
 use Rattle.call.specs.Calls.{sweptFor, cleared, openOf}
 use Rattle.log.specs.Records.{decodedOf}
-use Rattle.report_lines.specs.Lines.{writtenAt}
+use Rattle.report.specs.Written.{writtenAt}
 
 -- all but `shapeOf` and `callOf`: what tests the shape of a whole store is opened where it is spoken of
 unfoldable pub computes : Unit {0}

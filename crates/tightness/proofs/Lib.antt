@@ -29,7 +29,6 @@ pub mod Shape
 pub mod Call
 pub mod Toruxeng
 pub mod Log
-pub mod ReportLines
 pub mod ReportAnswers
 pub mod Report
 pub mod ReplayStop

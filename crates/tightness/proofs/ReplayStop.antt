@@ -5,9 +5,9 @@ use mathlib.Core.Path.{refl}
 use mathlib.Core.List.{List}
 use lib.ListN.{getD}
 use Rattle.model.specs.Refusals.{WrongSize, Malformed, refusalNumber}
-use Rattle.report_lines.specs.declared.Wrote.{Wrote}
-use Rattle.report_lines.specs.declared.Wrote.the-variants.{Next, Full}
-use Rattle.report_lines.specs.Lines.{writtenAt}
+use Rattle.report.specs.declared.Wrote.{Wrote}
+use Rattle.report.specs.declared.Wrote.the-variants.{Next, Full}
+use Rattle.report.specs.Written.{writtenAt}
 use Rattle.report.specs.Lines.{openLine, badLine}
 use Rattle.replay.specs.declared.stop.Stopped.{Stopped}
 use Rattle.replay.specs.Stops.{Left, stopAfter, stopWith, malformedAt, unopenedAt}

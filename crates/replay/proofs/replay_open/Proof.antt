@@ -14,7 +14,7 @@ use Rattle.model.specs.Replay.{replay}
 use Rattle.base_protocol.specs.declared.Sizes.{Sizes}
 use Rattle.base_protocol.specs.View.{sizesView}
 use Rattle.log.specs.declared.Command.the-variants.{Open}
-use Rattle.report_lines.specs.declared.Wrote.the-variants.{Next, Full}
+use Rattle.report.specs.declared.Wrote.the-variants.{Next, Full}
 use Rattle.replay.specs.declared.stop.Stopped.{Stopped}
 use Rattle.replay.specs.Replay.{Leaves, openedFrom}
 use Rattle.replay.proofs.First.{left-empty, left-malformed, left-unopened, left-full, opened-fits, left-on}

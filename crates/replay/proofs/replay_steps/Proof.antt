@@ -9,7 +9,7 @@ use Rattle.base_limits.specs.Limits.{mostRows, mostLive}
 use Rattle.model.specs.Refusals.{NoRoom, refusalNumber}
 use Rattle.model.specs.Replay.{Replayed}
 use Rattle.base_protocol.specs.declared.Step.{Step}
-use Rattle.report_lines.specs.declared.Wrote.the-variants.{Next, Full}
+use Rattle.report.specs.declared.Wrote.the-variants.{Next, Full}
 use Rattle.step.specs.Steps.{Moved}
 use Rattle.step.specs.Words.{Words, othersIn, placeFor, movedBy}
 use Rattle.step_bridge.proofs.Placed.{after}

@@ -6,7 +6,7 @@ use native.Mathlib.Omega.{arith}
 use Prim.Native.Nat.{_≤_}
 use lib.ListN.{length}
 use lib.Seq.{length-take-le}
-use Rattle.report_lines.specs.Lines.{writtenAt}
+use Rattle.report.specs.Written.{writtenAt}
 use Rattle.report.proofs.Answers.{line-said}
 use Rattle.report.proofs.answer_line.Statement.{statement}
 use Rattle.report.proofs.answer_line.Tie as tie

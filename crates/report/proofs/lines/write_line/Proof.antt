@@ -1,4 +1,4 @@
--- `report_lines::write_line` meets its contract.
+-- `report::lines::write_line` meets its contract.
 -- Assumes nothing.
 use borrow.Author.Needs.{needs}
 use Prim.Native.Nat.{ℕ, _+_}
@@ -7,10 +7,10 @@ use mathlib.Core.List.{List, _++_}
 use native.Mathlib.Omega.{arith}
 use lib.ListN.{length}
 use Rattle.model.specs.Report.{spaced, line}
-use Rattle.report_lines.proofs.Spaced.{spaced-least}
-use Rattle.report_lines.proofs.Writing.{line-two-long, written-full, written-next, rest-laid}
-use Rattle.report_lines.proofs.write_line.Statement.{statement}
-use Rattle.report_lines.proofs.write_line.Tie as tie
+use Rattle.report.proofs.Spaced.{spaced-least}
+use Rattle.report.proofs.Writing.{line-two-long, written-full, written-next, rest-laid}
+use Rattle.report.proofs.lines.write_line.Statement.{statement}
+use Rattle.report.proofs.lines.write_line.Tie as tie
 
 -- before the tests: the parameters, the line, and its length by its parts
 module _ (c : tie.After-shared-slice-known3) where

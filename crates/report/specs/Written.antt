@@ -5,8 +5,8 @@ use mathlib.Core.List.{List, _++_}
 use lib.Dec.{leb}
 use lib.ListN.{length, take, drop}
 use Rattle.model.specs.Replay.{mostRoom}
-use Rattle.report_lines.specs.declared.Wrote.{Wrote}
-use Rattle.report_lines.specs.declared.Wrote.the-variants.{Next, Full}
+use Rattle.report.specs.declared.Wrote.{Wrote}
+use Rattle.report.specs.declared.Wrote.the-variants.{Next, Full}
 
 -- old, with the text over it from `at` on
 abbrev pub laid : List ℕ → ℕ → List ℕ → List ℕ

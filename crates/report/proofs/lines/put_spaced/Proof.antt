@@ -1,4 +1,4 @@
--- `report_lines::put_spaced` meets its contract.
+-- `report::lines::put_spaced` meets its contract.
 -- Assumes nothing.
 use borrow.Author.Needs.{needs}
 use Prim.Native.Nat.{ℕ, _+_, _-_, _≤_}
@@ -8,11 +8,11 @@ use native.Mathlib.Omega.{arith}
 use lib.ListN.{length, take, getD, length-set}
 use lib.Seq.{take-length}
 use Rattle.model.specs.Report.{decimal, spaced}
-use Rattle.report_lines.specs.Lines.{laid}
-use Rattle.report_lines.proofs.Laid.{laid-none}
-use Rattle.report_lines.proofs.Spaced.{spaced-room, spaced-laid}
-use Rattle.report_lines.proofs.put_spaced.Statement.{statement}
-use Rattle.report_lines.proofs.put_spaced.Tie as tie
+use Rattle.report.specs.Written.{laid}
+use Rattle.report.proofs.Laid.{laid-none}
+use Rattle.report.proofs.Spaced.{spaced-room, spaced-laid}
+use Rattle.report.proofs.lines.put_spaced.Statement.{statement}
+use Rattle.report.proofs.lines.put_spaced.Tie as tie
 
 abbrev Inv-loop : tie.InvT-loop
 Inv-loop out₀ at list p₀ i₀ out p i =

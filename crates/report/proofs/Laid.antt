@@ -8,7 +8,7 @@ use native.Mathlib.Nat.{add-assoc, add-zero}
 use native.Mathlib.Omega.{arith}
 use lib.ListN.{length, take, drop, getD, set, length-append, length-drop, take-append-drop}
 use lib.Seq.{take-at, drop-append-add, drop-drop, set-split, set-at, take-suc, length-take-le}
-use Rattle.report_lines.specs.Lines.{laid}
+use Rattle.report.specs.Written.{laid}
 
 module _ (old : List ℕ) (at : ℕ) (s : List ℕ) (fits : at + length s ≤ length old) where
   front-long : length (take at old ++ s) ≡ at + length s

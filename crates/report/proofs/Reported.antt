@@ -7,9 +7,9 @@ use native.Mathlib.Omega.{arith}
 use lib.ListN.{length, drop, length-append, length-drop}
 use lib.Seq.{take-append-seam, drop-append-add, drop-drop}
 use Rattle.model.specs.Replay.{mostRoom}
-use Rattle.report_lines.specs.declared.Wrote.the-variants.{Next, Full}
-use Rattle.report_lines.specs.Lines.{laid, writtenAt}
-use Rattle.report_lines.proofs.Writing.{written-full, written-next}
+use Rattle.report.specs.declared.Wrote.the-variants.{Next, Full}
+use Rattle.report.specs.Written.{laid, writtenAt}
+use Rattle.report.proofs.Writing.{written-full, written-next}
 
 -- the lent report with the text from its start
 abbrev pub shown : List ℕ → List ℕ → List ℕ

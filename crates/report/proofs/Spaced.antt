@@ -8,9 +8,9 @@ use native.Mathlib.Omega.{arith}
 use lib.ListN.{length, take, drop, getD, set, length-append, take-append-drop}
 use lib.Seq.{take-suc}
 use Rattle.model.specs.Report.{decimal, spaced, line}
-use Rattle.report_lines.specs.Lines.{laid}
-use Rattle.report_lines.proofs.Laid.{then-store, then-text}
-use Rattle.report_lines.proofs.Digits.{some-long}
+use Rattle.report.specs.Written.{laid}
+use Rattle.report.proofs.Laid.{then-store, then-text}
+use Rattle.report.proofs.Digits.{some-long}
 
 pub spaced-append : (a b : List ℕ) → spaced (a ++ b) ≡ spaced a ++ spaced b
 unfolding spaced

@@ -1,4 +1,4 @@
--- `report_lines::put_word` meets its contract.
+-- `report::lines::put_word` meets its contract.
 -- Assumes nothing.
 use borrow.Author.Needs.{needs}
 use Prim.Native.Nat.{_≤_, _-_}
@@ -6,10 +6,10 @@ use mathlib.Core.Path.{_≡_, refl}
 use native.Mathlib.Omega.{arith}
 use lib.ListN.{length, take, length-set}
 use lib.Seq.{take-length}
-use Rattle.report_lines.specs.Lines.{laid}
-use Rattle.report_lines.proofs.Laid.{word-next, laid-none}
-use Rattle.report_lines.proofs.put_word.Statement.{statement}
-use Rattle.report_lines.proofs.put_word.Tie as tie
+use Rattle.report.specs.Written.{laid}
+use Rattle.report.proofs.Laid.{word-next, laid-none}
+use Rattle.report.proofs.lines.put_word.Statement.{statement}
+use Rattle.report.proofs.lines.put_word.Tie as tie
 
 abbrev Inv-loop : tie.InvT-loop
 Inv-loop out₀ word i₀ out i = (i ≤ length word) × (length out ≡ length out₀) × (out ≡ laid out₀ 0 (take i word))

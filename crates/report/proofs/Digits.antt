@@ -10,8 +10,8 @@ use lib.Dec.{ltb}
 use lib.ListN.{length, take, drop, getD, set, length-append}
 use lib.Seq.{length-take-le, take-at, take-take, drop-cons, getD-at, getD-take}
 use Rattle.model.specs.Report.{digitsStep, digitsFor, decimal}
-use Rattle.report_lines.specs.Lines.{laid}
-use Rattle.report_lines.proofs.Laid.{store-before}
+use Rattle.report.specs.Written.{laid}
+use Rattle.report.proofs.Laid.{store-before}
 
 cond-unless : (b : Bool) (x y z : List ℕ) → (b ≡ false → x ≡ y) → cond b z x ≡ cond b z y
 cond-unless true x y z e = refl

@@ -9,10 +9,10 @@ use lib.ListN.{length, take, drop, set, length-append, length-drop, drop-of-leng
 use lib.Seq.{take-all, drop-drop}
 use Rattle.model.specs.Report.{spaced, line}
 use Rattle.model.specs.Replay.{mostRoom}
-use Rattle.report_lines.specs.declared.Wrote.the-variants.{Next, Full}
-use Rattle.report_lines.specs.Lines.{laid, writtenAt}
-use Rattle.report_lines.proofs.Laid.{then-store, then-text}
-use Rattle.report_lines.proofs.Spaced.{spaced-append, line-long}
+use Rattle.report.specs.declared.Wrote.the-variants.{Next, Full}
+use Rattle.report.specs.Written.{laid, writtenAt}
+use Rattle.report.proofs.Laid.{then-store, then-text}
+use Rattle.report.proofs.Spaced.{spaced-append, line-long}
 
 pub line-two-long : (w a b : List ℕ) → length (line w (a ++ b)) ≡ length w + length (spaced a) + length (spaced b) + 1
 line-two-long w a b = line-long w (a ++ b) ∙ rw (spaced-append a b, length-append) (omega arith)

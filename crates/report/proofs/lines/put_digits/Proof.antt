@@ -1,4 +1,4 @@
--- `report_lines::put_digits` meets its contract.
+-- `report::lines::put_digits` meets its contract.
 -- Assumes nothing.
 use borrow.Author.Needs.{needs}
 use Prim.Native.Nat.{_+_, _-_, _<_, _≤_}
@@ -7,11 +7,11 @@ use native.Mathlib.Omega.{arith}
 use lib.ListN.{length, take, drop, length-set}
 use lib.Seq.{take-length, drop-length}
 use Rattle.model.specs.Report.{decimal}
-use Rattle.report_lines.specs.Lines.{laid}
-use Rattle.report_lines.proofs.Digits.{digits-left, digit-laid}
-use Rattle.report_lines.proofs.Laid.{laid-none}
-use Rattle.report_lines.proofs.put_digits.Statement.{statement}
-use Rattle.report_lines.proofs.put_digits.Tie as tie
+use Rattle.report.specs.Written.{laid}
+use Rattle.report.proofs.Digits.{digits-left, digit-laid}
+use Rattle.report.proofs.Laid.{laid-none}
+use Rattle.report.proofs.lines.put_digits.Statement.{statement}
+use Rattle.report.proofs.lines.put_digits.Tie as tie
 
 -- the digits from p on are laid, and those before it are the digits of `rest`
 abbrev Inv-loop : tie.InvT-loop

@@ -1,4 +1,5 @@
 // Lines of a word and numbers in the lent report, each written from where the last one ended.
+use super::Wrote;
 use base_numbers::lesser_usize;
 ghost use mathlib.Core.Path.{_≡_};
 ghost use mathlib.Core.List.{_++_};
@@ -6,13 +7,7 @@ ghost use Prim.Native.Nat.{_+_, _*_, _≤_};
 ghost use lib.ListN.{length};
 ghost use Rattle.model.specs.Report.{decimal, spaced, line};
 ghost use Rattle.model.specs.Replay.{mostRoom};
-ghost use Rattle.report_lines.specs.Lines.{laid, writtenAt};
-
-// Where the next line begins, or that the line does not fit.
-pub enum Wrote {
-    Next(usize),
-    Full,
-}
+ghost use Rattle.report.specs.Written.{laid, writtenAt};
 
 // Room beyond this is not used.
 const MOST_ROOM: usize = 4294967295;

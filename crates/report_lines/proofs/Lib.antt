@@ -1,5 +1,0 @@
-pub mod Laid
-pub mod Digits
-pub mod Spaced
-pub mod Writing
-pub mod Reported
