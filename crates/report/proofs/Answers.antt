@@ -28,10 +28,13 @@ take-least-by l n false t =
     let e : min n (length l) ≡ length l = omega arith in
     rw (e, take-all (length l) l (omega arith), take-all n l (omega arith))
 
+pub take-least : (l : List ℕ) (n k : ℕ) → k ≡ min n (length l) → take k l ≡ take n l
+take-least l n k e = rw e (take-least-by l n (leb n (length l)) refl)
+
 -- the line that is written for an answer: the word, what is held of the answer, and k rows
 pub line-said : (s : Step) (a : Answer) (rows w : List ℕ) (n : Numbers) (k : ℕ) → w ≡ wordOf (asked s) → n ≡ heldOf a → k ≡ min (n .rows) (length rows)
     → line w (take (n .count) (n .list) ++ take k rows) ≡ lineFor s a rows
-line-said s a rows w n k ew en ek = rw (ew, ek, take-least-by rows (n .rows) (leb (n .rows) (length rows)) refl, en, says a rows)
+line-said s a rows w n k ew en ek = rw (ew, take-least rows (n .rows) k ek, en, says a rows)
 
 -- the line of an answer of the model, told with its rows at the front of the lent list, is the model's
 judged-line : (s : Step) (v : judged.Verdict) (lent : List ℕ) → lineFor s (told (machine.Judged v)) lent ≡ answerLine (asked s) (machine.Judged v)

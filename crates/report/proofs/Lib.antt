@@ -3,6 +3,7 @@ pub mod Digits
 pub mod Spaced
 pub mod Writing
 pub mod Reported
+pub mod Fitting
 pub mod Answers
 pub mod Samples
 pub mod Told

@@ -2,7 +2,7 @@
 use super::Wrote;
 use base_numbers::lesser_usize;
 ghost use mathlib.Core.Path.{_≡_};
-ghost use mathlib.Core.List.{_++_};
+ghost use mathlib.Core.List.{[], _∷_, _++_};
 ghost use Prim.Native.Nat.{_+_, _*_, _≤_};
 ghost use lib.ListN.{length};
 ghost use Rattle.model.specs.Report.{decimal, spaced, line};
@@ -10,7 +10,7 @@ ghost use Rattle.model.specs.Replay.{mostRoom};
 ghost use Rattle.report.specs.Written.{laid, writtenAt};
 
 // Room beyond this is not used.
-const MOST_ROOM: usize = 4294967295;
+pub const MOST_ROOM: usize = 4294967295;
 
 // How many digits n has.
 fn width(n: u64) -> usize
@@ -32,7 +32,7 @@ fn width(n: u64) -> usize
 }
 
 // How long the numbers are, each after its space.
-fn spaced_width(list: &[u64]) -> usize
+pub fn spaced_width(list: &[u64]) -> usize
     requires { ⌜ length (now list) ≤ mostRoom ⌝ }
     ensures { λ r. ⌜ (r ≡ length (spaced (now (list .entry)))) × (r ≤ 21 * length (now (list .entry))) ⌝ }
 {
@@ -46,7 +46,7 @@ fn spaced_width(list: &[u64]) -> usize
 }
 
 // Writes a word, and returns the place after it.
-fn put_word(out: &mut [u8], word: &[u8]) -> usize
+pub fn put_word(out: &mut [u8], word: &[u8]) -> usize
     requires { ⌜ length (now word) ≤ length (now out) ⌝ }
     ensures { λ r. ⌜ (r ≡ length (now (word .entry))) × (now (out .exit) ≡ laid (now (out .entry)) 0 (now (word .entry))) ⌝ }
 {
@@ -63,6 +63,10 @@ fn put_digits(out: &mut [u8], at: usize, n: u64) -> usize
     requires { ⌜ at + length (decimal n) ≤ length (now out) ⌝ }
     ensures { λ r. ⌜ (r ≡ at + length (decimal n)) × (now (out .exit) ≡ laid (now (out .entry)) at (decimal n)) ⌝ }
 {
+    if n < 10 {
+        out[at] = b'0' + n as u8;
+        return at + 1;
+    }
     let end = at + width(n);
     let mut p = end;
     let mut rest = n;
@@ -74,16 +78,33 @@ fn put_digits(out: &mut [u8], at: usize, n: u64) -> usize
     end
 }
 
+// Writes a space and n from `at` on, and returns the place after them.
+pub fn put_number(out: &mut [u8], at: usize, n: u64) -> usize
+    requires { ⌜ at + length (spaced (n ∷ [])) ≤ length (now out) ⌝ }
+    ensures { λ r. ⌜ (r ≡ at + length (spaced (n ∷ []))) × (now (out .exit) ≡ laid (now (out .entry)) at (spaced (n ∷ []))) ⌝ }
+{
+    out[at] = b' ';
+    put_digits(out, at + 1, n)
+}
+
+// Writes two numbers from `at` on, each after a space, and returns the place after them.
+pub fn put_pair(out: &mut [u8], at: usize, first: u64, second: u64) -> usize
+    requires { ⌜ at + length (spaced (first ∷ second ∷ [])) ≤ length (now out) ⌝ }
+    ensures { λ r. ⌜ (r ≡ at + length (spaced (first ∷ second ∷ []))) × (now (out .exit) ≡ laid (now (out .entry)) at (spaced (first ∷ second ∷ []))) ⌝ }
+{
+    let p = put_number(out, at, first);
+    put_number(out, p, second)
+}
+
 // Writes the numbers from `at` on, each after a space, and returns the place after them.
-fn put_spaced(out: &mut [u8], at: usize, list: &[u64]) -> usize
+pub fn put_spaced(out: &mut [u8], at: usize, list: &[u64]) -> usize
     requires { ⌜ at + length (spaced (now list)) ≤ length (now out) ⌝ }
     ensures { λ r. ⌜ (r ≡ at + length (spaced (now (list .entry)))) × (now (out .exit) ≡ laid (now (out .entry)) at (spaced (now (list .entry)))) ⌝ }
 {
     let mut p = at;
     let mut i = 0;
     while i < list.len() {
-        out[p] = b' ';
-        p = put_digits(out, p + 1, list[i]);
+        p = put_number(out, p, list[i]);
         i += 1;
     }
     p

@@ -1,96 +1,113 @@
 -- `report::answer_line` meets its contract.
 -- Assumes nothing.
 use borrow.Author.Needs.{needs}
-use mathlib.Core.Path.{_≡_, ap, sym, _∙_}
+use borrow.Author.Tests.{leb-true, leb-false, not-true, not-false}
+use Prim.Native.Nat.{ℕ, _+_, _-_, _<_, _≤_}
+use mathlib.Core.List.{List}
+use mathlib.Core.Path.{sym, _∙_}
 use native.Mathlib.Omega.{arith}
-use Prim.Native.Nat.{_≤_}
 use lib.ListN.{length}
-use lib.Seq.{length-take-le}
-use Rattle.report.specs.Written.{writtenAt}
-use Rattle.report.proofs.Answers.{line-said}
+use Rattle.report.specs.Lines.{lineFor}
+use Rattle.report.proofs.Writing.{written-full, written-next, rest-laid}
 use Rattle.report.proofs.answer_line.Statement.{statement}
 use Rattle.report.proofs.answer_line.Tie as tie
 
-word-of-requires : tie.Need-word-of-requires
-word-of-requires c κs = search needs
+-- behind the room: the parameters, and the line
+module _ (c : tie.After-lesser-usize) where
+  abbrev begun : tie.Start
+  begun = c .before .before .before
 
-numbers-of-requires : tie.Need-numbers-of-requires
-numbers-of-requires c κs = search needs
+  abbrev text : List ℕ
+  text = lineFor (begun .args .step) (begun .args .answer) (begun .args .rows .now)
+
+-- behind the test: where the room was found, and whether the line fits there
+abbrev roomed : tie.After-answer-fits → tie.After-lesser-usize
+roomed c = c .before .before
+
+fits : (c : tie.Else2) → let k = roomed (c .before) in begun k .args .at + length (text k) ≤ k .lesser-usize .result
+fits c =
+    let k = roomed (c .before) in
+    let told = leb-true (length (text k)) (k .lesser-usize .result - begun k .args .at) (sym (c .before .answer-fits .ensures) ∙ not-false _ (c .if2 .left)) in
+    omega arith
+
+unfit : (c : tie.Then2) → let k = roomed (c .before) in k .lesser-usize .result < begun k .args .at + length (text k)
+unfit c =
+    let k = roomed (c .before) in
+    let told = leb-false (length (text k)) (k .lesser-usize .result - begun k .args .at) (sym (c .before .answer-fits .ensures) ∙ not-true _ (c .if2 .taken)) in
+    omega arith
 
 lesser-usize-requires : tie.Need-lesser-usize-requires
 lesser-usize-requires c κs = search needs
 
--- behind the lesser count of rows: the calls before it
-abbrev worded : tie.After-lesser-usize → tie.After-word-of
-worded c = let numbers = c .before .before in numbers .before .before
+returns : tie.Need-returns
+returns c =
+    let k = c .before in
+    let a = begun k .args in
+    let room = k .lesser-usize .ensures in
+    written-full (a .report .now) (a .at) (text k) (omega arith)
 
-abbrev begun : tie.After-lesser-usize → tie.Start
-begun c = worded c .before .before .before
+answer-fits-requires : tie.Need-answer-fits-requires
+answer-fits-requires c κs = let room = c .before .lesser-usize .ensures in omega arith
 
--- the word is within its eight bytes, the numbers within their five, and the rows within those lent
-in-word : (c : tie.After-lesser-usize) → worded c .word-of .result .long ≤ length (worded c .word-of .result .bytes)
-in-word c = let eight : length (worded c .word-of .result .bytes) ≡ 8 = search needs in omega arith
+returns-2 : tie.Need-returns-2
+returns-2 c =
+    let k = roomed (c .before) in
+    let a = begun k .args in
+    let room = k .lesser-usize .ensures in
+    let full = unfit c in
+    written-full (a .report .now) (a .at) (text k) (omega arith)
 
-in-numbers : (c : tie.After-lesser-usize) → c .before .before .numbers-of .result .count ≤ length (c .before .before .numbers-of .result .list)
-in-numbers c = let five : length (c .before .before .numbers-of .result .list) ≡ 5 = search needs in omega arith
+sub-put-answer-line : tie.Need-sub-put-answer-line
+sub-put-answer-line c = search needs
 
-in-rows : (c : tie.After-lesser-usize) → c .lesser-usize .result ≤ length (begun c .args .rows .now)
-in-rows c = let k = c .lesser-usize .ensures in omega arith
+part-put-answer-line-start : tie.Need-part-put-answer-line-start
+part-put-answer-line-start c = search needs
 
-array-share-prefix-bytes : tie.Need-array-share-prefix-bytes
-array-share-prefix-bytes c = in-word (c .before)
+part-put-answer-line-end : tie.Need-part-put-answer-line-end
+part-put-answer-line-end c = search needs
 
-slice-aggregate-write-line : tie.Need-slice-aggregate-write-line
-slice-aggregate-write-line c =
-    let k = c .before .before in
-    let w = worded k .word-of .result in
-    sym (length-take-le (w .long) (w .bytes) (in-word k))
+put-answer-line-requires : tie.Need-put-answer-line-requires
+put-answer-line-requires c κs =
+    let k = roomed (c .before .before) in
+    let room = k .lesser-usize .ensures in
+    let fit = fits (c .before) in
+    omega arith
 
-array-share-prefix-list : tie.Need-array-share-prefix-list
-array-share-prefix-list c = in-numbers (c .before .before)
-
-slice-aggregate-write-line-2 : tie.Need-slice-aggregate-write-line-2
-slice-aggregate-write-line-2 c =
-    let k = c .before .before .before in
-    let n = k .before .before .numbers-of .result in
-    sym (length-take-le (n .count) (n .list) (in-numbers k))
-
-slice-aggregate-write-line-3 : tie.Need-slice-aggregate-write-line-3
-slice-aggregate-write-line-3 c =
-    let bytes = c .before .before in
-    let k = bytes .before .before in
-    sym (length-take-le (k .lesser-usize .result) (begun k .args .rows .now) (in-rows k))
-
-write-line-requires : tie.Need-write-line-requires
-write-line-requires c κs = search needs
+add-end : tie.Need-add-end
+add-end c =
+    let call = c .before .before in
+    let passed = call .before .before in
+    let room = roomed (passed .before) .lesser-usize .ensures in
+    let long = call .put-answer-line .ensures .0 in
+    let fit = fits passed in
+    omega arith
 
 same-length : tie.Need-same-length
 same-length c = search needs
 
-returns : tie.Need-returns
-returns c =
+returns-3 : tie.Need-returns-3
+returns-3 c =
     let call = c .before .before in
-    let bytes = call .before .before .before in
-    let k = bytes .before .before in
+    let passed = call .before .before in
+    let k = roomed (passed .before) in
     let a = begun k .args in
-    let n = k .before .before .numbers-of in
-    call .write-line .ensures
-    ∙ ap (writtenAt (a .report .now) (a .at))
-    (line-said (a .step) (a .answer) (a .rows .now) _ (n .result) (k .lesser-usize .result) (worded k .word-of .ensures .0) (n .ensures .0)
-    (k .lesser-usize .ensures))
+    let room = k .lesser-usize .ensures in
+    let fit = fits passed in
+    let l = rest-laid (a .report .now) (a .at) (text k) (call .put-answer-line .last .0) (omega arith) (call .put-answer-line .ensures .1) in
+    rw (call .put-answer-line .ensures .0, l) (written-next (a .report .now) (a .at) (text k) (omega arith))
 
 pub answer-line-spec : {M : Type 1} → statement M
 answer-line-spec =
     tie.close
     (tie.spec
-    word-of-requires
-    numbers-of-requires
     lesser-usize-requires
-    array-share-prefix-bytes
-    slice-aggregate-write-line
-    array-share-prefix-list
-    slice-aggregate-write-line-2
-    slice-aggregate-write-line-3
-    write-line-requires
+    returns
+    answer-fits-requires
+    returns-2
+    sub-put-answer-line
+    part-put-answer-line-start
+    part-put-answer-line-end
+    put-answer-line-requires
+    add-end
     same-length
-    returns)
+    returns-3)

@@ -2,14 +2,14 @@
 -- Assumes nothing.
 use borrow.Author.Needs.{needs}
 use Prim.Native.Nat.{_+_, _-_, _<_, _≤_}
-use mathlib.Core.Path.{_≡_, refl, _∙_}
+use mathlib.Core.Path.{_≡_, refl}
 use native.Mathlib.Omega.{arith}
 use lib.ListN.{length, take, drop, length-set}
 use lib.Seq.{take-length, drop-length}
 use Rattle.model.specs.Report.{decimal}
 use Rattle.report.specs.Written.{laid}
-use Rattle.report.proofs.Digits.{digits-left, digit-laid}
-use Rattle.report.proofs.Laid.{laid-none}
+use Rattle.report.proofs.Digits.{decimal-one, one-long, digits-left, digit-laid}
+use Rattle.report.proofs.Laid.{laid-none, set-laid}
 use Rattle.report.proofs.lines.put_digits.Statement.{statement}
 use Rattle.report.proofs.lines.put_digits.Tie as tie
 
@@ -25,6 +25,27 @@ Inv-loop out₀ at n end p₀ rest₀ out p rest =
 abbrev μ-loop : tie.MeasureT-loop
 μ-loop out₀ at n end p₀ rest₀ out p rest = p
 
+cast-out : tie.Need-cast-out Inv-loop μ-loop
+cast-out c = search needs
+
+add-out : tie.Need-add-out Inv-loop μ-loop
+add-out c = search needs
+
+slice-write-out : tie.Need-slice-write-out Inv-loop μ-loop
+slice-write-out c = let one = one-long (c .before .before .args .n) (c .if1 .taken) in omega arith
+
+add-result : tie.Need-add-result Inv-loop μ-loop
+add-result c = let one = one-long (c .before .before .args .n) (c .if1 .taken) in omega arith
+
+same-length : tie.Need-same-length Inv-loop μ-loop
+same-length c = simp length-set
+
+returns : tie.Need-returns Inv-loop μ-loop
+returns c =
+    let a = c .before .before .args in
+    let one = one-long (a .n) (c .if1 .taken) in
+    (omega arith, rw (decimal-one (a .n) (c .if1 .taken)) (set-laid (a .out .now) (a .at) (48 + a .n) (omega arith)))
+
 width-requires : tie.Need-width-requires Inv-loop μ-loop
 width-requires c κs = search needs
 
@@ -33,7 +54,7 @@ add-end c = search needs
 
 loop-holds : tie.Need-loop-holds Inv-loop μ-loop
 loop-holds c =
-    let a = c .before .before .args in
+    let a = c .before .before .before .args in
     let digits = decimal (a .n) in
     let long = c .width .ensures .0 in
     let whole : a .at + c .width .result - a .at ≡ length digits = omega arith in (
@@ -47,14 +68,14 @@ loop-holds c =
 sub-p : tie.Need-sub-p Inv-loop μ-loop
 sub-p c = search needs
 
-cast-out : tie.Need-cast-out Inv-loop μ-loop
-cast-out c = search needs
+cast-out-2 : tie.Need-cast-out-2 Inv-loop μ-loop
+cast-out-2 c = search needs
 
-add-out : tie.Need-add-out Inv-loop μ-loop
-add-out c = search needs
+add-out-2 : tie.Need-add-out-2 Inv-loop μ-loop
+add-out-2 c = search needs
 
-slice-write-out : tie.Need-slice-write-out Inv-loop μ-loop
-slice-write-out c = search needs
+slice-write-out-2 : tie.Need-slice-write-out-2 Inv-loop μ-loop
+slice-write-out-2 c = search needs
 
 loop-less : tie.Need-loop-less Inv-loop μ-loop
 loop-less c = search needs
@@ -62,7 +83,8 @@ loop-less c = search needs
 loop-again : tie.Need-loop-again Inv-loop μ-loop
 loop-again c =
     let l = c .before .loop in
-    let a = c .before .before .before .before .args in
+    let width = c .before .before in
+    let a = width .before .before .before .args in
     let front = l .inv .3 (c .loop-test .taken) in (
       omega arith,
       omega arith,
@@ -71,14 +93,14 @@ loop-again c =
       digit-laid (a .out .now) (l .out) (a .n) (a .at) (l .p) (l .rest) (omega arith) (omega arith) front (omega arith) (l .inv .4),
     )
 
-same-length : tie.Need-same-length Inv-loop μ-loop
-same-length c = search needs
+same-length-2 : tie.Need-same-length-2 Inv-loop μ-loop
+same-length-2 c = search needs
 
-returns : tie.Need-returns Inv-loop μ-loop
-returns c =
+returns-2 : tie.Need-returns-2 Inv-loop μ-loop
+returns-2 c =
     let l = c .before .loop in
     let width = c .before .before in
-    let a = width .before .before .args in
+    let a = width .before .before .before .args in
     let long = width .width .ensures .0 in
     let first : l .p ≡ a .at = omega arith in
     let none : a .at - a .at ≡ 0 = omega arith in
@@ -90,14 +112,20 @@ put-digits-spec =
     (tie.spec
     Inv-loop
     μ-loop
+    cast-out
+    add-out
+    slice-write-out
+    add-result
+    same-length
+    returns
     width-requires
     add-end
     loop-holds
     sub-p
-    cast-out
-    add-out
-    slice-write-out
+    cast-out-2
+    add-out-2
+    slice-write-out-2
     loop-less
     loop-again
-    same-length
-    returns)
+    same-length-2
+    returns-2)

@@ -6,6 +6,7 @@ use mathlib.Core.List.{_++_}
 use native.Mathlib.Omega.{arith}
 use lib.ListN.{length, length-set}
 use Rattle.model.specs.Report.{spaced, line}
+use Rattle.report.proofs.Spaced.{two-long, spaced-then}
 use Rattle.report.proofs.Writing.{line-two-long, line-done}
 use Rattle.report.proofs.lines.put_line.Statement.{statement}
 use Rattle.report.proofs.lines.put_line.Tie as tie
@@ -52,8 +53,12 @@ returns c =
     let w = first .put-word in
     let n = second .put-spaced in
     let r = third .put-spaced2 in
-    line-done (a .rest .now) (a .word .now) (a .numbers .now) (a .rows .now) (w .last .0) (n .last .0) (r .last .0) (w .result) (n .result) (r .result)
-    (omega arith) (w .ensures .1) (w .ensures .0) (n .ensures .1) (n .ensures .0) (r .ensures .1) (r .ensures .0)
+    let long = parts (first .before) in
+    let both = two-long (a .numbers .now) (a .rows .now) in
+    let numbered = spaced-then (w .last .0) (n .last .0) (r .last .0) (a .numbers .now) (a .rows .now) (w .result) (n .result) (r .result) (omega arith)
+    (n .ensures .1) (n .ensures .0) (r .ensures .1) (r .ensures .0) in
+    line-done (a .rest .now) (a .word .now) (a .numbers .now ++ a .rows .now) (w .last .0) (r .last .0) (w .result) (r .result) (omega arith)
+    (w .ensures .1) (w .ensures .0) (numbered .1) (numbered .0)
 
 pub put-line-spec : {M : Type 1} → statement M
 put-line-spec =

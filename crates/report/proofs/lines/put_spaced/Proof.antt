@@ -3,14 +3,14 @@
 use borrow.Author.Needs.{needs}
 use Prim.Native.Nat.{ℕ, _+_, _-_, _≤_}
 use mathlib.Core.Path.{_≡_, refl, _∙_}
-use mathlib.Core.List.{List}
+use mathlib.Core.List.{List, [], _∷_}
 use native.Mathlib.Omega.{arith}
-use lib.ListN.{length, take, getD, length-set}
+use lib.ListN.{length, take, getD}
 use lib.Seq.{take-length}
-use Rattle.model.specs.Report.{decimal, spaced}
+use Rattle.model.specs.Report.{spaced}
 use Rattle.report.specs.Written.{laid}
 use Rattle.report.proofs.Laid.{laid-none}
-use Rattle.report.proofs.Spaced.{spaced-room, spaced-laid}
+use Rattle.report.proofs.Spaced.{next-long, next-room, next-laid}
 use Rattle.report.proofs.lines.put_spaced.Statement.{statement}
 use Rattle.report.proofs.lines.put_spaced.Tie as tie
 
@@ -36,23 +36,20 @@ module _ (c : tie.In-loop Inv-loop μ-loop) where
   abbrev list : List ℕ
   list = begun c .args .list .now
 
-  room : length (spaced (take (c .before .loop .i) list)) + 1 + length (decimal (getD list (c .before .loop .i) 0)) ≤ length (spaced list)
-  room = spaced-room list (c .before .loop .i) (c .loop-test .taken)
+  room : length (spaced (take (c .before .loop .i) list)) + length (spaced (getD list (c .before .loop .i) 0 ∷ [])) ≤ length (spaced list)
+  room =
+      let long = next-long list (c .before .loop .i) (c .loop-test .taken) in
+      let fits = next-room list (c .before .loop .i) (c .loop-test .taken) in
+      omega arith
 
-slice-write-out : tie.Need-slice-write-out Inv-loop μ-loop
-slice-write-out c = let more = room c in omega arith
+mul-put-number : tie.Need-mul-put-number Inv-loop μ-loop
+mul-put-number c = search needs
 
-add-put-digits : tie.Need-add-put-digits Inv-loop μ-loop
-add-put-digits c = let more = room (c .before) in omega arith
+shared-slice-read-put-number : tie.Need-shared-slice-read-put-number Inv-loop μ-loop
+shared-slice-read-put-number c = search needs
 
-mul-put-digits : tie.Need-mul-put-digits Inv-loop μ-loop
-mul-put-digits c = search needs
-
-shared-slice-read-put-digits : tie.Need-shared-slice-read-put-digits Inv-loop μ-loop
-shared-slice-read-put-digits c = search needs
-
-put-digits-requires : tie.Need-put-digits-requires Inv-loop μ-loop
-put-digits-requires c κs = let more = room (c .before .before) in simp length-set (omega arith)
+put-number-requires : tie.Need-put-number-requires Inv-loop μ-loop
+put-number-requires c κs = let more = room (c .before .before) in omega arith
 
 add-i : tie.Need-add-i Inv-loop μ-loop
 add-i c = search needs
@@ -66,11 +63,11 @@ loop-again c =
     let turn = call .before .before .before in
     let a = begun turn .args in
     let l = turn .before .loop in
-    let d = call .put-digits in
+    let d = call .put-number in
     let s =
-    spaced-laid (a .out .now) (l .out) (d .last .0) (a .list .now) (a .at) (l .p) (d .result) (l .i) (turn .loop-test .taken) (omega arith) (l .inv .3)
+    next-laid (a .list .now) (l .i) (turn .loop-test .taken) (a .out .now) (l .out) (d .last .0) (a .at) (l .p) (d .result) (omega arith) (l .inv .3)
     (l .inv .2) (d .ensures .1) (d .ensures .0) in
-    (omega arith, d .kept .0 ∙ simp length-set (l .inv .1), s .0, s .1)
+    (omega arith, d .kept .0 ∙ l .inv .1, s .0, s .1)
 
 same-length : tie.Need-same-length Inv-loop μ-loop
 same-length c = search needs
@@ -90,11 +87,9 @@ put-spaced-spec =
     Inv-loop
     μ-loop
     loop-holds
-    slice-write-out
-    add-put-digits
-    mul-put-digits
-    shared-slice-read-put-digits
-    put-digits-requires
+    mul-put-number
+    shared-slice-read-put-number
+    put-number-requires
     add-i
     loop-less
     loop-again

@@ -4,10 +4,10 @@ use borrow.Author.Needs.{needs}
 use Prim.Native.Nat.{_*_, _-_, _≤_}
 use mathlib.Core.Path.{_≡_, refl}
 use native.Mathlib.Omega.{arith}
-use lib.ListN.{length, take}
+use lib.ListN.{length, take, getD}
 use lib.Seq.{take-length}
 use Rattle.model.specs.Report.{spaced}
-use Rattle.report.proofs.Spaced.{next-long}
+use Rattle.report.proofs.Spaced.{number-long, next-long}
 use Rattle.report.proofs.lines.spaced_width.Statement.{statement}
 use Rattle.report.proofs.lines.spaced_width.Tie as tie
 
@@ -48,6 +48,7 @@ loop-again c =
     let l = turn .before .loop in
     let a = turn .before .before .before .args in
     let next = next-long (a .list .now) (l .i) (turn .loop-test .taken) in
+    let number = number-long (getD (a .list .now) (l .i) 0) in
     let w = c .width .ensures .0 in
     (omega arith, omega arith, omega arith)
 
