@@ -3,7 +3,7 @@
 use std::env;
 use std::process::Command;
 
-use crate::Engine;
+use crate::engine::Engine;
 
 /// Of a log that is named by these words; or why they were not counted.
 pub fn of_a_replay(engine: Engine, log: &[String]) -> Result<u64, String> {
