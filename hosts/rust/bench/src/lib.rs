@@ -4,6 +4,7 @@ pub mod case;
 pub mod engine;
 pub mod heap;
 pub mod instructions;
+pub mod kinds;
 pub mod machine;
 pub mod medians;
 mod processor_time;

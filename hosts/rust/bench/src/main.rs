@@ -1,14 +1,18 @@
 //! `bench`: the proved engine and the plain twin over the same logs, in turns, in one process.
 //!
 //! `bench once ENGINE ROUNDS` only replays the benchmark log so often, for a tool that counts instructions;
-//! `bench once ENGINE ROUNDS ROWS VERSIONS ACTIVE` a log of such chains.
+//! `bench once ENGINE ROUNDS ROWS VERSIONS ACTIVE` a log of such chains; `bench cuts LENGTH..` the log on standard input, by the proved
+//! engine, once for each length and cut to it.
 
+use std::io::{self, Read};
 use std::process::ExitCode;
+use std::slice;
 
 use bench::case::Case;
 use bench::engine::Engine;
+use bench::kinds::OfAKind;
 use bench::medians::in_turns;
-use bench::{heap, instructions, machine};
+use bench::{heap, instructions, kinds, machine};
 use generator::{benchmark, with_chains, with_live, with_rows, Chains, Random};
 
 const SEED: u64 = 1;
@@ -18,18 +22,21 @@ const GROWTH_STEPS: u64 = 20_000;
 const GROWTH_ROUNDS: usize = 11;
 const DEPTHS: [u64; 3] = [1, 16, 256];
 const SEVERAL_ROWS: u32 = 16;
+const KINDS_STEPS: usize = 8_000;
 
+/// The log of the benchmark.
 fn benchmark_case() -> Case {
     Case::of_log(benchmark(STEPS, &mut Random::of_seed(SEED)))
 }
 
+/// Measures and prints everything.
 fn bench() {
     println!("machine: {}", machine::name());
     let mut case = benchmark_case();
     let (log, report) = (case.log.len(), case.report.len());
     println!("log: seed {SEED}, {} steps, {log} bytes; report {report} bytes", case.steps);
 
-    println!("instructions are counted now, which takes about a minute");
+    println!("instructions are counted now, which takes one or two minutes");
     if let Err(why) = print_instructions(&case) {
         println!("instructions of a step: not counted, {why}");
     }
@@ -42,10 +49,11 @@ fn bench() {
     print_times(&mut case);
 }
 
-/// Of the benchmark log for both engines, and of chains for the proved one, by depth and by active numbers.
+/// Of the benchmark log for both engines; for the proved one by kind of step, and of chains by depth and by active numbers.
 fn print_instructions(case: &Case) -> Result<(), String> {
     let [proved, twin] = Engine::BOTH.map(|engine| instructions::of_a_replay(engine, &[]));
     println!("instructions of a step: proved {:.0}, twin {:.0}", each(proved?, case.steps), each(twin?, case.steps));
+    print_kinds(&case.log)?;
 
     println!("\n{:<28}{:>10}{:>10}{:>10}", "instructions of a step", "0 active", "3 active", "7 active");
     let depths = DEPTHS.map(|versions| (1, versions));
@@ -62,10 +70,32 @@ fn print_instructions(case: &Case) -> Result<(), String> {
     Ok(())
 }
 
+/// So many by so many steps.
 fn each(count: u64, steps: usize) -> f64 {
     count as f64 / steps as f64
 }
 
+/// Of the first steps of a log, by kind; what the kinds take together stands beside the whole, which is counted by itself.
+fn print_kinds(log: &[u8]) -> Result<(), String> {
+    let records = kinds::first_records(log, KINDS_STEPS);
+    let steps = records.len();
+    let log = &log[..records.last().map_or(0, |(_, bytes)| bytes.end)];
+
+    println!("\n{:<28}{:>8}{:>14}", format!("first {steps} steps, by kind"), "steps", "instructions");
+    let mut together = 0.0;
+    for kind in kinds::all() {
+        let counted = OfAKind::count(kind, log, &records)?;
+        let instructions = counted.instructions.map_or("-".to_string(), |count| format!("{count:.0}"));
+        println!("{:<28}{:>8}{instructions:>14}", kind.word(), counted.steps);
+        together += counted.together();
+    }
+    let whole = instructions::of_parts(log, slice::from_ref(&(0..log.len())))?;
+    println!("{:<28}{steps:>8}{:>14.0}", "by the kinds together", together / steps as f64);
+    println!("{:<28}{steps:>8}{:>14.0}", "by the log less an empty one", each(whole, steps));
+    Ok(())
+}
+
+/// Of the benchmark log, and of logs that show how the times grow.
 fn print_times(case: &mut Case) {
     println!("\n{:<28}{:>8}{:>8}{:>7}", "nanoseconds of a step", "proved", "twin", "ratio");
     print_medians("the benchmark log", case, ROUNDS);
@@ -83,25 +113,30 @@ fn print_times(case: &mut Case) {
     }
 }
 
+/// The median times of both engines.
 fn print_medians(what: &str, case: &mut Case, rounds: usize) {
     let times = in_turns(Engine::BOTH, rounds, |engine| case.time(engine));
     let [proved, twin] = times.map(|time| case.nanoseconds_of_a_step(time));
     println!("{what:<28}{proved:>8.1}{twin:>8.1}{:>7.2}", proved / twin);
 }
 
+/// The median times of both engines on a log of its own.
 fn print_growth(what: &str, log: Vec<u8>) {
     print_medians(what, &mut Case::of_log(log), GROWTH_ROUNDS);
 }
 
+/// How chains are named to a program that replays them.
 fn words_of(chains: &Chains) -> [String; 3] {
     [chains.rows.to_string(), chains.versions.to_string(), chains.active.to_string()]
 }
 
+/// The chains that such words name.
 fn chains_of(words: [&str; 3]) -> Option<Chains> {
     let [rows, versions, active] = words;
     Some(Chains { rows: rows.parse().ok()?, versions: versions.parse().ok()?, active: active.parse().ok()? })
 }
 
+/// The log that reads such chains.
 fn chains_case(chains: &Chains) -> Case {
     Case::of_log(with_chains(chains, GROWTH_STEPS))
 }
@@ -122,11 +157,35 @@ fn case_of(log: &[&str]) -> Option<Case> {
     }
 }
 
+/// Replays what is left of a log when it is cut to each of these lengths, and says nothing; nothing where one is longer.
+fn cuts(log: Vec<u8>, lengths: &[usize]) -> Option<()> {
+    let Case { log, mut report, .. } = Case::of_log(log);
+    for &length in lengths {
+        Engine::Proved.replay(log.get(..length)?, &mut report);
+    }
+    Some(())
+}
+
+/// All of standard input, where it can be read.
+fn standard_input() -> Option<Vec<u8>> {
+    let mut bytes = Vec::new();
+    io::stdin().read_to_end(&mut bytes).ok().map(|_| bytes)
+}
+
+/// The words as numbers, where all are.
+fn numbers(words: &[&str]) -> Option<Vec<usize>> {
+    words.iter().map(|word| word.parse().ok()).collect()
+}
+
 /// Does what the words ask for, where they ask for something.
 fn run(words: &[&str]) -> Option<()> {
     match *words {
         [] => bench(),
         ["once", engine, rounds, ref log @ ..] => once(Engine::of_name(engine)?, rounds.parse().ok()?, case_of(log)?),
+        ["cuts", ref lengths @ ..] => {
+            let lengths = numbers(lengths)?;
+            cuts(standard_input()?, &lengths)?;
+        }
         _ => return None,
     }
     Some(())
@@ -141,6 +200,7 @@ fn main() -> ExitCode {
             eprintln!(
                 "bench, or bench once ENGINE ROUNDS, or bench once ENGINE ROUNDS ROWS VERSIONS ACTIVE; ENGINE is proved or twin"
             );
+            eprintln!("bench cuts LENGTH.., with a log on standard input");
             ExitCode::from(2)
         }
     }
