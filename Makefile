@@ -18,7 +18,7 @@ help:
 	@echo 'make hosts    the host tests alone: each archive against a plain Rust twin, the C and Rust programs'
 	@echo 'make soak     the archive of TARGET (this machine) against the twin for STEPS steps (10000000) from SEED (the time)'
 	@echo 'make in-turn  LOGS random logs (100000) from SEED (the time) through the archive of TARGET, and their transactions once more, one after another'
-	@echo 'make bench    the times of the archive and of the twin, and how they grow; instructions, by kind of step too'
+	@echo 'make bench    the times of the archive and of the twin, SQLite in memory beside them, and how they grow; instructions, by kind of step too'
 	@echo 'make matched  the same mistake in model, words and code, for each of matched/: none may be proved'
 	@echo 'make kit      which kit this was proved with, and which is found here'
 	@echo 'make help     this list'

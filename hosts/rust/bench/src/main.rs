@@ -1,4 +1,5 @@
-//! `bench`: the proved engine and the plain twin over the same logs, in turns, in one process.
+//! `bench`: the proved engine and the plain twin over the same logs, in turns, in one process; SQLite beside them on the transactions of
+//! one log.
 //!
 //! `bench once ENGINE ROUNDS` only replays the benchmark log so often, for a tool that counts instructions;
 //! `bench once ENGINE ROUNDS ROWS VERSIONS ACTIVE` a log of such chains; `bench cuts LENGTH..` the log on standard input, by the proved
@@ -7,11 +8,15 @@
 use std::io::{self, Read};
 use std::process::ExitCode;
 use std::slice;
+use std::time::Duration;
 
 use bench::case::Case;
 use bench::engine::Engine;
 use bench::kinds::OfAKind;
 use bench::medians::in_turns;
+use bench::sqlite::Sqlite;
+use bench::table::{self, Compared};
+use bench::transactions::Transactions;
 use bench::{heap, instructions, kinds, machine};
 use generator::{benchmark, with_chains, with_live, with_rows, Chains, Random};
 
@@ -23,6 +28,13 @@ const GROWTH_ROUNDS: usize = 11;
 const DEPTHS: [u64; 3] = [1, 16, 256];
 const SEVERAL_ROWS: u32 = 16;
 const KINDS_STEPS: usize = 8_000;
+
+/// Who is timed on the benchmark log.
+#[derive(Clone, Copy)]
+enum Contender {
+    Engine(Engine),
+    Sqlite,
+}
 
 /// The log of the benchmark.
 fn benchmark_case() -> Case {
@@ -97,8 +109,24 @@ fn print_kinds(log: &[u8]) -> Result<(), String> {
 
 /// Of the benchmark log, and of logs that show how the times grow.
 fn print_times(case: &mut Case) {
-    println!("\n{:<28}{:>8}{:>8}{:>7}", "nanoseconds of a step", "proved", "twin", "ratio");
-    print_medians("the benchmark log", case, ROUNDS);
+    let transactions = Transactions::of(&case.log, &case.report);
+    let sqlite = Sqlite::of_the_system();
+    match &sqlite {
+        Ok(sqlite) => print_sqlite(sqlite, case, &transactions),
+        Err(why) => println!("sqlite: not timed, {why}"),
+    }
+
+    print!("\n{:<28}{:>8}{:>8}{:>7}", "nanoseconds of a step", "proved", "twin", "ratio");
+    match &sqlite {
+        Ok(sqlite) => {
+            println!("{:>8}{:>7}", "sqlite", "ratio");
+            print_three("the benchmark log", case, sqlite, &transactions);
+        }
+        Err(_) => {
+            println!();
+            print_two("the benchmark log", case, ROUNDS);
+        }
+    }
     for rows in [16, 64, 256] {
         print_growth(&format!("{rows} rows in use"), with_rows(rows, GROWTH_STEPS, &mut Random::of_seed(SEED)));
     }
@@ -113,16 +141,53 @@ fn print_times(case: &mut Case) {
     }
 }
 
+/// What SQLite is given to do, and that it does what the log did.
+fn print_sqlite(sqlite: &Sqlite, case: &Case, transactions: &Transactions) {
+    let Transactions { finished, unfinished } = transactions;
+    println!("sqlite: {} of the system, one connection to :memory:, statements prepared once", sqlite.version());
+    println!(
+        "sqlite: {} transactions, decoded beforehand, each run whole where it ends or is aborted; no log to read, no report to write; \
+         {unfinished} never finish and are left out",
+        finished.len()
+    );
+    let compared = table::compare(sqlite, finished, &table::left_by(&case.log));
+    let Compared { transactions, reads, rows, left } = compared.unwrap_or_else(|why| panic!("{why}"));
+    println!(
+        "sqlite: {transactions} ended, and their {reads} reads find the {rows} rows of the report; {left} rows are left as in the store"
+    );
+}
+
 /// The median times of both engines.
-fn print_medians(what: &str, case: &mut Case, rounds: usize) {
+fn print_two(what: &str, case: &mut Case, rounds: usize) {
     let times = in_turns(Engine::BOTH, rounds, |engine| case.time(engine));
-    let [proved, twin] = times.map(|time| case.nanoseconds_of_a_step(time));
-    println!("{what:<28}{proved:>8.1}{twin:>8.1}{:>7.2}", proved / twin);
+    print_line(what, case, times);
+    println!();
+}
+
+/// The median times of both engines, and of SQLite behind them.
+fn print_three(what: &str, case: &mut Case, sqlite: &Sqlite, transactions: &Transactions) {
+    let [proved, twin] = Engine::BOTH.map(Contender::Engine);
+    let [proved, twin, beside] = in_turns([proved, twin, Contender::Sqlite], ROUNDS, |contender| match contender {
+        Contender::Engine(engine) => case.time(engine),
+        Contender::Sqlite => table::time(sqlite, &transactions.finished),
+    });
+    print_line(what, case, [proved, twin]);
+    println!("{:>8.1}{:>7.2}", case.nanoseconds_of_a_step(beside), ratio(proved, beside));
+}
+
+/// Times and ratio of both engines, without the end of the line.
+fn print_line(what: &str, case: &Case, [proved, twin]: [Duration; 2]) {
+    let [of_proved, of_twin] = [proved, twin].map(|time| case.nanoseconds_of_a_step(time));
+    print!("{what:<28}{of_proved:>8.1}{of_twin:>8.1}{:>7.2}", ratio(proved, twin));
+}
+
+fn ratio(time: Duration, other: Duration) -> f64 {
+    time.as_secs_f64() / other.as_secs_f64()
 }
 
 /// The median times of both engines on a log of its own.
 fn print_growth(what: &str, log: Vec<u8>) {
-    print_medians(what, &mut Case::of_log(log), GROWTH_ROUNDS);
+    print_two(what, &mut Case::of_log(log), GROWTH_ROUNDS);
 }
 
 /// How chains are named to a program that replays them.
