@@ -1,40 +1,21 @@
 -- Numbers listed in lent words with room for them are that list; tests of a list and of all numbers below a bound, entry by entry.
 -- Assumes nothing.
 use Prim.Native.Nat.{ℕ, zero, suc, _+_, _≤_, _<_}
-use mathlib.Core.Path.{_≡_, refl, sym, ap, _∙_}
-use mathlib.Core.Bool.{Bool, true, cond}
+use mathlib.Core.Path.{_≡_, refl, _∙_}
+use mathlib.Core.Bool.{Bool, true}
 use mathlib.Core.Logic.{inl, inr}
-use mathlib.Core.List.{List, [], _∷_, _++_, append-assoc, append-nil}
+use mathlib.Core.List.{List, [], _∷_}
 use native.Mathlib.Decide.{decLt}
-use native.Mathlib.Numerals.{add-one}
 use native.Mathlib.Omega.{arith}
-use lib.ListN.{length, take, set, replicate, length-set, length-replicate}
-use lib.Seq.{take-suc-set}
-use borrow.Author.Tests.{lt-ltb}
+use lib.ListN.{length, take, set, replicate, length-set}
+use lib.Seq.{take-all}
 use Rattle.base_lists.specs.Lists.{every, some-of, all-of, Among}
 use Rattle.base_lists.proofs.ListLaws.{and-l, and-r}
-use Rattle.txn_needs.specs.Needs.{Listed, pushOne, pushAll}
-
-push-room : (x : ℕ) (xs : List ℕ) (st : Listed) → st .n < length (st .out)
-    → pushAll st (x ∷ xs) ≡ pushAll (record { out = set (st .out) (st .n) x; n = st .n + 1 }) xs
-unfolding pushAll pushOne
-push-room x xs st l = ap (λ (b : Bool). pushAll (cond b (record { out = set (st .out) (st .n) x; n = st .n + 1 }) st) xs) (lt-ltb (st .n) (length (st .out)) l)
-
-push-end : (st : Listed) → pushAll st [] ≡ st
-unfolding pushAll
-push-end st = refl
-
-pub listed-front : (xs : List ℕ) (st : Listed) → st .n + length xs ≤ length (st .out)
-    → take (pushAll st xs .n) (pushAll st xs .out) ≡ take (st .n) (st .out) ++ xs
-listed-front [] st h = rw (push-end st) (sym (append-nil (take (st .n) (st .out))))
-listed-front (x ∷ xs) st h =
-    let l : st .n < length (st .out) = omega arith in
-    rw (push-room x xs st l)
-    (listed-front xs (record { out = set (st .out) (st .n) x; n = st .n + 1 }) (rw length-set (omega arith))
-    ∙ rw (add-one (st .n), take-suc-set (st .out) (st .n) x l, append-assoc))
+use Rattle.txn_needs.specs.Needs.{Listed, pushAll}
+use Rattle.txn_needs.proofs.Laws.{push-room, push-none, listed-cut}
 
 pub listed-count : (xs : List ℕ) (st : Listed) → st .n + length xs ≤ length (st .out) → pushAll st xs .n ≡ st .n + length xs
-listed-count [] st h = rw (push-end st) (omega arith)
+listed-count [] st h = rw (push-none st [] refl) (omega arith)
 listed-count (x ∷ xs) st h =
     let l : st .n < length (st .out) = omega arith in
     rw (push-room x xs st l) (listed-count xs (record { out = set (st .out) (st .n) x; n = st .n + 1 }) (rw length-set (omega arith)) ∙ omega arith)
@@ -42,7 +23,7 @@ listed-count (x ∷ xs) st h =
 -- in a list of zeros
 pub listed-all : (room : ℕ) (xs : List ℕ) → length xs ≤ room
     → take (pushAll (record { out = replicate room 0; n = 0 }) xs .n) (pushAll (record { out = replicate room 0; n = 0 }) xs .out) ≡ xs
-listed-all room xs h = listed-front xs (record { out = replicate room 0; n = 0 }) (rw (length-replicate {A = ℕ} room 0) (omega arith))
+listed-all room xs h = listed-cut room xs ∙ take-all room xs h
 
 pub some-same : {A : Type 0} (test also : A → Bool) (xs : List A) → ((x : A) → Among x xs → test x ≡ also x) → some-of test xs ≡ some-of also xs
 unfolding some-of

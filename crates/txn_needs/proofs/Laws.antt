@@ -1,16 +1,16 @@
 -- How lists in lent words and runs over a list go on by one.
 -- Assumes nothing.
-use Prim.Native.Nat.{ℕ, _+_, _<_, _≤_}
-use mathlib.Core.Path.{_≡_, refl}
-use mathlib.Core.Bool.{Bool, true, false}
+use Prim.Native.Nat.{ℕ, zero, suc, _+_, _<_, _≤_}
+use mathlib.Core.Path.{_≡_, refl, sym, ap, _∙_}
+use mathlib.Core.Bool.{Bool, true, false, cond}
 use mathlib.Core.Option.{none}
-use mathlib.Core.List.{List, [], _∷_, _++_, map}
+use mathlib.Core.List.{List, [], _∷_, _++_, map, append-assoc, append-nil}
 use native.Mathlib.Numerals.{add-one}
 use native.Mathlib.Omega.{arith}
 use lib.Dec.{eqb, ltb}
-use borrow.Author.Tests.{ltb-true}
-use lib.ListN.{length, drop, length-set, drop-of-length-le}
-use lib.Seq.{drop-cons}
+use borrow.Author.Tests.{ltb-true, lt-ltb, le-ltb}
+use lib.ListN.{length, take, drop, set, replicate, length-set, length-replicate, drop-of-length-le}
+use lib.Seq.{drop-cons, take-suc-set}
 use Rattle.base_lists.specs.Lists.{join}
 use Rattle.model.specs.Store.{sameKey}
 use Rattle.txn.specs.View.{keyView}
@@ -21,13 +21,38 @@ use Rattle.table_scans.proofs.Laws.{fields-length, fields-at}
 use Rattle.txn_needs.specs.declared.Key.{Key}
 use Rattle.txn_needs.specs.declared.Keys.{Keys}
 use Rattle.txn_needs.specs.Keys.{isInstalled, oldKeyOf, newKeyOf, keysOf}
-use Rattle.txn_needs.specs.Needs.{Listed, pushOne, pushAll, writtenBy}
+use Rattle.txn_needs.specs.Needs.{Listed, pushOne, pushAll, listedIn, front, writtenBy}
 
 -- a list pushed after a list
 pub push-append : (st : Listed) (xs ys : List ℕ) → pushAll st (xs ++ ys) ≡ pushAll (pushAll st xs) ys
 unfolding pushAll
 push-append st [] ys = refl
 push-append st (x ∷ xs) ys = push-append (pushOne st x) xs ys
+
+-- one number more, with room for it and without
+pub push-room : (x : ℕ) (xs : List ℕ) (st : Listed) → st .n < length (st .out)
+    → pushAll st (x ∷ xs) ≡ pushAll (record { out = set (st .out) (st .n) x; n = st .n + 1 }) xs
+unfolding pushAll pushOne
+push-room x xs st l = ap (λ (b : Bool). pushAll (cond b (record { out = set (st .out) (st .n) x; n = st .n + 1 }) st) xs) (lt-ltb (st .n) (length (st .out)) l)
+
+push-full : (x : ℕ) (xs : List ℕ) (st : Listed) → length (st .out) ≤ st .n → pushAll st (x ∷ xs) ≡ pushAll st xs
+unfolding pushAll pushOne
+push-full x xs st l = ap (λ (b : Bool). pushAll (cond b (record { out = set (st .out) (st .n) x; n = st .n + 1 }) st) xs) (le-ltb (st .n) (length (st .out)) l)
+
+-- as many are listed as there is room for; in a list of zeros, too
+listed-front : (xs : List ℕ) (room : ℕ) (st : Listed) → st .n + room ≡ length (st .out) → front (pushAll st xs) ≡ front st ++ take room xs
+unfolding pushAll
+listed-front [] zero st h = sym (append-nil (front st))
+listed-front [] (suc room) st h = sym (append-nil (front st))
+listed-front (x ∷ xs) zero st h = rw (push-full x xs st (omega arith)) (listed-front xs zero st h)
+listed-front (x ∷ xs) (suc room) st h =
+    let l : st .n < length (st .out) = omega arith in
+    rw (push-room x xs st l)
+    (listed-front xs room (record { out = set (st .out) (st .n) x; n = st .n + 1 }) (rw length-set (omega arith))
+    ∙ rw (add-one (st .n), take-suc-set (st .out) (st .n) x l, append-assoc))
+
+pub listed-cut : (room : ℕ) (xs : List ℕ) → front (listedIn room xs) ≡ take room xs
+listed-cut room xs = listed-front xs room (record { out = replicate room 0; n = 0 }) (rw (length-replicate {A = ℕ} room 0) (omega arith))
 
 -- none against a key
 pub none-same : (keyed key : ℕ) (b : Bool) → eqb keyed 0 ≡ b → sameKey none (keyView keyed key) ≡ b

@@ -2,6 +2,7 @@
 use base_limits::MOST_INDEX_READS;
 use base_limits::MOST_LIVE;
 use base_limits::MOST_WRITES;
+use base_numbers::lesser_u32;
 use base_numbers::sum_within;
 use base_protocol::Answer;
 use base_protocol::CONFLICT;
@@ -10,11 +11,14 @@ use base_protocol::NO_VERSIONS;
 use base_protocol::TAKEN;
 use base_protocol::Verdict;
 use base_protocol::WRONG_PHASE;
+use table::holder_at;
+use table::lists::read_bucket_at;
 use table::set_holders;
 use txn::Answered;
 use txn::OPEN;
 use txn::Phase;
 use txn::Transaction;
+use txn::by_another;
 use txn::phase_rank;
 use txn::refused;
 use txn_needs::any_claimed;
@@ -35,9 +39,18 @@ pub const MOST_NEEDED: usize = (MOST_INDEX_READS + MOST_WRITES + MOST_WRITES) as
 fn reads_taken(buckets: &[u64], lists: &[u64], t: Transaction) -> bool
     ensures { λ r. ⌜ r ≡ readsTakenIn (now (buckets .entry)) (now (lists .entry)) t ⌝ }
 {
-    let mut list = [0u64; MOST_NEEDED];
-    let n = push_reads(lists, t, &mut list, 0);
-    any_taken(buckets, &list, n, t.number)
+    let most = lesser_u32(t.reads_n, MOST_NEEDED as u32);
+    let mut i: u32 = 0;
+    while i < most {
+        if by_another(
+            holder_at(buckets, read_bucket_at(lists, t.slot, i) as usize),
+            t.number,
+        ) {
+            return true;
+        }
+        i += 1;
+    }
+    false
 }
 
 // Validate (Open): the verdict; changes nothing.
