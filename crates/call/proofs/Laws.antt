@@ -7,7 +7,7 @@ use mathlib.Core.List.{List, [], _∷_, _++_}
 use native.Mathlib.Numerals.{add-one}
 use native.Mathlib.Omega.{arith}
 use lib.Dec.{leb}
-use lib.ListN.{length, drop, getD, set, replicate}
+use lib.ListN.{length, drop, getD, set, replicate, length-map}
 use borrow.Author.Tests.{leb-true}
 use Rattle.base_limits.specs.Limits.{mostLive}
 use Rattle.base_lists.proofs.ListLaws.{and-l, and-r}
@@ -22,7 +22,7 @@ use Rattle.txn_places.specs.Places.{wantedOf, placeIn}
 use Rattle.step.specs.Steps.{Moved, stepOf}
 use Rattle.step.specs.declared.Place.{Place}
 use Rattle.step.specs.Words.{othersIn, placeFor, extentIn, movedBy}
-use Rattle.txn_places.proofs.Laws.{default-any}
+use Rattle.txn_places.proofs.Laws.{default-any, place-below}
 use Rattle.shape.specs.Shape.{tablesLent, tablesFit, shapeOf, wordsOf}
 use Rattle.shape.specs.declared.Machine.{Machine}
 use Rattle.call.specs.declared.Called.{Called}
@@ -33,6 +33,12 @@ pub shape-found : (rows versions buckets lists found : List ℕ) (m : Machine)
     → shapeOf (wordsOf rows versions buckets lists found m) ≡ shapeOf (wordsOf rows versions buckets lists [] m)
 unfolding shapeOf tablesFit
 shape-found rows versions buckets lists found m = refl
+
+-- a number's place is one of the machine's
+pub place-within : (ts : List Transaction) (o : Others) (x p : ℕ) → length ts ≡ mostLive → o ≡ othersIn ts → p ≡ placeIn (o .numbers) x → p < mostLive
+place-within ts o x p eight others place =
+    let n : length (othersIn ts .numbers) ≡ mostLive = length-map ts _ ∙ eight in
+    rw (place, others) (place-below 0 (othersIn ts .numbers) x mostLive (omega arith) (omega (arith, n)))
 
 -- the step of the transaction at its place
 module _ (rows versions buckets lists found : List ℕ) (m : Machine) (s : Step) (o : Others) (x p : ℕ) (d : Transaction) (eight : length (m .txns) ≡ mostLive)

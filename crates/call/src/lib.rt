@@ -170,7 +170,7 @@ pub fn call(
     let txns = m.txns;
     let others = others_of(txns);
     let numbers = others.numbers;
-    let p = place_of(numbers, wanted(s));
+    let p = place_of(&numbers, wanted(s));
     let t = txns[p];
     let place = Place {
         extent: Extent {

@@ -6,7 +6,8 @@ use mathlib.Core.Option.{some}
 use mathlib.Core.List.{List, _++_}
 use native.Mathlib.Omega.{arith}
 use lib.ListN.{length, drop, length-append}
-use Rattle.base_limits.specs.Limits.{mostRows}
+use lib.Seq.{getD-set-same}
+use Rattle.base_limits.specs.Limits.{mostRows, mostLive}
 use Rattle.model.specs.Refusals.{NoRoom, Malformed, refusalNumber}
 use Rattle.model.specs.Store.{Store}
 use Rattle.model.specs.Machine as machine
@@ -16,6 +17,7 @@ use Rattle.model.specs.Replay.{Replayed, malformed, writeThen, replayFrom}
 use Rattle.model.proofs.Good.{step-in}
 use Rattle.base_protocol.specs.View.{asked}
 use Rattle.base_protocol.specs.declared.Step.{Step}
+use Rattle.txn.specs.Methods.{idleOf}
 use Rattle.step.specs.Steps.{Moved}
 use Rattle.step.specs.Words.{Words, view, placeFor, movedBy, wordsAfter}
 use Rattle.step_bridge.proofs.Placed.{after}
@@ -74,6 +76,13 @@ module _ {log old : List ℕ} {m : Replayed} {at wrote : ℕ} {report : List ℕ
       module _ (room : mostRows ≤ length (w .tables .found)) where
         same : Same w s
         same = step-same w (g .stands .sized) (g .stands .good) s (omega (arith, room))
+
+        -- the record that the step leaves stands in the slot of its place
+        pub slot-kept : {mv : Moved} → mv ≡ movedBy w s → {k : ℕ} → k ≡ placeFor (w .txns) s → k < mostLive → mv .stepped .txn .slot ≡ k
+        slot-kept em {k = k} ek below =
+            let z = step-stands w s (g .stands .good) same .sized .txns k below .slot in
+            let n : k < length (w .txns) = omega (arith, g .stands .sized .eight, below) in
+            rw (em, ← getD-set-same (w .txns) k (movedBy w s .stepped .txn) (idleOf k) n) (rw (← ek) at z)
 
         -- the line that the code writes is the model's
         abbrev lineIs : List ℕ

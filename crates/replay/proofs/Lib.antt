@@ -2,7 +2,9 @@ pub mod RecordByRecord
 pub mod Lining
 pub mod Going
 pub mod Zeroes
+pub mod Wholes
 pub mod Beside
+pub mod Turning
 pub mod First
 pub mod Statuses
 pub mod Samples

@@ -3,6 +3,7 @@ use base_limits::MOST_BUCKETS;
 use base_limits::MOST_LIVE;
 use base_limits::MOST_ROWS;
 use base_limits::MOST_VERSIONS;
+use base_protocol::Answer;
 use base_protocol::Extent;
 use base_protocol::NO_ROOM;
 use base_protocol::Sizes;
@@ -12,8 +13,10 @@ use report::Wrote;
 use report::answer_line;
 use report::open_line;
 use shape_open::can_open;
-use step::Place;
-use step::step;
+use step::Beside;
+use step::keeps;
+use step::step_keeping;
+use step::step_placing;
 use stop::Stopped;
 use stop::stop_malformed;
 use stop::stop_unopened;
@@ -21,9 +24,12 @@ use table::BUCKET_WORDS;
 use table::ROW_WORDS;
 use table::VERSION_WORDS;
 use table::lists::SLOT_WORDS;
+use txn::Parts;
+use txn::idle;
+use txn::parts_of;
+use txn::whole;
 use txn_places::Others;
 use txn_places::active_number;
-use txn_places::free_places;
 use txn_places::place_of;
 use txn_places::prepared_count;
 use txn_places::wanted;
@@ -66,12 +72,21 @@ fn replay_steps(
     ensures { λ r. ⌜ Leaves r (now (report .exit)) (openedFrom (now (log .entry)) (now (report .entry)) opened) (now (report .entry)) ⌝ }
 {
     let sizes = opened.sizes;
-    let mut txns = free_places();
-    let mut numbers = [0u64; MOST_LIVE];
-    let mut active = [0u64; MOST_LIVE];
-    let mut prepared = [0u32; MOST_LIVE];
-    let mut clock = opened.clock;
-    let mut used: u64 = 0;
+    let free = parts_of(idle(0));
+    let no_snapshot = free.snapshot;
+    let no_rest = free.rest;
+    let mut snapshots = [no_snapshot; MOST_LIVE];
+    let mut rests = [no_rest; MOST_LIVE];
+    let mut others = Others {
+        numbers: [0u64; MOST_LIVE],
+        active: [0u64; MOST_LIVE],
+        prepared: [0u32; MOST_LIVE],
+    };
+    let mut extent = Extent {
+        sizes: sizes,
+        clock: opened.clock,
+        used: 0,
+    };
     let mut wrote = opened.wrote;
     let mut at = opened.at;
     while at < log.len() {
@@ -81,24 +96,52 @@ fn replay_steps(
         let Command::Ask(s) = command else {
             return stop_malformed(report, wrote);
         };
-        let others = Others {
-            numbers: numbers,
-            active: active,
-            prepared: prepared,
-        };
-        let k = place_of(numbers, wanted(s));
-        let t = txns[k];
-        let place = Place {
-            extent: Extent {
-                sizes: sizes,
-                clock: clock,
-                used: used,
-            },
-            others: others,
-            txn: t,
-        };
-        let u = step(rows, versions, buckets, lists, found, place, s);
-        let answer = u.answer;
+        let k = place_of(&others.numbers, wanted(s));
+        let mut answer = Answer::Done;
+        if keeps(s) {
+            let beside = Beside {
+                extent: extent,
+                others: others,
+            };
+            let parts = Parts {
+                number: others.numbers[k],
+                snapshot: snapshots[k],
+                rest: rests[k],
+                slot: k as u32,
+            };
+            let kept = step_keeping(rows, versions, buckets, lists, found, beside, parts, s);
+            answer = kept.answer;
+            extent.used = kept.used;
+            let rest = kept.rest;
+            rests[k] = rest;
+            let number = others.numbers[k];
+            others.active[k] = active_number(number, rest.rank);
+            others.prepared[k] = prepared_count(number, rest.rank, rest.writes_n);
+        } else {
+            let beside = Beside {
+                extent: extent,
+                others: others,
+            };
+            let parts = Parts {
+                number: others.numbers[k],
+                snapshot: snapshots[k],
+                rest: rests[k],
+                slot: k as u32,
+            };
+            let u = step_placing(rows, versions, buckets, lists, beside, whole(parts), s);
+            answer = u.answer;
+            extent.clock = u.clock;
+            extent.used = u.used;
+            let after = parts_of(u.txn);
+            let rest = after.rest;
+            let number = after.number;
+            let snapshot = after.snapshot;
+            rests[k] = rest;
+            snapshots[k] = snapshot;
+            others.numbers[k] = number;
+            others.active[k] = active_number(number, rest.rank);
+            others.prepared[k] = prepared_count(number, rest.rank, rest.writes_n);
+        }
         let line = answer_line(report, wrote, s, answer, found);
         let Wrote::Next(end) = line else {
             return Stopped {
@@ -106,15 +149,6 @@ fn replay_steps(
                 wrote: wrote,
             };
         };
-        let after = u.txn;
-        let number = after.number;
-        let phase = after.phase;
-        numbers[k] = number;
-        active[k] = active_number(number, phase);
-        prepared[k] = prepared_count(number, phase, after.writes_n);
-        txns[k] = after;
-        clock = u.clock;
-        used = u.used;
         wrote = end;
         at = next;
     }

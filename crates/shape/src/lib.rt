@@ -14,6 +14,7 @@ use table::ROW_WORDS;
 use table::VERSION_WORDS;
 use table::lists::SLOT_WORDS;
 use txn::Transaction;
+use txn::phase_rank;
 use txn_needs::versions::reserved;
 use txn_places::Others;
 use txn_places::active_number;
@@ -115,9 +116,10 @@ pub fn others_of(txns: [Transaction; MOST_LIVE]) -> Others
     while i < MOST_LIVE {
         let t = txns[i];
         let phase = t.phase;
+        let rank = phase_rank(phase);
         numbers[i] = t.number;
-        active[i] = active_number(t.number, phase);
-        prepared[i] = prepared_count(t.number, phase, t.writes_n);
+        active[i] = active_number(t.number, rank);
+        prepared[i] = prepared_count(t.number, rank, t.writes_n);
         i += 1;
     }
     Others {

@@ -1,6 +1,6 @@
 -- One step over the words: what it answers, the record that goes back, and the tables.
 use Prim.Native.Nat.{ℕ}
-use mathlib.Core.Bool.{cond}
+use mathlib.Core.Bool.{Bool, true, false, cond}
 use mathlib.Core.List.{List}
 use Rattle.model.specs.Refusals.{NoSuch, refusalNumber}
 use Rattle.base_numbers.specs.Numbers.{oneMore}
@@ -10,6 +10,8 @@ use Rattle.base_protocol.specs.declared.Answer.{Answer}
 use Rattle.base_protocol.specs.declared.Answer.the-variants as tell
 use Rattle.base_protocol.specs.declared.Extent.{Extent}
 use Rattle.txn.specs.Methods as methods
+use Rattle.txn.specs.Methods.{restOf, wholeOf}
+use Rattle.txn.specs.declared.Parts.{Parts}
 use Rattle.txn.specs.declared.Transaction.{Transaction}
 use Rattle.txn.specs.declared.Answered.{Answered}
 use Rattle.txn_begin.specs.Begin.{beginOf}
@@ -22,6 +24,7 @@ use Rattle.read.specs.Rows as reads
 use Rattle.txn_places.specs.Places.{missesOf, liveIn}
 use Rattle.step.specs.declared.Place.{Place}
 use Rattle.step.specs.declared.Stepped.{Stepped}
+use Rattle.step.specs.declared.Kept.{Kept}
 
 -- the parts that a step leaves alone put beside the others
 abbrev pub withClock : Answered → ℕ → ℕ → Stepped
@@ -32,6 +35,22 @@ withBegun b used = record { answer = b .answer; txn = b .txn; clock = b .clock; 
 
 abbrev pub withInstalled : Installed → ℕ → Stepped
 withInstalled i clock = record { answer = i .answer; txn = i .txn; clock = clock; used = i .used }
+
+-- what a step leaves that keeps its transaction
+abbrev pub keptBy : Answered → ℕ → Kept
+keptBy a used = record { answer = a .answer; rest = restOf (a .txn); used = used }
+
+abbrev pub keptInstalled : Installed → Kept
+keptInstalled i = record { answer = i .answer; rest = restOf (i .txn); used = i .used }
+
+-- the same, with what it kept
+abbrev pub withKept : Kept → Parts → ℕ → Stepped
+withKept k p clock = record {
+  answer = k .answer;
+  txn = wholeOf (record { number = p .number; snapshot = p .snapshot; rest = k .rest; slot = p .slot });
+  clock = clock;
+  used = k .used;
+}
 
 -- clock up by 1 where a stamp was given
 abbrev pub clockAfter : Answer → ℕ → ℕ
@@ -135,8 +154,49 @@ doneBy b p (ask.Abort n) =
     inAborted (publish.abortOf (b .rows) (b .versions) (b .buckets) (b .lists) (p .extent .sizes .buckets) (p .txn)) (p .extent .clock) (p .extent .used) b
 
 -- no live transaction has this number; else the step
+abbrev pub missed : Tables → Place → Moved
+missed b p = stays (record { answer = tell.Refused (refusalNumber NoSuch); txn = p .txn; clock = p .extent .clock; used = p .extent .used }) b
+
 unfoldable pub stepOf : Tables → Place → Step → Moved
-stepOf b p s =
-    cond (missesOf (p .txn .number) s)
-    (stays (record { answer = tell.Refused (refusalNumber NoSuch); txn = p .txn; clock = p .extent .clock; used = p .extent .used }) b)
-    (doneBy b p s)
+stepOf b p s = cond (missesOf (p .txn .number) s) (missed b p) (doneBy b p s)
+
+-- every step but begin, publish and abort keeps its transaction, with number and snapshot
+abbrev pub keepsOf : Step → Bool
+keepsOf ask.Begin = false
+keepsOf (ask.Capture n k) = true
+keepsOf (ask.Collect n) = true
+keepsOf (ask.Rows n room) = true
+keepsOf (ask.Put n r k payload) = true
+keepsOf (ask.Erase n r) = true
+keepsOf (ask.Prepare n) = true
+keepsOf (ask.Install n) = true
+keepsOf (ask.End n) = true
+keepsOf (ask.Publish n) = false
+keepsOf (ask.Validate n) = true
+keepsOf (ask.Abort n) = false
+
+-- the steps that keep their transaction, and those that do not; the others are refused
+abbrev pub keepingOf : Tables → Place → Step → Moved
+keepingOf b p s = cond (keepsOf s) (stepOf b p s) (missed b p)
+
+abbrev pub placingOf : Tables → Place → Step → Moved
+placingOf b p s = cond (keepsOf s) (missed b p) (stepOf b p s)
+
+-- of what a step leaves that keeps its transaction all but the clock, the number, the snapshot and the slot, which it keeps
+pub record Keeping : Type 0 where
+  pub kept : Kept
+  pub rows : List ℕ
+  pub versions : List ℕ
+  pub buckets : List ℕ
+  pub lists : List ℕ
+  pub found : List ℕ
+
+abbrev pub keptIn : Moved → Keeping
+keptIn m = record {
+  kept = record { answer = m .stepped .answer; rest = restOf (m .stepped .txn); used = m .stepped .used };
+  rows = m .rows;
+  versions = m .versions;
+  buckets = m .buckets;
+  lists = m .lists;
+  found = m .found;
+}

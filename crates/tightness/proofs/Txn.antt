@@ -6,19 +6,36 @@ use mathlib.Core.Bool.{false, cond, not}
 use mathlib.Core.List.{List, [], _∷_}
 use lib.Dec.{eqb, leb}
 use lib.ListN.{getD}
-use Rattle.model.specs.Store.{rank, phaseHolding, phaseInstalled, bucketIn, keyIn}
+use Rattle.model.specs.Store.{rank, phaseHolding, phasePrepared, phaseInstalled, bucketIn, keyIn}
 use Rattle.model.specs.Refusals.{WrongPhase, Marked, ManyWrites, refusalNumber}
 use Rattle.table.specs.Lists.{writes}
 use Rattle.txn.specs.declared.Phase.{Phase}
 use Rattle.txn.specs.declared.Phase.the-variants as phase
 use Rattle.txn.specs.declared.Transaction.{Transaction}
+use Rattle.txn.specs.declared.Parts.{Parts}
+use Rattle.txn.specs.declared.Rest.{Rest}
 use Rattle.txn.specs.declared.Answered.{Answered}
 use Rattle.txn.specs.View.{phaseView}
-use Rattle.txn.specs.Methods.{idleOf, withPhase, withMark, takenBy, refusedOf, Left, LeftLists, left, captureAt, captureOf, writeOf, collectOf}
+use Rattle.txn.specs.Methods.{idleOf, phaseFrom, restOf, partsOf, wholeOf, withPhase, withMark, withWrites, takenBy, refusedOf}
+use Rattle.txn.specs.Methods.{Left, LeftLists, left, captureAt, captureOf, writeOf, collectOf}
 use Rattle.tightness.specs.Wrong.{Excludes}
 use Rattle.tightness.proofs.Apart.{apart, either-way, itself, bit, numberIn}
 use Rattle.tightness.proofs.Computes.{computes}
-use Rattle.tightness.proofs.Small.{live, roomFor}
+use Rattle.tightness.proofs.Small.{live, writer, roomFor}
+
+-- the same transaction without its mark
+abbrev unmarked : Transaction → Transaction
+unmarked t = record {
+  number = t .number;
+  snapshot = t .snapshot;
+  marked = false;
+  phase = t .phase;
+  slot = t .slot;
+  «reads_n» = t .«reads_n»;
+  «writes_n» = t .«writes_n»;
+  «records_n» = t .«records_n»;
+  «candidates_n» = t .«candidates_n»;
+}
 
 -- `phase_rank`: counted from 0
 pub phase-rank-from-0 : Excludes (λ ph. rank (phaseView ph)) (λ ph. rank (phaseView ph) - 1)
@@ -67,6 +84,39 @@ by-another-free = apart (0, 5) bit refl
 -- `by_another`: what is one's own is another's
 pub by-another-own : Excludes {A = ℕ × ℕ} (λ (carried, n). takenBy carried n) (λ (carried, n). not (eqb carried 0))
 by-another-own = apart (5, 5) bit refl
+
+-- `phase_from`: Installed comes back as Prepared
+pub phase-from-installed-prepared : Excludes {A = ℕ × ℕ × ℕ} (λ (n, bucket, key). phaseFrom n bucket key)
+    (λ (n, bucket, key). phaseFrom (cond (eqb n phaseInstalled) phasePrepared n) bucket key)
+phase-from-installed-prepared = apart (phaseInstalled, 0, 0) (λ (ph : Phase). rank (phaseView ph)) refl
+
+-- `phase_from`: bucket and key changed places
+pub phase-from-key-for-bucket : Excludes {A = ℕ × ℕ × ℕ} (λ (n, bucket, key). phaseFrom n bucket key) (λ (n, bucket, key). phaseFrom n key bucket)
+phase-from-key-for-bucket = apart (phaseHolding, 1, 5) (λ (ph : Phase). bucketIn (phaseView ph)) refl
+
+-- `rest_of`: the mark is lost
+pub rest-of-unmarked : Excludes (λ t. restOf t) (λ t. restOf (unmarked t))
+rest-of-unmarked = apart (withMark (idleOf 0)) (λ (r : Rest). r .marked) refl
+
+-- `rest_of`: nothing is pending
+pub rest-of-writes-lost : Excludes (λ t. restOf t) (λ t. restOf (withWrites t 0))
+rest-of-writes-lost = apart (writer phase.Open) (λ (r : Rest). r .«writes_n») refl
+
+-- `parts_of`: the slot is that of another place
+pub parts-of-slot-0 : Excludes (λ t. partsOf t) (λ t. record { number = t .number; snapshot = t .snapshot; rest = restOf t; slot = 0 })
+parts-of-slot-0 = apart (idleOf 1) (λ (p : Parts). p .slot) refl
+
+-- `parts_of`: the rest is that of a free place
+pub parts-of-rest-fresh : Excludes (λ t. partsOf t) (λ t. record { number = t .number; snapshot = t .snapshot; rest = restOf (idleOf 0); slot = t .slot })
+parts-of-rest-fresh = apart (live 5 phase.Ended) (λ (p : Parts). p .rest .rank) refl
+
+-- `whole`: the mark is lost
+pub whole-unmarked : Excludes (λ p. wholeOf p) (λ p. unmarked (wholeOf p))
+whole-unmarked = apart (partsOf (withMark (idleOf 0))) (λ (t : Transaction). bit (t .marked)) refl
+
+-- `whole`: always Open
+pub whole-open : Excludes (λ p. wholeOf p) (λ p. withPhase (wholeOf p) phase.Open)
+whole-open = apart (partsOf (live 5 phase.Ended)) (λ (t : Transaction). rank (phaseView (t .phase))) refl
 
 -- `refused`: the record comes back marked
 pub refused-marks : Excludes {A = Transaction × ℕ} (λ (t, why). refusedOf t why) (λ (t, why). refusedOf (withMark t) why)
@@ -140,20 +190,6 @@ put-payload-for-key = apart (live 5 phase.Open, roomFor writes, 1, 0, 7, 9) (λ 
 pub put-keyless : Excludes put (λ (t, lists, rows, row, key, payload). erase (t, lists, rows, row))
 unfolding computes
 put-keyless = apart (live 5 phase.Open, roomFor writes, 1, 0, 7, 9) (λ (l : LeftLists). getD (l .lists) (writes .off + 1) 0) refl
-
--- the same transaction without its mark
-abbrev unmarked : Transaction → Transaction
-unmarked t = record {
-  number = t .number;
-  snapshot = t .snapshot;
-  marked = false;
-  phase = t .phase;
-  slot = t .slot;
-  «reads_n» = t .«reads_n»;
-  «writes_n» = t .«writes_n»;
-  «records_n» = t .«records_n»;
-  «candidates_n» = t .«candidates_n»;
-}
 
 -- `put`: a marked transaction goes on writing
 pub put-mark-forgotten : Excludes put (λ (t, lists, rows, row, key, payload). put (unmarked t, lists, rows, row, key, payload))

@@ -1,22 +1,19 @@
 -- Wrong bodies of the crate `txn_places`.
 -- Assumes nothing.
-use Prim.Native.Nat.{ℕ, suc}
+use Prim.Native.Nat.{ℕ, suc, _-_}
 use mathlib.Core.Path.{refl}
 use mathlib.Core.Bool.{Bool, cond, not, _&&_, _||_}
-use mathlib.Core.List.{List, map}
+use mathlib.Core.List.{List, [], _∷_, map}
 use lib.Dec.{eqb}
-use lib.ListN.{length, getD, set, replicate}
+use lib.ListN.{length, take, getD, set, replicate}
 use Rattle.base_limits.specs.Limits.{mostLive}
 use Rattle.base_lists.specs.Lists.{first}
-use Rattle.model.specs.Store.{rank, phasePrepared, phaseInstalled}
+use Rattle.model.specs.Store.{phaseOpen, phasePrepared, phaseInstalled, phaseEnded}
 use Rattle.base_protocol.specs.declared.Step.{Step}
 use Rattle.base_protocol.specs.declared.Step.the-variants as ask
-use Rattle.txn.specs.View.{phaseView}
 use Rattle.txn.specs.Methods.{idleOf}
-use Rattle.txn.specs.declared.Phase.{Phase}
-use Rattle.txn.specs.declared.Phase.the-variants as phase
 use Rattle.txn.specs.declared.Transaction.{Transaction}
-use Rattle.txn_places.specs.Places.{freePlaces, wantedOf, isBegin, missesOf, placeFrom, placeIn, activeNumber, preparedCount, liveIn}
+use Rattle.txn_places.specs.Places.{freePlaces, wantedOf, isBegin, missesOf, placeFrom, placeIn, activeBy, preparedBy, liveIn}
 use Rattle.tightness.specs.Wrong.{Excludes}
 use Rattle.tightness.proofs.Apart.{apart, itself, bit}
 use Rattle.tightness.proofs.Computes.{computes}
@@ -38,27 +35,33 @@ pub place-of-from-one : Excludes {A = List ℕ × ℕ} (λ (numbers, n). placeIn
 unfolding computes
 place-of-from-one = apart (firstIsOne, 1) itself refl
 
--- `place_of`: 8 where no place has the number
-pub place-of-past-the-end : Excludes {A = List ℕ × ℕ} (λ (numbers, n). placeIn numbers n) (λ (numbers, n). first (λ i. eqb (getD numbers i 0) n) 0 mostLive)
+-- `place_of`: 8, of eight places, where none has the number
+pub place-of-past-the-end : Excludes {A = List ℕ × ℕ} (λ (numbers, n). placeIn numbers n)
+    (λ (numbers, n). first (λ i. eqb (getD numbers i 0) n) 0 (length numbers))
 unfolding computes
 place-of-past-the-end = apart (firstIsOne, 2) itself refl
 
+-- `place_of`: the last place is not looked at
+pub place-of-last-missed : Excludes {A = List ℕ × ℕ} (λ (numbers, n). placeIn numbers n) (λ (numbers, n). placeIn (take (length numbers - 1) numbers) n)
+unfolding computes
+place-of-last-missed = apart (0 ∷ 1 ∷ [], 1) itself refl
+
 -- `active_number`: an Ended transaction is active
-pub active-number-ended : Excludes {A = ℕ × Phase} (λ (n, ph). activeNumber n ph) (λ (n, ph). n)
-active-number-ended = apart (1, phase.Ended) itself refl
+pub active-number-ended : Excludes {A = ℕ × ℕ} (λ (n, rank). activeBy n rank) (λ (n, rank). n)
+active-number-ended = apart (1, phaseEnded) itself refl
 
 -- `active_number`: an Installed transaction is not active
-pub active-number-installed : Excludes {A = ℕ × Phase} (λ (n, ph). activeNumber n ph) (λ (n, ph). cond (eqb (rank (phaseView ph)) phaseInstalled) 0 n)
-active-number-installed = apart (1, phase.Installed) itself refl
+pub active-number-installed : Excludes {A = ℕ × ℕ} (λ (n, rank). activeBy n rank) (λ (n, rank). cond (eqb rank phaseInstalled) 0 n)
+active-number-installed = apart (1, phaseInstalled) itself refl
 
 -- `prepared_count`: an Open transaction has reserved versions
-pub prepared-count-open : Excludes {A = ℕ × Phase × ℕ} (λ (n, ph, writes). preparedCount n ph writes) (λ (n, ph, writes). cond (eqb n 0) 0 writes)
-prepared-count-open = apart (1, phase.Open, 1) itself refl
+pub prepared-count-open : Excludes {A = ℕ × ℕ × ℕ} (λ (n, rank, writes). preparedBy n rank writes) (λ (n, rank, writes). cond (eqb n 0) 0 writes)
+prepared-count-open = apart (1, phaseOpen, 1) itself refl
 
 -- `prepared_count`: a free place has reserved versions
-pub prepared-count-free : Excludes {A = ℕ × Phase × ℕ} (λ (n, ph, writes). preparedCount n ph writes)
-    (λ (n, ph, writes). cond (eqb (rank (phaseView ph)) phasePrepared) writes 0)
-prepared-count-free = apart (0, phase.Prepared, 1) itself refl
+pub prepared-count-free : Excludes {A = ℕ × ℕ × ℕ} (λ (n, rank, writes). preparedBy n rank writes)
+    (λ (n, rank, writes). cond (eqb rank phasePrepared) writes 0)
+prepared-count-free = apart (0, phasePrepared, 1) itself refl
 
 -- `live_count`: every place counts
 pub live-count-every : Excludes liveIn length

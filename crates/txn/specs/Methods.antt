@@ -5,7 +5,7 @@ use mathlib.Core.List.{List, [], _∷_}
 use lib.Dec.{eqb, ltb, leb}
 use lib.ListN.{replicate, length}
 use Rattle.base_limits.specs.Limits.{mostActive, mostIndexReads, mostWrites}
-use Rattle.model.specs.Store.{rank, phaseOpen, phaseHolding, bucketIn, keyIn}
+use Rattle.model.specs.Store.{rank, phaseOpen, phaseHolding, phaseCollected, phasePrepared, phaseInstalled, phaseEnded, bucketIn, keyIn}
 use Rattle.model.specs.Refusals.{WrongPhase, NoRow, Taken, Marked, ManyReads, ManyWrites, Stale, refusalNumber}
 use Rattle.base_protocol.specs.declared.Answer.the-variants as tell
 use Rattle.table.specs.Fields.{stampOf, holderOf, setHolder}
@@ -19,6 +19,8 @@ use Rattle.table_postings.specs.Postings.{postedUpTo, keptIn}
 use Rattle.txn.specs.declared.Phase.{Phase}
 use Rattle.txn.specs.declared.Phase.the-variants as phase
 use Rattle.txn.specs.declared.Transaction.{Transaction}
+use Rattle.txn.specs.declared.Parts.{Parts}
+use Rattle.txn.specs.declared.Rest.{Rest}
 use Rattle.txn.specs.declared.Answered.{Answered}
 use Rattle.txn.specs.View.{phaseView}
 
@@ -35,6 +37,50 @@ idleOf slot = record {
   «records_n» = 0;
   «candidates_n» = 0;
 }
+
+-- the phase of a number, with the bucket and the key that it carries
+abbrev pub phaseFrom : ℕ → ℕ → ℕ → Phase
+phaseFrom rank b k =
+    cond (eqb rank phaseHolding) (phase.Holding b k)
+    (cond (eqb rank phaseCollected) (phase.Collected k)
+    (cond (eqb rank phasePrepared) phase.Prepared
+    (cond (eqb rank phaseInstalled) phase.Installed
+    (cond (eqb rank phaseEnded) phase.Ended phase.Open))))
+
+-- the mark as a word
+abbrev pub markWord : Bool → ℕ
+markWord marked = cond marked 1 0
+
+-- the record without its number, its snapshot and its slot, in words
+abbrev pub restOf : Transaction → Rest
+restOf t = record {
+  marked = markWord (t .marked);
+  rank = rank (phaseView (t .phase));
+  bucket = bucketIn (phaseView (t .phase));
+  key = keyIn (phaseView (t .phase));
+  «reads_n» = t .«reads_n»;
+  «writes_n» = t .«writes_n»;
+  «records_n» = t .«records_n»;
+  «candidates_n» = t .«candidates_n»;
+}
+
+-- the record of its parts
+abbrev pub wholeOf : Parts → Transaction
+wholeOf p = record {
+  number = p .number;
+  snapshot = p .snapshot;
+  marked = not (eqb (p .rest .marked) 0);
+  phase = phaseFrom (p .rest .rank) (p .rest .bucket) (p .rest .key);
+  slot = p .slot;
+  «reads_n» = p .rest .«reads_n»;
+  «writes_n» = p .rest .«writes_n»;
+  «records_n» = p .rest .«records_n»;
+  «candidates_n» = p .rest .«candidates_n»;
+}
+
+-- the parts of a record
+abbrev pub partsOf : Transaction → Parts
+partsOf t = record { number = t .number; snapshot = t .snapshot; rest = restOf t; slot = t .slot }
 
 -- one part of the record anew
 abbrev pub withPhase : Transaction → Phase → Transaction

@@ -27,7 +27,8 @@ ghost use mathlib.Core.Bool.{false};
 ghost use Prim.Native.Nat.{_%_};
 ghost use Rattle.model.specs.Store.{rank, bucketIn, keyIn};
 ghost use Rattle.txn.specs.View.{phaseView};
-ghost use Rattle.txn.specs.Methods.{idleOf, withPhase, withMark, takenBy, refusedOf, tooMany, holdOf, captureOf, writeOf, collectOf};
+ghost use Rattle.txn.specs.Methods.{idleOf, phaseFrom, markWord, restOf, partsOf, wholeOf, withPhase, withMark};
+ghost use Rattle.txn.specs.Methods.{takenBy, refusedOf, tooMany, holdOf, captureOf, writeOf, collectOf};
 
 // The phase carries its bucket and key.
 pub enum Phase {
@@ -50,6 +51,26 @@ pub struct Transaction {
     pub writes_n: u32,
     pub records_n: u32,
     pub candidates_n: u32,
+}
+
+// A record without its number, its snapshot and its slot, in words: what a step may change that keeps its transaction.
+pub struct Rest {
+    pub marked: u64,
+    pub rank: u64,
+    pub bucket: u64,
+    pub key: u64,
+    pub reads_n: u32,
+    pub writes_n: u32,
+    pub records_n: u32,
+    pub candidates_n: u32,
+}
+
+// A record in parts.
+pub struct Parts {
+    pub number: u64,
+    pub snapshot: Snapshot,
+    pub rest: Rest,
+    pub slot: u32,
 }
 
 // An answer, with the record that goes back.
@@ -152,6 +173,82 @@ pub fn by_another(carried: u64, number: u64) -> bool
         return false;
     }
     carried != number
+}
+
+// The phase of a number, with the bucket and the key that it carries.
+pub fn phase_from(rank: u64, bucket: u64, key: u64) -> Phase
+    ensures { λ r. ⌜ r ≡ phaseFrom rank bucket key ⌝ }
+{
+    match rank {
+        HOLDING => Phase::Holding {
+            bucket: bucket,
+            key: key,
+        },
+        COLLECTED => Phase::Collected { key: key },
+        PREPARED => Phase::Prepared,
+        INSTALLED => Phase::Installed,
+        ENDED => Phase::Ended,
+        _ => Phase::Open,
+    }
+}
+
+// The mark as a word.
+fn mark_word(marked: bool) -> u64
+    ensures { λ r. ⌜ r ≡ markWord marked ⌝ }
+{
+    if marked { 1 } else { 0 }
+}
+
+// The rest of a record.
+pub fn rest_of(t: Transaction) -> Rest
+    ensures { λ r. ⌜ r ≡ restOf t ⌝ }
+{
+    let phase = t.phase;
+    let marked = mark_word(t.marked);
+    Rest {
+        marked: marked,
+        rank: phase_rank(phase),
+        bucket: bucket_in(phase),
+        key: key_in(phase),
+        reads_n: t.reads_n,
+        writes_n: t.writes_n,
+        records_n: t.records_n,
+        candidates_n: t.candidates_n,
+    }
+}
+
+// The parts of a record.
+pub fn parts_of(t: Transaction) -> Parts
+    ensures { λ r. ⌜ r ≡ partsOf t ⌝ }
+{
+    let snapshot = t.snapshot;
+    let rest = rest_of(t);
+    Parts {
+        number: t.number,
+        snapshot: snapshot,
+        rest: rest,
+        slot: t.slot,
+    }
+}
+
+// The record of its parts.
+pub fn whole(p: Parts) -> Transaction
+    ensures { λ r. ⌜ r ≡ wholeOf p ⌝ }
+{
+    let snapshot = p.snapshot;
+    let rest = p.rest;
+    let phase = phase_from(rest.rank, rest.bucket, rest.key);
+    Transaction {
+        number: p.number,
+        snapshot: snapshot,
+        marked: rest.marked != 0,
+        phase: phase,
+        slot: p.slot,
+        reads_n: rest.reads_n,
+        writes_n: rest.writes_n,
+        records_n: rest.records_n,
+        candidates_n: rest.candidates_n,
+    }
 }
 
 // A refusal, with the record that came in.

@@ -31,6 +31,16 @@ module _ (l : List ℕ) (i : ℕ) where
   unfolding liveFrom
   live-end n h = rw (drop-of-length-le l h)
 
+-- a place is found among those there are
+pub place-below : (k : ℕ) (l : List ℕ) (n m : ℕ) → 0 < m → k + length l ≤ m → placeFrom k l n < m
+unfolding placeFrom
+place-below k [] n m pos h = pos
+place-below k (x ∷ l) n m pos h = by (eqb x n) (place-below (suc k) l n m pos (omega (arith, h)))
+  where
+    by : (b : Bool) → placeFrom (suc k) l n < m → cond b k (placeFrom (suc k) l n) < m
+    by true further = omega (arith, h)
+    by false further = further
+
 pub live-one : (n x : ℕ) → oneLive n x ≤ n + 1
 live-one n x = by (eqb x 0)
   where

@@ -44,13 +44,19 @@ placeFrom k (x ∷ xs) n = cond (eqb x n) k (placeFrom (suc k) xs n)
 abbrev pub placeIn : List ℕ → ℕ → ℕ
 placeIn numbers n = placeFrom 0 numbers n
 
--- a place's number while it is active
+-- a place's number while it is active, by the number of its phase
+abbrev pub activeBy : ℕ → ℕ → ℕ
+activeBy n rank = cond (eqb rank phaseEnded) 0 n
+
 abbrev pub activeNumber : ℕ → Phase → ℕ
-activeNumber n ph = cond (eqb (rank (phaseView ph)) phaseEnded) 0 n
+activeNumber n ph = activeBy n (rank (phaseView ph))
 
 -- the pending writes that a live Prepared transaction has reserved versions for
+abbrev pub preparedBy : ℕ → ℕ → ℕ → ℕ
+preparedBy n rank writes = cond (eqb n 0) 0 (cond (eqb rank phasePrepared) writes 0)
+
 abbrev pub preparedCount : ℕ → Phase → ℕ → ℕ
-preparedCount n ph writes = cond (eqb n 0) 0 (cond (eqb (rank (phaseView ph)) phasePrepared) writes 0)
+preparedCount n ph writes = preparedBy n (rank (phaseView ph)) writes
 
 -- how many places are not free
 abbrev pub oneLive : ℕ → ℕ → ℕ

@@ -3,14 +3,12 @@ use base_limits::MOST_LIVE;
 use base_protocol::Step;
 use txn::ENDED;
 use txn::PREPARED;
-use txn::Phase;
 use txn::Transaction;
 use txn::idle;
-use txn::phase_rank;
 ghost use mathlib.Core.Path.{_≡_};
 ghost use Prim.Native.Nat.{_<_};
-ghost use Rattle.base_limits.specs.Limits.{lastNumber, mostLive};
-ghost use Rattle.txn_places.specs.Places.{wantedOf, isBegin, missesOf, placeIn, activeNumber, preparedCount, oneLive, liveIn, freePlaces};
+ghost use Rattle.base_limits.specs.Limits.{lastNumber};
+ghost use Rattle.txn_places.specs.Places.{wantedOf, isBegin, missesOf, placeIn, activeBy, preparedBy, oneLive, liveIn, freePlaces};
 
 // Of each place: its number, 0 where it is free; its number while it is active; how many pending writes it has reserved versions for.
 pub struct Others {
@@ -45,11 +43,11 @@ pub fn wanted(s: Step) -> u64
 }
 
 // The first place with this number, and place 0 where there is none.
-pub fn place_of(numbers: [u64; MOST_LIVE], number: u64) -> usize
-    ensures { λ r. ⌜ (r ≡ placeIn numbers number) × (r < mostLive) ⌝ }
+pub fn place_of(numbers: &[u64], number: u64) -> usize
+    ensures { λ r. ⌜ r ≡ placeIn (now (numbers .entry)) number ⌝ }
 {
     let mut i = 0;
-    while i < MOST_LIVE {
+    while i < numbers.len() {
         if numbers[i] == number {
             return i;
         }
@@ -58,24 +56,24 @@ pub fn place_of(numbers: [u64; MOST_LIVE], number: u64) -> usize
     0
 }
 
-// A place's number while it is active, and 0 where it is free or Ended.
-pub fn active_number(number: u64, phase: Phase) -> u64
-    ensures { λ r. ⌜ r ≡ activeNumber number phase ⌝ }
+// A place's number while it is active, and 0 where it is free or Ended; `rank` is the number of its phase.
+pub fn active_number(number: u64, rank: u64) -> u64
+    ensures { λ r. ⌜ r ≡ activeBy number rank ⌝ }
 {
-    if phase_rank(phase) == ENDED {
+    if rank == ENDED {
         return 0;
     }
     number
 }
 
 // How many pending writes a place has reserved versions for: those of a live Prepared transaction.
-pub fn prepared_count(number: u64, phase: Phase, writes_n: u32) -> u32
-    ensures { λ r. ⌜ r ≡ preparedCount number phase «writes_n» ⌝ }
+pub fn prepared_count(number: u64, rank: u64, writes_n: u32) -> u32
+    ensures { λ r. ⌜ r ≡ preparedBy number rank «writes_n» ⌝ }
 {
     if number == 0 {
         return 0;
     }
-    if phase_rank(phase) == PREPARED {
+    if rank == PREPARED {
         return writes_n;
     }
     0

@@ -2,11 +2,13 @@
 -- Assumes nothing.
 use mathlib.Core.Path.{_≡_, sym, _∙_}
 use mathlib.Core.Bool.{Bool, true, false}
+use Prim.Native.Nat.{_<_}
+use native.Mathlib.Omega.{arith}
 use lib.ListN.{length, length-map}
 use Rattle.base_limits.specs.Limits.{mostLive}
 use Rattle.shape.specs.Shape.{wordsOf, shapeOf}
 use borrow.Author.Tests.{not-true, not-false}
-use Rattle.call.proofs.Laws.{shape-found, call-done}
+use Rattle.call.proofs.Laws.{shape-found, place-within, call-done}
 use Rattle.call.specs.Calls.{callOf}
 use borrow.Author.Needs.{needs}
 use Rattle.call.proofs.call.Statement.{statement}
@@ -23,7 +25,7 @@ abbrev shaped : tie.After-others-of → tie.Else1
 shaped c = c .before .before .before
 
 abbrev others : tie.After-place-of → tie.After-others-of
-others c = c .before .before .before
+others c = c .before .before .before .before
 
 abbrev place : tie.After-step → tie.After-place-of
 place c =
@@ -60,6 +62,14 @@ in-shape c = told-shape (c .before) ∙ not-false (c .before .right-shape .resul
 eight : (c : tie.Start) → length (c .args .m .txns) ≡ mostLive
 eight c = simp length-map at (c .good .1 .1 .1 .1 .1 .0 .1 .1 .1 .1 .1 .0 .1 .0 .1)
 
+-- and the step goes to one of them
+within : (c : tie.After-place-of) → c .place-of .result < mostLive
+within c =
+    let o = others c in
+    let b = start (shaped o .before) in
+    place-within (b .args .m .txns) (o .others-of .result) (c .before .wanted .result) (c .place-of .result) (eight b)
+    (o .others-of .ensures) (c .place-of .ensures)
+
 -- WHAT IS ASKED
 
 right-shape-requires : tie.Need-right-shape-requires
@@ -84,6 +94,9 @@ returns c = rw (misshapen c)
 others-of-requires : tie.Need-others-of-requires
 others-of-requires c κs = search needs
 
+slice-aggregate-place-of : tie.Need-slice-aggregate-place-of
+slice-aggregate-place-of c = search needs
+
 wanted-requires : tie.Need-wanted-requires
 wanted-requires c κs = search needs
 
@@ -91,10 +104,10 @@ place-of-requires : tie.Need-place-of-requires
 place-of-requires c κs = search needs
 
 mul-t : tie.Need-mul-t
-mul-t c = search needs
+mul-t c = omega (arith, within c)
 
 array-copy-out-t : tie.Need-array-copy-out-t
-array-copy-out-t c = search needs
+array-copy-out-t c = omega (arith, within c)
 
 step-requires : tie.Need-step-requires
 step-requires c κs = search needs
@@ -103,7 +116,7 @@ sweep-requires : tie.Need-sweep-requires
 sweep-requires c κs = search needs
 
 placed-requires : tie.Need-placed-requires
-placed-requires c κs = search needs
+placed-requires c κs = within (place (stepped (c .before .before .before .before)))
 
 same-length-5 : tie.Need-same-length-5
 same-length-5 c = let s = swept c in s .sweep .kept .0 ∙ stepped s .step .kept .0
@@ -130,7 +143,7 @@ returns-2 c =
     let a = b .args in
     call-done (a .rows .now) (a .versions .now) (a .buckets .now) (a .lists .now) (a .found .now) (a .m) (a .s)
     (o .others-of .result) (wanted .result) (p .place-of .result) _ (eight b)
-    (o .others-of .ensures) (wanted .ensures) (p .place-of .ensures .0) (p .place-of .ensures .1) _ _ _
+    (o .others-of .ensures) (wanted .ensures) (p .place-of .ensures) (within p) _ _ _
     (in-shape (shaped o)) (s .step .ensures) (swept c .sweep .ensures) (c .placed .ensures)
 
 pub call-spec : {M : Type 1} → statement M
@@ -144,6 +157,7 @@ call-spec =
     same-length-4
     returns
     others-of-requires
+    slice-aggregate-place-of
     wanted-requires
     place-of-requires
     mul-t

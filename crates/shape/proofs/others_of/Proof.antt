@@ -1,12 +1,14 @@
 -- `shape::others_of` meets its contract.
 -- Assumes nothing.
 use borrow.Author.Needs.{needs}
-use mathlib.Core.Path.{_≡_, refl}
-use Prim.Native.Nat.{_≤_, _-_}
+use mathlib.Core.Path.{_≡_, refl, ap, _∙_}
+use Prim.Native.Nat.{ℕ, _≤_, _-_}
 use native.Mathlib.Omega.{arith}
-use lib.ListN.{length, take, length-set}
+use lib.ListN.{length, take, getD, length-set}
+use Rattle.model.specs.Store.{rank}
+use Rattle.txn.specs.View.{phaseView}
 use Rattle.txn.specs.declared.Transaction.{Transaction}
-use Rattle.txn_places.specs.Places.{activeNumber, preparedCount}
+use Rattle.txn_places.specs.Places.{activeBy, activeNumber, preparedBy, preparedCount}
 use Rattle.step.specs.Words.{othersIn}
 use Rattle.shape.proofs.Laws.{filled-next, filled-all}
 use Rattle.shape.proofs.others_of.Statement.{statement}
@@ -25,6 +27,14 @@ Inv-loop txns numbers₀ active₀ prepared₀ i₀ numbers active prepared i =
 abbrev μ-loop : tie.MeasureT-loop
 μ-loop txns numbers₀ active₀ prepared₀ i₀ numbers active prepared i = 8 - i
 
+-- what is told of a record by the number of its phase
+told-active : (t : Transaction) {told v : ℕ} → told ≡ rank (phaseView (t .phase)) → v ≡ activeBy (t .number) told → v ≡ activeNumber (t .number) (t .phase)
+told-active t e v = v ∙ ap (λ (r : ℕ). activeBy (t .number) r) e
+
+told-prepared : (t : Transaction) {told v : ℕ} → told ≡ rank (phaseView (t .phase)) → v ≡ preparedBy (t .number) told (t .«writes_n»)
+    → v ≡ preparedCount (t .number) (t .phase) (t .«writes_n»)
+told-prepared t e v = v ∙ ap (λ (r : ℕ). preparedBy (t .number) r (t .«writes_n»)) e
+
 loop-holds : tie.Need-loop-holds Inv-loop μ-loop
 loop-holds c = (search needs, refl, refl, refl, refl, refl, refl)
 
@@ -33,6 +43,9 @@ mul-t c = search needs
 
 array-copy-out-t : tie.Need-array-copy-out-t Inv-loop μ-loop
 array-copy-out-t c = search needs
+
+phase-rank-requires : tie.Need-phase-rank-requires Inv-loop μ-loop
+phase-rank-requires c κs = search needs
 
 mul-numbers : tie.Need-mul-numbers Inv-loop μ-loop
 mul-numbers c = search needs
@@ -66,10 +79,10 @@ loop-less c = search needs
 
 loop-again : tie.Need-loop-again Inv-loop μ-loop
 loop-again c =
-    let c4 = c .before .before .before .before in
-    let c5 = c4 .before in
-    let a = c5 .args in
-    let l = c4 .loop in
+    let ranked = c .before .before in
+    let turn = ranked .before .before .before in
+    let a = turn .before .args in
+    let l = turn .loop in
     let n : length (a .t1) ≡ 8 = search needs in (
       omega arith,
       simp length-set (l .inv .1),
@@ -77,9 +90,10 @@ loop-again c =
       simp length-set (l .inv .3),
       filled-next (λ (t : Transaction). t .number) (a .t1) (l .numbers) (l .i) _ _ (omega arith) (omega arith) refl (l .inv .4),
       filled-next (λ (t : Transaction). activeNumber (t .number) (t .phase)) (a .t1) (l .active) (l .i) _ _ (omega arith) (omega arith)
-          (c .before .active-number .ensures) (l .inv .5),
+          (told-active (getD (a .t1) (l .i) _) (ranked .phase-rank .ensures) (c .before .active-number .ensures)) (l .inv .5),
       filled-next (λ (t : Transaction). preparedCount (t .number) (t .phase) (t .«writes_n»)) (a .t1)
-          (l .prepared) (l .i) _ _ (omega arith) (omega arith) (c .prepared-count .ensures) (l .inv .6),
+          (l .prepared) (l .i) _ _ (omega arith) (omega arith)
+          (told-prepared (getD (a .t1) (l .i) _) (ranked .phase-rank .ensures) (c .prepared-count .ensures)) (l .inv .6),
     )
 
 returns : tie.Need-returns Inv-loop μ-loop
@@ -103,6 +117,7 @@ others-of-spec =
     loop-holds
     mul-t
     array-copy-out-t
+    phase-rank-requires
     mul-numbers
     array-write-numbers
     active-number-requires

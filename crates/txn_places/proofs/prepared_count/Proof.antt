@@ -1,22 +1,17 @@
 -- `txn_places::prepared_count` meets its contract.
 -- Assumes nothing.
 use borrow.Author.Tests.{eq-eqb, ne-eqb}
-use borrow.Author.Needs.{needs}
-use Prim.Native.Nat.{_-_}
 use Rattle.txn_places.proofs.prepared_count.Statement.{statement}
 use Rattle.txn_places.proofs.prepared_count.Tie as tie
 
 returns : tie.Need-returns
 returns c = rw (eq-eqb _ _ (c .if1 .taken))
 
-phase-rank-requires : tie.Need-phase-rank-requires
-phase-rank-requires c κs = search needs
-
 returns-2 : tie.Need-returns-2
-returns-2 c = rw (ne-eqb _ _ (c .before .before .if1 .left), ← c .before .phase-rank .ensures, eq-eqb _ _ (c .if2 .taken))
+returns-2 c = rw (ne-eqb _ _ (c .before .if1 .left), eq-eqb _ _ (c .if2 .taken))
 
 returns-3 : tie.Need-returns-3
-returns-3 c = rw (ne-eqb _ _ (c .before .before .if1 .left), ← c .before .phase-rank .ensures, ne-eqb _ _ (c .if2 .left))
+returns-3 c = rw (ne-eqb _ _ (c .before .if1 .left), ne-eqb _ _ (c .if2 .left))
 
 pub prepared-count-spec : {M : Type 1} → statement M
-prepared-count-spec = tie.close (tie.spec returns phase-rank-requires returns-2 returns-3)
+prepared-count-spec = tie.close (tie.spec returns returns-2 returns-3)

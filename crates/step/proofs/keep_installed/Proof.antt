@@ -1,0 +1,14 @@
+-- `step::keep_installed` meets its contract.
+-- Assumes nothing.
+use borrow.Author.Needs.{needs}
+use Rattle.step.proofs.keep_installed.Statement.{statement}
+use Rattle.step.proofs.keep_installed.Tie as tie
+
+rest-of-requires : tie.Need-rest-of-requires
+rest-of-requires c κs = search needs
+
+returns : tie.Need-returns
+returns c = rw (c .rest-of .ensures)
+
+pub keep-installed-spec : {M : Type 1} → statement M
+keep-installed-spec = tie.close (tie.spec rest-of-requires returns)
