@@ -9,7 +9,7 @@
 #include <stddef.h>
 #include <stdint.h>
 
-#define TORUXENG_VERSION "0.4.3"
+#define TORUXENG_VERSION "0.4.4"
 #define TORUXENG_VERSION_MAJOR 0
 #define TORUXENG_VERSION_MINOR 4
 #define TORUXENG_VERSION_PATCH 3
