@@ -12,7 +12,7 @@
 #define TORUXENG_VERSION "0.4.4"
 #define TORUXENG_VERSION_MAJOR 0
 #define TORUXENG_VERSION_MINOR 4
-#define TORUXENG_VERSION_PATCH 3
+#define TORUXENG_VERSION_PATCH 4
 
 #ifdef __cplusplus
 extern "C" {
