@@ -2,8 +2,8 @@
 -- Assumes nothing.
 use Prim.Native.Nat.{ℕ}
 use mathlib.Core.Path.{refl}
-use mathlib.Core.List.{List, [], _∷_, _++_}
-use lib.ListN.{getD, replicate}
+use mathlib.Core.List.{List, [], _∷_}
+use lib.ListN.{getD}
 use Rattle.model.specs.Refusals.{Malformed, WrongShape, refusalNumber}
 use Rattle.model.specs.Report.{openWord, badWord, wordOf, line}
 use Rattle.base_protocol.specs.View.{asked}
@@ -22,23 +22,6 @@ use Rattle.tightness.proofs.Small.{blank}
 -- the byte of the report at place i
 abbrev byte : ℕ → Written → ℕ
 byte i w = getD (w .report) i 0
-
--- what a line is written from: the report, the place, the word, the numbers and the rows
-abbrev Parts : Type 0
-Parts = List ℕ × ℕ × List ℕ × List ℕ × List ℕ
-
-abbrev writeLine : Parts → Written
-writeLine (report, at, word, numbers, rows) = writtenAt report at (line word (numbers ++ rows))
-
--- `write_line`: the rows stand before the numbers
-pub write-line-rows-first : Excludes writeLine (λ (report, at, word, numbers, rows). writtenAt report at (line word (rows ++ numbers)))
-unfolding computes
-write-line-rows-first = apart (replicate 5 0, 0, [], 1 ∷ [], 2 ∷ []) (byte 1) refl
-
--- `write_line`: always from the report's start
-pub write-line-from-start : Excludes writeLine (λ (report, at, word, numbers, rows). writtenAt report 0 (line word (numbers ++ rows)))
-unfolding computes
-write-line-from-start = apart (replicate 2 0, 1, [], [], []) (byte 0) refl
 
 -- `open_line`: always `open 0`
 pub open-line-zero : Excludes {A = List ℕ × ℕ × ℕ} (λ (report, at, n). writtenAt report at (openLine n)) (λ (report, at, n). writtenAt report at (openLine 0))
@@ -73,6 +56,11 @@ answerLine (report, at, s, answer, rows) = writtenAt report at (lineFor s answer
 -- a row that was found
 abbrev found : Given
 found = (blank, 0, ask.Rows 1 1, tell.Rows 1, 9 ∷ [])
+
+-- `answer_line`: always from the report's start
+pub answer-line-from-start : Excludes answerLine (λ (report, at, s, answer, rows). answerLine (report, 0, s, answer, rows))
+unfolding computes
+answer-line-from-start = apart (blank, 1, ask.Rows 1 1, tell.Rows 1, 9 ∷ []) (byte 0) refl
 
 -- `answer_line`: the found rows are not said
 pub answer-line-rows-unsaid : Excludes answerLine (λ (report, at, s, answer, rows). writtenAt report at (lineFor s answer []))

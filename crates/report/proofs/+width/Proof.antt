@@ -1,15 +1,15 @@
--- `report::lines::width` meets its contract.
+-- `report::width` meets its contract.
 -- Assumes nothing.
 use borrow.Fn.Kinds.{In}
 use borrow.Fn.PlainCycle.{Measures, is, falls, and}
 use Prim.Native.Nat.{ℕ, _<_}
 use native.Mathlib.Omega.{arith}
 use Rattle.report.proofs.Digits.{one-long, two-long, three-long, four-long, beyond-four-long, at-most-twenty}
-use Rattle.report.proofs.lines.+width.{statement}
-use Rattle.report.proofs.lines.width.Reads as width
-use Rattle.report.proofs.lines.width.Kinds as width-kinds
-use Rattle.report.proofs.lines.+width.Lts-width as width-lts
-use Rattle.report.proofs.lines.+width.Tie.{close}
+use Rattle.report.proofs.+width.{statement}
+use Rattle.report.proofs.width.Reads as width
+use Rattle.report.proofs.width.Kinds as width-kinds
+use Rattle.report.proofs.+width.Lts-width as width-lts
+use Rattle.report.proofs.+width.Tie.{close}
 
 abbrev μ-width : Measures 0 width-kinds.ps ℕ
 μ-width κs a = a .0

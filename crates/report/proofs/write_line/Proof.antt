@@ -1,4 +1,4 @@
--- `report::lines::write_line` meets its contract.
+-- `report::write_line` meets its contract.
 -- Assumes nothing.
 use borrow.Author.Needs.{needs}
 use Prim.Native.Nat.{ℕ, _+_}
@@ -9,8 +9,8 @@ use lib.ListN.{length}
 use Rattle.model.specs.Report.{spaced, line}
 use Rattle.report.proofs.Spaced.{spaced-least}
 use Rattle.report.proofs.Writing.{line-two-long, written-full, written-next, rest-laid}
-use Rattle.report.proofs.lines.write_line.Statement.{statement}
-use Rattle.report.proofs.lines.write_line.Tie as tie
+use Rattle.report.proofs.write_line.Statement.{statement}
+use Rattle.report.proofs.write_line.Tie as tie
 
 -- before the tests: the parameters, the line, and its length by its parts
 module _ (c : tie.After-shared-slice-known3) where
@@ -24,7 +24,7 @@ module _ (c : tie.After-shared-slice-known3) where
   in-parts = line-two-long (begun .args .word .now) (begun .args .numbers .now) (begun .args .rows .now)
 
 -- behind the measuring: the two widths are those of the two parts
-module _ (c : tie.After-lesser-usize) where
+module _ (c : tie.After-room-of) where
   abbrev tests : tie.After-shared-slice-known3
   tests = let first = c .before .before .before in first .before .before .before
 
@@ -76,14 +76,14 @@ add-long-2 c = search needs
 add-long-3 : tie.Need-add-long-3
 add-long-3 c = search needs
 
-lesser-usize-requires : tie.Need-lesser-usize-requires
-lesser-usize-requires c κs = search needs
+room-of-requires : tie.Need-room-of-requires
+room-of-requires c κs = search needs
 
 returns-4 : tie.Need-returns-4
 returns-4 c =
     let k = c .before in
     let a = begun (tests k) .args in
-    let r = k .lesser-usize .ensures in
+    let r = k .room-of .ensures in
     let long = in-parts (tests k) in
     written-full (a .report .now) (a .at) _ (omega arith)
 
@@ -91,7 +91,7 @@ returns-5 : tie.Need-returns-5
 returns-5 c =
     let k = c .before .before in
     let a = begun (tests k) .args in
-    let r = k .lesser-usize .ensures in
+    let r = k .room-of .ensures in
     let long = measured k in
     written-full (a .report .now) (a .at) _ (omega arith)
 
@@ -107,7 +107,7 @@ part-put-line-end c = search needs
 put-line-requires : tie.Need-put-line-requires
 put-line-requires c κs =
     let k = c .before .before .before in
-    let r = k .lesser-usize .ensures in
+    let r = k .room-of .ensures in
     let long = measured k in
     let parts = in-parts (tests k) in
     omega arith
@@ -124,7 +124,7 @@ returns-6 c =
     let passed = call .before .before in
     let k = passed .before .before in
     let a = begun (tests k) .args in
-    let r = k .lesser-usize .ensures in
+    let r = k .room-of .ensures in
     let long = measured k in
     let n : length (a .word .now) + k .before .before .spaced-width .result + k .before .spaced-width2 .result + 1 ≡ length (text (tests k)) = omega arith in
     let l = rest-laid (a .report .now) (a .at) (text (tests k)) (call .put-line .last .0) (omega arith) (call .put-line .ensures) in
@@ -142,7 +142,7 @@ write-line-spec =
     spaced-width-requires-2
     add-long-2
     add-long-3
-    lesser-usize-requires
+    room-of-requires
     returns-4
     returns-5
     sub-put-line

@@ -1,12 +1,12 @@
--- `report::lines::put_number` meets its contract.
+-- `report::put_number` meets its contract.
 -- Assumes nothing.
 use borrow.Author.Needs.{needs}
 use mathlib.Core.Path.{_∙_}
 use native.Mathlib.Omega.{arith}
 use lib.ListN.{length-set}
 use Rattle.report.proofs.Spaced.{number-long, number-laid}
-use Rattle.report.proofs.lines.put_number.Statement.{statement}
-use Rattle.report.proofs.lines.put_number.Tie as tie
+use Rattle.report.proofs.put_number.Statement.{statement}
+use Rattle.report.proofs.put_number.Tie as tie
 
 slice-write-out : tie.Need-slice-write-out
 slice-write-out c = let long = number-long (c .before .args .n) in omega arith

@@ -1,4 +1,4 @@
--- `report::lines::put_line` meets its contract.
+-- `report::put_line` meets its contract.
 -- Assumes nothing.
 use Prim.Native.Nat.{_+_}
 use mathlib.Core.Path.{_≡_, _∙_}
@@ -8,8 +8,8 @@ use lib.ListN.{length, length-set}
 use Rattle.model.specs.Report.{spaced, line}
 use Rattle.report.proofs.Spaced.{two-long, spaced-then}
 use Rattle.report.proofs.Writing.{line-two-long, line-done}
-use Rattle.report.proofs.lines.put_line.Statement.{statement}
-use Rattle.report.proofs.lines.put_line.Tie as tie
+use Rattle.report.proofs.put_line.Statement.{statement}
+use Rattle.report.proofs.put_line.Tie as tie
 
 -- each call of a part, from the one behind it
 abbrev begun : tie.After-put-word-arg → tie.Start

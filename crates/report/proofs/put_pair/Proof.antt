@@ -1,11 +1,11 @@
--- `report::lines::put_pair` meets its contract.
+-- `report::put_pair` meets its contract.
 -- Assumes nothing.
 use borrow.Author.Needs.{needs}
 use mathlib.Core.List.{[], _∷_}
 use native.Mathlib.Omega.{arith}
 use Rattle.report.proofs.Spaced.{two-long, spaced-then}
-use Rattle.report.proofs.lines.put_pair.Statement.{statement}
-use Rattle.report.proofs.lines.put_pair.Tie as tie
+use Rattle.report.proofs.put_pair.Statement.{statement}
+use Rattle.report.proofs.put_pair.Tie as tie
 
 put-number-requires : tie.Need-put-number-requires
 put-number-requires c κs = let a = c .before .before .args in let both = two-long (a .first ∷ []) (a .second ∷ []) in omega arith

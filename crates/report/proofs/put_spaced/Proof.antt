@@ -1,4 +1,4 @@
--- `report::lines::put_spaced` meets its contract.
+-- `report::put_spaced` meets its contract.
 -- Assumes nothing.
 use borrow.Author.Needs.{needs}
 use Prim.Native.Nat.{ℕ, _+_, _-_, _≤_}
@@ -11,8 +11,8 @@ use Rattle.model.specs.Report.{spaced}
 use Rattle.report.specs.Written.{laid}
 use Rattle.report.proofs.Laid.{laid-none}
 use Rattle.report.proofs.Spaced.{next-long, next-room, next-laid}
-use Rattle.report.proofs.lines.put_spaced.Statement.{statement}
-use Rattle.report.proofs.lines.put_spaced.Tie as tie
+use Rattle.report.proofs.put_spaced.Statement.{statement}
+use Rattle.report.proofs.put_spaced.Tie as tie
 
 abbrev Inv-loop : tie.InvT-loop
 Inv-loop out₀ at list p₀ i₀ out p i =

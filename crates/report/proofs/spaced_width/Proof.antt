@@ -1,4 +1,4 @@
--- `report::lines::spaced_width` meets its contract.
+-- `report::spaced_width` meets its contract.
 -- Assumes nothing.
 use borrow.Author.Needs.{needs}
 use Prim.Native.Nat.{_*_, _-_, _≤_}
@@ -8,8 +8,8 @@ use lib.ListN.{length, take, getD}
 use lib.Seq.{take-length}
 use Rattle.model.specs.Report.{spaced}
 use Rattle.report.proofs.Spaced.{number-long, next-long}
-use Rattle.report.proofs.lines.spaced_width.Statement.{statement}
-use Rattle.report.proofs.lines.spaced_width.Tie as tie
+use Rattle.report.proofs.spaced_width.Statement.{statement}
+use Rattle.report.proofs.spaced_width.Tie as tie
 
 abbrev Inv-loop : tie.InvT-loop
 Inv-loop list long₀ i₀ long i = (i ≤ length list) × (long ≡ length (spaced (take i list))) × (long ≤ 21 * i)

@@ -1,4 +1,4 @@
--- `report::lines::put_digits` meets its contract.
+-- `report::put_digits` meets its contract.
 -- Assumes nothing.
 use borrow.Author.Needs.{needs}
 use Prim.Native.Nat.{_+_, _-_, _<_, _≤_}
@@ -10,8 +10,8 @@ use Rattle.model.specs.Report.{decimal}
 use Rattle.report.specs.Written.{laid}
 use Rattle.report.proofs.Digits.{decimal-one, one-long, digits-left, digit-laid}
 use Rattle.report.proofs.Laid.{laid-none, set-laid}
-use Rattle.report.proofs.lines.put_digits.Statement.{statement}
-use Rattle.report.proofs.lines.put_digits.Tie as tie
+use Rattle.report.proofs.put_digits.Statement.{statement}
+use Rattle.report.proofs.put_digits.Tie as tie
 
 -- the digits from p on are laid, and those before it are the digits of `rest`
 abbrev Inv-loop : tie.InvT-loop
