@@ -47,6 +47,9 @@ pub decimal-more : (n : ℕ) → 10 ≤ n → decimal n ≡ decimal (n / 10) ++ 
 unfolding digitsStep
 decimal-more n h = decimal-step n ∙ rw (le-ltb n 10)
 
+pub decimal-two : (n : ℕ) → 10 ≤ n → n < 100 → decimal n ≡ (48 + n / 10) ∷ (48 + n % 10) ∷ []
+decimal-two n h i = rw (decimal-more n h, decimal-one (n / 10) (omega arith))
+
 pub one-long : (n : ℕ) → n < 10 → length (decimal n) ≡ 1
 one-long n h = rw (decimal-one n h)
 

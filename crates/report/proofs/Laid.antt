@@ -1,7 +1,7 @@
 -- A text laid after a text is the two laid at once; a store is a text of one.
 -- Assumes nothing.
 use Prim.Native.Nat.{ℕ, _+_, _<_, _≤_}
-use mathlib.Core.Path.{_≡_, sym, _∙_}
+use mathlib.Core.Path.{_≡_, refl, sym, _∙_}
 use mathlib.Core.List.{List, [], _∷_, _++_, append-assoc, append-nil}
 use native.Mathlib.Numerals.{add-one}
 use native.Mathlib.Nat.{add-assoc, add-zero}
@@ -44,6 +44,10 @@ module _ (old : List ℕ) (at : ℕ) (s l : List ℕ) (p : ℕ) (el : l ≡ laid
   then-store v h =
       let fits : at + length s ≤ length old = omega arith in
       rw (el, ep) (set-laid (laid old at s) (at + length s) v (rw (laid-long old at s fits) h) ∙ laid-then old at s fits (v ∷ []))
+
+-- two stores side by side are a text of two
+pub sets-laid : (l : List ℕ) (i v w : ℕ) → i + 1 < length l → set (set l i v) (i + 1) w ≡ laid l i (v ∷ w ∷ [])
+sets-laid l i v w h = then-store l i (v ∷ []) (set l i v) (i + 1) (set-laid l i v (omega arith)) refl w h
 
 -- the next byte of a word
 pub word-next : (old l : List ℕ) (w : List ℕ) (i : ℕ) → i < length w → length w ≤ length old → l ≡ laid old 0 (take i w)

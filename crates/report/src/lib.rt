@@ -100,6 +100,11 @@ fn put_digits(out: &mut [u8], at: usize, n: u64) -> usize
         out[at] = b'0' + n as u8;
         return at + 1;
     }
+    if n < 100 {
+        out[at] = b'0' + (n / 10) as u8;
+        out[at + 1] = b'0' + (n % 10) as u8;
+        return at + 2;
+    }
     let end = at + width(n);
     let mut p = end;
     let mut rest = n;

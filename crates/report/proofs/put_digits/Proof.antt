@@ -1,15 +1,15 @@
 -- `report::put_digits` meets its contract.
 -- Assumes nothing.
 use borrow.Author.Needs.{needs}
-use Prim.Native.Nat.{_+_, _-_, _<_, _≤_}
+use Prim.Native.Nat.{_+_, _-_, _/_, _%_, _<_, _≤_}
 use mathlib.Core.Path.{_≡_, refl}
 use native.Mathlib.Omega.{arith}
 use lib.ListN.{length, take, drop, length-set}
 use lib.Seq.{take-length, drop-length}
 use Rattle.model.specs.Report.{decimal}
 use Rattle.report.specs.Written.{laid}
-use Rattle.report.proofs.Digits.{decimal-one, one-long, digits-left, digit-laid}
-use Rattle.report.proofs.Laid.{laid-none, set-laid}
+use Rattle.report.proofs.Digits.{decimal-one, decimal-two, one-long, two-long, digits-left, digit-laid}
+use Rattle.report.proofs.Laid.{laid-none, set-laid, sets-laid}
 use Rattle.report.proofs.put_digits.Statement.{statement}
 use Rattle.report.proofs.put_digits.Tie as tie
 
@@ -46,6 +46,48 @@ returns c =
     let one = one-long (a .n) (c .if1 .taken) in
     (omega arith, rw (decimal-one (a .n) (c .if1 .taken)) (set-laid (a .out .now) (a .at) (48 + a .n) (omega arith)))
 
+cast-out-2 : tie.Need-cast-out-2 Inv-loop μ-loop
+cast-out-2 c = search needs
+
+add-out-2 : tie.Need-add-out-2 Inv-loop μ-loop
+add-out-2 c = search needs
+
+-- the parameters, of a number of two digits
+abbrev two : tie.Then2 Inv-loop μ-loop → tie.Start Inv-loop μ-loop
+two c = c .before .before .before
+
+two-written : (c : tie.Then2 Inv-loop μ-loop) → length (decimal (two c .args .n)) ≡ 2
+two-written c = two-long (two c .args .n) (c .before .if1 .left) (c .if2 .taken)
+
+slice-write-out-2 : tie.Need-slice-write-out-2 Inv-loop μ-loop
+slice-write-out-2 c = let long = two-written c in omega arith
+
+cast-out-3 : tie.Need-cast-out-3 Inv-loop μ-loop
+cast-out-3 c = search needs
+
+add-out-3 : tie.Need-add-out-3 Inv-loop μ-loop
+add-out-3 c = search needs
+
+add-out-4 : tie.Need-add-out-4 Inv-loop μ-loop
+add-out-4 c = let long = two-written c in omega arith
+
+slice-write-out-3 : tie.Need-slice-write-out-3 Inv-loop μ-loop
+slice-write-out-3 c = let long = two-written c in rw length-set (omega arith)
+
+add-result-2 : tie.Need-add-result-2 Inv-loop μ-loop
+add-result-2 c = let long = two-written c in omega arith
+
+same-length-2 : tie.Need-same-length-2 Inv-loop μ-loop
+same-length-2 c = simp length-set
+
+returns-2 : tie.Need-returns-2 Inv-loop μ-loop
+returns-2 c =
+    let a = two c .args in
+    let long = two-written c in (
+      omega arith,
+      rw (decimal-two (a .n) (c .before .if1 .left) (c .if2 .taken)) (sets-laid (a .out .now) (a .at) (48 + a .n / 10) (48 + a .n % 10) (omega arith)),
+    )
+
 width-requires : tie.Need-width-requires Inv-loop μ-loop
 width-requires c κs = search needs
 
@@ -54,7 +96,7 @@ add-end c = search needs
 
 loop-holds : tie.Need-loop-holds Inv-loop μ-loop
 loop-holds c =
-    let a = c .before .before .before .args in
+    let a = c .before .before .before .before .args in
     let digits = decimal (a .n) in
     let long = c .width .ensures .0 in
     let whole : a .at + c .width .result - a .at ≡ length digits = omega arith in (
@@ -68,14 +110,14 @@ loop-holds c =
 sub-p : tie.Need-sub-p Inv-loop μ-loop
 sub-p c = search needs
 
-cast-out-2 : tie.Need-cast-out-2 Inv-loop μ-loop
-cast-out-2 c = search needs
+cast-out-4 : tie.Need-cast-out-4 Inv-loop μ-loop
+cast-out-4 c = search needs
 
-add-out-2 : tie.Need-add-out-2 Inv-loop μ-loop
-add-out-2 c = search needs
+add-out-5 : tie.Need-add-out-5 Inv-loop μ-loop
+add-out-5 c = search needs
 
-slice-write-out-2 : tie.Need-slice-write-out-2 Inv-loop μ-loop
-slice-write-out-2 c = search needs
+slice-write-out-4 : tie.Need-slice-write-out-4 Inv-loop μ-loop
+slice-write-out-4 c = search needs
 
 loop-less : tie.Need-loop-less Inv-loop μ-loop
 loop-less c = search needs
@@ -84,7 +126,7 @@ loop-again : tie.Need-loop-again Inv-loop μ-loop
 loop-again c =
     let l = c .before .loop in
     let width = c .before .before in
-    let a = width .before .before .before .args in
+    let a = width .before .before .before .before .args in
     let front = l .inv .3 (c .loop-test .taken) in (
       omega arith,
       omega arith,
@@ -93,14 +135,14 @@ loop-again c =
       digit-laid (a .out .now) (l .out) (a .n) (a .at) (l .p) (l .rest) (omega arith) (omega arith) front (omega arith) (l .inv .4),
     )
 
-same-length-2 : tie.Need-same-length-2 Inv-loop μ-loop
-same-length-2 c = search needs
+same-length-3 : tie.Need-same-length-3 Inv-loop μ-loop
+same-length-3 c = search needs
 
-returns-2 : tie.Need-returns-2 Inv-loop μ-loop
-returns-2 c =
+returns-3 : tie.Need-returns-3 Inv-loop μ-loop
+returns-3 c =
     let l = c .before .loop in
     let width = c .before .before in
-    let a = width .before .before .before .args in
+    let a = width .before .before .before .before .args in
     let long = width .width .ensures .0 in
     let first : l .p ≡ a .at = omega arith in
     let none : a .at - a .at ≡ 0 = omega arith in
@@ -118,14 +160,24 @@ put-digits-spec =
     add-result
     same-length
     returns
+    cast-out-2
+    add-out-2
+    slice-write-out-2
+    cast-out-3
+    add-out-3
+    add-out-4
+    slice-write-out-3
+    add-result-2
+    same-length-2
+    returns-2
     width-requires
     add-end
     loop-holds
     sub-p
-    cast-out-2
-    add-out-2
-    slice-write-out-2
+    cast-out-4
+    add-out-5
+    slice-write-out-4
     loop-less
     loop-again
-    same-length-2
-    returns-2)
+    same-length-3
+    returns-3)
