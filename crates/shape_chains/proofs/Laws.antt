@@ -3,7 +3,7 @@
 use Prim.Native.Nat.{ℕ, zero, suc, _+_, _*_, _<_, _≤_}
 use mathlib.Core.Path.{_≡_, refl, sym, ap, _∙_}
 use mathlib.Core.List.{List}
-use mathlib.Core.Bool.{Bool, true, false, not, and-false}
+use mathlib.Core.Bool.{Bool, true, false, not, _&&_, and-false, and-true}
 use native.Mathlib.Decide.{decLt}
 use native.Mathlib.Numerals.{add-one}
 use native.Mathlib.Omega.{arith}
@@ -14,7 +14,7 @@ use Rattle.base_lists.specs.Lists.{every}
 use Rattle.table.specs.Words.{field}
 use Rattle.table.specs.Fields.{rowWords, versionWords, headOf, nextOf}
 
--- none, one more, all, all past one, and one that fails
+-- none, one more, all, all past one, fewer that fail, and one that fails
 pub every-none : (test : ℕ → Bool) → every 0 test ≡ true
 unfolding every
 every-none test = refl
@@ -27,18 +27,36 @@ module _ (test : ℕ → Bool) (i : ℕ) where
   pub every-done : (n : ℕ) → i ≤ n → n ≤ i → every i test ≡ true → true ≡ every n test
   every-done n a b e = let d : i ≡ n = omega arith in sym (sym (ap (λ (j : ℕ). every j test) d) ∙ e)
 
-  pub every-past : (n : ℕ) → i ≤ n → ((j : ℕ) → i ≤ j → j < n → test j ≡ true) → every i test ≡ true → true ≡ every n test
+  pub every-past : (n : ℕ) → i ≤ n → ((j : ℕ) → i ≤ j → j < n → test j ≡ true) → every i test ≡ every n test
   unfolding every
-  every-past zero a b e = every-done zero a (omega arith) e
-  every-past (suc n) a b e = elim (decLt n i) [
-    | yes l ↦ every-done (suc n) a l e
-    | no l ↦ rw (← every-past n (omega (arith, l)) (λ j h k. b j h (omega arith)) e, b n (omega (arith, l)) (omega arith))
+  every-past zero a b = let d : i ≡ zero = omega arith in rw d
+  every-past (suc n) a b = elim (decLt n i) [
+    | yes l ↦ let d : i ≡ suc n = omega (arith, l) in rw d
+    | no l ↦ rw (← every-past n (omega (arith, l)) (λ j h k. b j h (omega arith)), b n (omega (arith, l)) (omega arith), and-true)
   ]
 
-  pub every-fails : (n : ℕ) → i < n → test i ≡ false → false ≡ every n test
+  pub every-fewer : (n : ℕ) → i ≤ n → every i test ≡ false → false ≡ every n test
   unfolding every
-  every-fails zero h e = absurd (omega arith)
-  every-fails (suc n) h e = elim (decLt i n) [ yes l ↦ rw (← every-fails n l e) | no l ↦ let d : i ≡ n = omega (arith, l) in rw (← d, e, and-false) ]
+  every-fewer zero h e = let d : i ≡ zero = omega arith in sym e ∙ ap (λ (j : ℕ). every j test) d
+  every-fewer (suc n) h e = elim (decLt n i) [
+    | yes l ↦ let d : i ≡ suc n = omega (arith, l) in sym e ∙ ap (λ (j : ℕ). every j test) d
+    | no l ↦ rw (← every-fewer n (omega (arith, l)) e)
+  ]
+
+pub every-fails : (test : ℕ → Bool) (i n : ℕ) → i < n → test i ≡ false → false ≡ every n test
+unfolding every
+every-fails test i n h e = every-fewer test (suc i) n (omega arith) (rw (e, and-false))
+
+-- four more, as a callee told of each
+pub every-four : (test : ℕ → Bool) (i : ℕ) {a b c d : Bool} → every i test ≡ true → a ≡ test i → b ≡ test (i + 1) → c ≡ test (i + 2)
+    → d ≡ test (i + 3) → ((a && b) && c) && d ≡ every (i + 4) test
+unfolding every
+every-four test i e p q r s =
+    let one : i + 1 ≡ suc i = omega arith in
+    let two : i + 2 ≡ suc (suc i) = omega arith in
+    let three : i + 3 ≡ suc (suc (suc i)) = omega arith in
+    let four : i + 4 ≡ suc (suc (suc (suc i))) = omega arith in
+    rw (p, q, r, s, four, three, two, one, e)
 
 -- a test that a callee made, past it and in its arm
 pub passed : {r test : Bool} → r ≡ test → not r ≡ false → test ≡ true
@@ -46,6 +64,10 @@ passed {r} e l = sym e ∙ not-false r l
 
 pub failed : {r test : Bool} → r ≡ test → not r ≡ true → test ≡ false
 failed {r} e t = sym e ∙ not-true r t
+
+-- what a callee told of pointer q, as it is told of the number below it
+pub falls-behind : (versions : List ℕ) (p q : ℕ) {r : Bool} → q ≡ suc p → r ≡ ltb (nextOf versions q) q → r ≡ ltb (nextOf versions (suc p)) (suc p)
+falls-behind versions p q e t = rw (← e) t
 
 -- a row past the table has head 0, a version past it next 0
 pub head-past : (rows : List ℕ) (r used : ℕ) → length rows ≤ rowWords * r → leb (headOf rows r) used ≡ true

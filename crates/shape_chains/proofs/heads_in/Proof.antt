@@ -1,25 +1,25 @@
 -- `shape_chains::heads_in` meets its contract.
 -- Assumes nothing.
-use borrow.Author.Needs.{needs}
-use mathlib.Core.Path.{_≡_}
+use Prim.Native.Nat.{_≤_, _-_, _+_, _*_, _/_}
+use mathlib.Core.Path.{_≡_, _∙_}
 use mathlib.Core.Bool.{true}
-use Prim.Native.Nat.{_≤_, _-_}
 use native.Mathlib.Omega.{arith}
-use Rattle.shape_chains.proofs.Laws.{every-none, every-next, every-past, every-fails, head-past}
-use borrow.Author.Tests.{le-leb, lt-leb}
-use lib.Dec.{leb}
-use Rattle.table.specs.Words.{field}
-use Rattle.table.specs.Fields.{headOf}
+use borrow.Author.Needs.{needs}
 use Rattle.shape_chains.specs.ChainsShape.{headsIn}
+use Rattle.shape_chains.proofs.Laws.{every-none, every-past, every-fewer, passed, failed, head-past}
 use Rattle.shape_chains.proofs.heads_in.Statement.{statement}
 use Rattle.shape_chains.proofs.heads_in.Tie as tie
 
 abbrev Inv-loop : tie.InvT-loop
-Inv-loop rows «row_count» used held end row₀ row =
-    (row ≤ end) × (headsIn rows row used ≡ true)
+Inv-loop rows «row_count» used held end fours i₀ i =
+    (i ≤ fours) × (headsIn rows (4 * i) used ≡ true)
 
 abbrev μ-loop : tie.MeasureT-loop
-μ-loop rows «row_count» used held end row₀ row = end - row
+μ-loop rows «row_count» used held end fours i₀ i = fours - i
+
+-- the parameters
+abbrev start : tie.At-loop Inv-loop μ-loop → tie.Start Inv-loop μ-loop
+start c = c .before .before .before
 
 sub-held : tie.Need-sub-held Inv-loop μ-loop
 sub-held c = search needs
@@ -36,48 +36,43 @@ lesser-u64-requires c κs = search needs
 loop-holds : tie.Need-loop-holds Inv-loop μ-loop
 loop-holds c = (search needs, every-none _)
 
-mul-if1 : tie.Need-mul-if1 Inv-loop μ-loop
-mul-if1 c = search needs
+mul-four-heads-in : tie.Need-mul-four-heads-in Inv-loop μ-loop
+mul-four-heads-in c = search needs
 
-add-if1 : tie.Need-add-if1 Inv-loop μ-loop
-add-if1 c = search needs
-
-mul-if1-2 : tie.Need-mul-if1-2 Inv-loop μ-loop
-mul-if1-2 c = search needs
-
-shared-slice-read-if1 : tie.Need-shared-slice-read-if1 Inv-loop μ-loop
-shared-slice-read-if1 c = search needs
-
--- the parameters
-abbrev start : tie.At-loop Inv-loop μ-loop → tie.Start Inv-loop μ-loop
-start c = c .before .before .before
+four-heads-in-requires : tie.Need-four-heads-in-requires Inv-loop μ-loop
+four-heads-in-requires c κs = (omega arith, c .before .loop .inv .1)
 
 returns : tie.Need-returns Inv-loop μ-loop
-unfolding field
 returns c =
     let at = c .before .before .before in
-    let a = start at .args in
-    every-fails (λ r. leb (headOf (a .rows .now) r) (a .used)) (at .loop .row) (a .row-count) (omega arith) (lt-leb _ _ (c .if1 .taken))
+    every-fewer _ (4 * at .loop .i + 4) (start at .args .row-count) (omega arith) (failed (c .before .four-heads-in .ensures) (c .if1 .taken))
 
-add-row : tie.Need-add-row Inv-loop μ-loop
-add-row c = search needs
+add-i : tie.Need-add-i Inv-loop μ-loop
+add-i c = search needs
 
 loop-less : tie.Need-loop-less Inv-loop μ-loop
 loop-less c = search needs
 
 loop-again : tie.Need-loop-again Inv-loop μ-loop
-unfolding field
 loop-again c =
-    let at = c .before .before .before in
-    let a = start at .args in
-    (omega arith, every-next (λ r. leb (headOf (a .rows .now) r) (a .used)) (at .loop .row) (at .loop .inv .1) (le-leb _ _ (c .if1 .left)))
+    let i = c .before .before .before .loop .i in
+    let e : 4 * (i + 1) ≡ 4 * i + 4 = omega arith in
+    (omega arith, rw e (passed (c .before .four-heads-in .ensures) (c .if1 .left)))
+
+mul-heads-from : tie.Need-mul-heads-from Inv-loop μ-loop
+mul-heads-from c = search needs
+
+heads-from-requires : tie.Need-heads-from-requires Inv-loop μ-loop
+heads-from-requires c κs =
+    let at = c .before in
+    let e : 4 * at .loop .i ≡ 4 * (at .before .lesser-u64 .result / 4) = omega arith in
+    (omega arith, omega arith, rw (← e) (at .loop .inv .1))
 
 returns-2 : tie.Need-returns-2 Inv-loop μ-loop
 returns-2 c =
-    let at = c .before in
-    let a = start at .args in
-    every-past (λ r. leb (headOf (a .rows .now) r) (a .used)) (at .loop .row) (a .row-count) (omega arith)
-    (λ r h k. head-past (a .rows .now) r (a .used) (omega arith)) (at .loop .inv .1)
+    let a = start (c .before .before) .args in
+    c .heads-from .ensures
+    ∙ every-past _ _ (a .row-count) (omega arith) (λ r h k. head-past (a .rows .now) r (a .used) (omega arith))
 
 pub heads-in-spec : {M : Type 1} → statement M
 heads-in-spec =
@@ -90,12 +85,12 @@ heads-in-spec =
     add-held
     lesser-u64-requires
     loop-holds
-    mul-if1
-    add-if1
-    mul-if1-2
-    shared-slice-read-if1
+    mul-four-heads-in
+    four-heads-in-requires
     returns
-    add-row
+    add-i
     loop-less
     loop-again
+    mul-heads-from
+    heads-from-requires
     returns-2)
