@@ -50,15 +50,21 @@ fn whole_posted_with(rows: &[u64], row: usize, key: u64) -> bool
     rows[ROW_WORDS * row + POSTED] != 0
 }
 
-// Whether one of four rows from r on has the key in that place. All four are looked at, so that no branch stands between them.
+// Whether one of four rows from r on has the key in that place.
 fn any_keyed(rows: &[u64], r: usize, key: u64) -> bool
     requires { ⌜ rowWords * (r + 4) ≤ length (now rows) ⌝ }
     ensures { λ x. ⌜ x ≡ anyKeyed (now (rows .entry)) key r ⌝ }
 {
-    keyed(rows, r, key)
-        | keyed(rows, r + 1, key)
-        | keyed(rows, r + 2, key)
-        | keyed(rows, r + 3, key)
+    if keyed(rows, r, key) {
+        return true;
+    }
+    if keyed(rows, r + 1, key) {
+        return true;
+    }
+    if keyed(rows, r + 2, key) {
+        return true;
+    }
+    keyed(rows, r + 3, key)
 }
 
 // A row is kept behind the n kept before it where it is posted.

@@ -42,18 +42,19 @@ pub fn wanted(s: Step) -> u64
     }
 }
 
-// The first place with this number, and place 0 where there is none.
+// The first place with this number, and place 0 where there is none. All are looked at, from the last on, so that no branch depends on which it is.
 pub fn place_of(numbers: &[u64], number: u64) -> usize
     ensures { λ r. ⌜ r ≡ placeIn (now (numbers .entry)) number ⌝ }
 {
-    let mut i = 0;
-    while i < numbers.len() {
+    let mut place = 0;
+    let mut i = numbers.len();
+    while i > 0 {
+        i -= 1;
         if numbers[i] == number {
-            return i;
+            place = i;
         }
-        i += 1;
     }
-    0
+    place
 }
 
 // A place's number while it is active, and 0 where it is free or Ended; `rank` is the number of its phase.

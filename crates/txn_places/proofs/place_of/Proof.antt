@@ -2,22 +2,29 @@
 -- Assumes nothing.
 use borrow.Author.Tests.{eq-eqb, ne-eqb}
 use borrow.Author.Needs.{needs}
-use mathlib.Core.Path.{_≡_, refl, _∙_}
-use Prim.Native.Nat.{_-_}
+use native.Mathlib.Omega.{arith}
+use mathlib.Core.Path.{_≡_, sym}
+use Prim.Native.Nat.{_+_, _-_, _≤_}
 use lib.ListN.{length, drop}
-use Rattle.txn_places.specs.Places.{placeFrom, placeIn}
+use Rattle.txn_places.specs.Places.{placeFrom}
 use Rattle.txn_places.proofs.Laws.{place-next, place-end}
 use Rattle.txn_places.proofs.place_of.Statement.{statement}
 use Rattle.txn_places.proofs.place_of.Tie as tie
 
+-- the place among those from i on
 abbrev Inv-loop : tie.InvT-loop
-Inv-loop numbers number i₀ i = placeIn numbers number ≡ placeFrom i (drop i numbers) number
+Inv-loop numbers number place₀ i₀ place i = (i ≤ length numbers) × (place ≡ placeFrom i (drop i numbers) number)
 
 abbrev μ-loop : tie.MeasureT-loop
-μ-loop numbers number i₀ i = length numbers - i
+μ-loop numbers number place₀ i₀ place i = i
 
 loop-holds : tie.Need-loop-holds Inv-loop μ-loop
-loop-holds c = refl
+loop-holds c =
+    let numbers = c .args .numbers .now in
+    (omega arith, sym (place-end numbers (length numbers) (c .args .number) (omega arith)))
+
+sub-i : tie.Need-sub-i Inv-loop μ-loop
+sub-i c = search needs
 
 mul-if1 : tie.Need-mul-if1 Inv-loop μ-loop
 mul-if1 c = search needs
@@ -25,31 +32,32 @@ mul-if1 c = search needs
 shared-slice-read-if1 : tie.Need-shared-slice-read-if1 Inv-loop μ-loop
 shared-slice-read-if1 c = search needs
 
-returns : tie.Need-returns Inv-loop μ-loop
-returns c =
-    let turn = c .before .before in
-    let l = turn .before .loop in
-    let a = turn .before .before .args in
-    rw (l .inv, place-next (a .numbers .now) (l .i) (a .number) (turn .loop-test .taken), eq-eqb _ _ (c .if1 .taken))
-
-add-i : tie.Need-add-i Inv-loop μ-loop
-add-i c = search needs
-
 loop-less : tie.Need-loop-less Inv-loop μ-loop
 loop-less c = search needs
 
 loop-again : tie.Need-loop-again Inv-loop μ-loop
 loop-again c =
-    let turn = c .before .before in
-    let l = turn .before .loop in
-    let a = turn .before .before .args in
-    l .inv ∙ rw (place-next (a .numbers .now) (l .i) (a .number) (turn .loop-test .taken), ne-eqb _ _ (c .if1 .left))
+    let at = c .before .before .before in
+    let l = at .loop in
+    let a = at .before .args in
+    (omega arith, rw (place-next (a .numbers .now) (l .i - 1) (a .number) (omega arith), eq-eqb _ _ (c .if1 .taken)))
 
-returns-2 : tie.Need-returns-2 Inv-loop μ-loop
-returns-2 c =
+loop-less-2 : tie.Need-loop-less-2 Inv-loop μ-loop
+loop-less-2 c = search needs
+
+loop-again-2 : tie.Need-loop-again-2 Inv-loop μ-loop
+loop-again-2 c =
+    let at = c .before .before .before in
+    let l = at .loop in
+    let a = at .before .args in
+    let behind : l .i - 1 + 1 ≡ l .i = omega arith in
+    (omega arith, rw (place-next (a .numbers .now) (l .i - 1) (a .number) (omega arith), ne-eqb _ _ (c .if1 .left), behind) (l .inv .1))
+
+returns : tie.Need-returns Inv-loop μ-loop
+returns c =
     let l = c .before .loop in
-    let a = c .before .before .args in
-    rw (l .inv, place-end (a .numbers .now) (l .i) (a .number) (c .loop-test .left))
+    let first : l .i ≡ 0 = omega arith in
+    rw first at (l .inv .1)
 
 pub place-of-spec : {M : Type 1} → statement M
 place-of-spec =
@@ -58,10 +66,11 @@ place-of-spec =
     Inv-loop
     μ-loop
     loop-holds
+    sub-i
     mul-if1
     shared-slice-read-if1
-    returns
-    add-i
     loop-less
     loop-again
-    returns-2)
+    loop-less-2
+    loop-again-2
+    returns)
