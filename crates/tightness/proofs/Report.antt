@@ -62,6 +62,11 @@ pub answer-line-from-start : Excludes answerLine (λ (report, at, s, answer, row
 unfolding computes
 answer-line-from-start = apart (blank, 1, ask.Rows 1 1, tell.Rows 1, 9 ∷ []) (byte 0) refl
 
+-- `answer_line`: always the word of begin
+pub answer-line-begin : Excludes answerLine (λ (report, at, s, answer, rows). answerLine (report, at, ask.Begin, answer, rows))
+unfolding computes
+answer-line-begin = apart found (byte 0) refl
+
 -- `answer_line`: the found rows are not said
 pub answer-line-rows-unsaid : Excludes answerLine (λ (report, at, s, answer, rows). writtenAt report at (lineFor s answer []))
 unfolding computes
