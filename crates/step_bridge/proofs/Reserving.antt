@@ -3,31 +3,22 @@
 use Prim.Native.Nat.{ℕ, zero, suc, _≤_, _<_}
 use mathlib.Core.Path.{_≡_, refl, sym, ap, _∙_}
 use mathlib.Core.Bool.{Bool, true, false, cond, not, _&&_}
-use mathlib.Core.List.{List}
 use native.Mathlib.Omega.{arith}
 use lib.Dec.{eqb}
 use lib.ListN.{length, getD, List·getD-map}
 use Rattle.base_limits.specs.Limits.{mostLive, mostBuckets}
-use Rattle.base_lists.specs.Lists.{join}
 use Rattle.model.specs.Store.{rank}
 use Rattle.model.specs.Steps.{versionRows}
 use Rattle.model.specs.Refusals.{reservedBy, reserved}
-use Rattle.table.specs.Regions.{listOf}
-use Rattle.table_buckets.specs.Buckets.{canonicalOf}
 use Rattle.txn.specs.View.{phaseView}
 use Rattle.txn.specs.Methods.{idleOf}
 use Rattle.txn.specs.declared.Transaction.{Transaction}
-use Rattle.txn_needs.specs.Needs.{pushAll}
-use Rattle.txn_needs.specs.Versions.{rowsListed, pendingInto, versionsInto, versionsIn, reservedIn}
+use Rattle.txn_needs.specs.Versions.{versionsIn, reservedIn}
+use Rattle.txn_needs.proofs.Reserving.{versions-none}
 use Rattle.txn_places.specs.Places.{preparedCount}
 use Rattle.step.specs.Words.{Words, view, txnAt, othersIn}
 use Rattle.step_bridge.proofs.Headed.{Headed, WritesIn}
 use Rattle.step_bridge.proofs.Distinct.{versions-counted}
-
--- no writes reserve nothing
-none-reserved : (rows versions xs : List ℕ) (s : ℕ) → versionsIn rows versions xs s 0 ≡ 0
-unfolding versionsIn versionsInto pendingInto rowsListed pushAll listOf canonicalOf join
-none-reserved rows versions xs s = refl
 
 abbrev preparedOf : Transaction → ℕ
 preparedOf t = preparedCount (t .number) (t .phase) (t .«writes_n»)
@@ -46,8 +37,8 @@ module _ (w : Words) (g : Headed (view w .sizes) (w .tables .rows) (w .used)) (m
       by : (b : Bool) → eqb (txnAt w i .number) 0 ≡ b → (c : Bool)
           → inSlot i (cond b 0 (cond c (txnAt w i .«writes_n») 0))
           ≡ cond (not b && c) (length (versionRows (view w .sizes) (view w .chains) (view w .txns i .writes))) 0
-      by true e c = none-reserved (w .tables .rows) (w .tables .versions) (w .tables .lists) i
-      by false e false = none-reserved (w .tables .rows) (w .tables .versions) (w .tables .lists) i
+      by true e c = versions-none (w .tables .rows) (w .tables .versions) (w .tables .lists) i
+      by false e false = versions-none (w .tables .rows) (w .tables .versions) (w .tables .lists) i
       by false e true =
           ap (λ (j : ℕ). inSlot j (txnAt w i .«writes_n»)) (sym (slots i h))
           ∙ versions-counted (view w .sizes) (w .tables .rows) (w .tables .versions) (w .used) g most (w .tables .lists) (txnAt w i) (written i h e)
