@@ -9,10 +9,10 @@
 #include <stddef.h>
 #include <stdint.h>
 
-#define TORUXENG_VERSION "0.4.4"
+#define TORUXENG_VERSION "0.4.5"
 #define TORUXENG_VERSION_MAJOR 0
 #define TORUXENG_VERSION_MINOR 4
-#define TORUXENG_VERSION_PATCH 4
+#define TORUXENG_VERSION_PATCH 5
 
 #ifdef __cplusplus
 extern "C" {
