@@ -1,13 +1,13 @@
 -- The sizes and limits of document 01, each named once.
 use Prim.Native.Nat.{ℕ}
 
--- rows 1 to 256
+-- rows 1 to 1,024
 abbrev pub mostRows : ℕ
-mostRows = 256
+mostRows = 1024
 
--- versions 1 to 1,024
+-- versions 1 to 4,096
 abbrev pub mostVersions : ℕ
-mostVersions = 1024
+mostVersions = 4096
 
 -- buckets 1 to 4,096
 abbrev pub mostBuckets : ℕ
@@ -21,12 +21,12 @@ mostLive = 8
 abbrev pub mostActive : ℕ
 mostActive = 7
 
--- each transaction has at most 16 index reads, 64 read records and 16 pending writes
+-- each transaction has at most 16 index reads, 128 read records and 16 pending writes
 abbrev pub mostIndexReads : ℕ
 mostIndexReads = 16
 
 abbrev pub mostRecords : ℕ
-mostRecords = 64
+mostRecords = 128
 
 abbrev pub mostWrites : ℕ
 mostWrites = 16

@@ -109,7 +109,7 @@ captureChecks s x k =
     ∷ (not (hasRead (x .reads) (bucketOf (s .sizes) k)) && leb mostIndexReads (length (x .reads)), ManyReads)
     ∷ []
 
--- rows: a lent list that the matches fit in, and not a 65th read record
+-- rows: a lent list that the matches fit in, and not a 129th read record
 abbrev pub rowsChecks : Store → Txn → ℕ → List (Bool × Refusal)
 rowsChecks s x room =
     (ltb (min room mostRows) (length (foundRows s x)), NoRoom)

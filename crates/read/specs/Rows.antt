@@ -22,7 +22,7 @@ use Rattle.read_match.specs.Matching.{Look, look, matchOf, isMatch, throughOf}
 use Rattle.read_gather.specs.Gathering.{wantedRows}
 use Rattle.read_record.specs.Recording.{knownPointers, recordFor, putRecords}
 
--- the rows of the store that are wanted and match, ascending; a row count above 256 acts as 256
+-- the rows of the store that are wanted and match, ascending; a row count above 1,024 acts as 1,024
 unfoldable pub matchedRows : Look → ℕ → List ℕ
 matchedRows l rowCount = pick (λ r. member r (wantedRows (l .lists) (l .reading .txn)) && isMatch (matchOf l r)) 0 (min rowCount mostRows)
 
@@ -37,7 +37,7 @@ newRecords l known (r ∷ rs) =
     cond (eqb (through l r) 0 || member (through l r) known) (newRecords l known rs)
     (recordFor (l .versions) r (through l r) ∷ newRecords l (through l r ∷ known) rs)
 
--- a room above 256 counts as 256; the lent list may be shorter
+-- a room above 1,024 counts as 1,024; the lent list may be shorter
 abbrev pub roomFor : ℕ → ℕ → ℕ
 roomFor room len = min (min room mostRows) len
 
@@ -72,7 +72,7 @@ doneRows lists found rs new t = record {
   found = laid rs found;
 }
 
--- the tests: a lent list too short, then more than 64 read records
+-- the tests: a lent list too short, then more than 128 read records
 abbrev pub answerOf : List ℕ → List ℕ → List ℕ → List ReadRecord → Reading → LeftRows
 answerOf lists found rs new d =
     cond (ltb (roomFor (d .room) (length found)) (length rs)) (refusedRows lists found (d .txn) (refusalNumber NoRoom))

@@ -13,7 +13,7 @@ use Rattle.table_scans.specs.Scans.{pointers}
 use Rattle.read_record.specs.declared.Recorded.{Recorded}
 use Rattle.read_record.specs.declared.Recorded.the-variants.{TooMany, Kept}
 
--- the pointers that are recorded; a count above 64 acts as 64
+-- the pointers that are recorded; a count above 128 acts as 128
 abbrev pub knownPointers : List ℕ → ℕ → ℕ → List ℕ
 knownPointers lists slot n = pointers (recordsOf lists slot (min n mostRecords))
 
@@ -42,7 +42,7 @@ pub record LeftRecords : Type 0 where
   pub lists : List ℕ
   pub pointers : List ℕ
 
--- new records behind the old, unless they are more than 64 then
+-- new records behind the old, unless they are more than 128 then
 abbrev pub keptRecords : List ℕ → ℕ → ℕ → List ReadRecord → List ℕ → LeftRecords
 keptRecords lists slot n new ps =
     cond (ltb mostRecords (n + length new)) (record { told = TooMany; lists = lists; pointers = ps })

@@ -16,7 +16,7 @@ ghost use Rattle.base_limits.specs.Limits.{mostRecords, lastNumber};
 ghost use Rattle.read_record.specs.Recording.{knownPointers, planned, recordsFor, putRecords, recordedOf};
 ghost use Rattle.read_record.specs.Inner.{newPointer, countOf, addRecord};
 
-// How many read records there are then; TooMany where they would be more than 64.
+// How many read records there are then; TooMany where they would be more than 128.
 pub enum Recorded {
     TooMany,
     Kept(u32),

@@ -24,15 +24,15 @@ after steps = run (fresh (record { rows = 4; versions = 8; buckets = 32 }) 1) st
 abbrev pub reads : ℕ → List Step
 reads k = capture 1 k ∷ collect 1 ∷ rows 1 4 ∷ []
 
--- a store of 128 rows and versions; transaction t writes key 6 into n rows from `first` on, and publishes
+-- a store of 256 rows and versions; transaction t writes key 6 into n rows from `first` on, and publishes
 abbrev pub wide : List Step → Store
-wide steps = run (fresh (record { rows = 128; versions = 128; buckets = 4 }) 1) steps
+wide steps = run (fresh (record { rows = 256; versions = 256; buckets = 4 }) 1) steps
 
 abbrev pub writes : ℕ → ℕ → ℕ → List Step
 writes t first n = begin ∷ (each (λ i. put t (first + i) 6 i ∷ []) n ++ (prepare t ∷ install t ∷ end t ∷ publish t ∷ []))
 
-abbrev pub rows-64 : List Step
-rows-64 = writes 1 0 16 ++ writes 3 16 16 ++ writes 5 32 16 ++ writes 7 48 16
+abbrev pub rows-128 : List Step
+rows-128 = writes 1 0 16 ++ writes 3 16 16 ++ writes 5 32 16 ++ writes 7 48 16 ++ writes 9 64 16 ++ writes 11 80 16 ++ writes 13 96 16 ++ writes 15 112 16
 
 -- two transactions Prepared, each with two writes to one row
 abbrev pub reserving : ℕ → Store
@@ -40,10 +40,10 @@ reserving v = run (fresh (record { rows = 4; versions = v; buckets = 32 }) 1)
     (begin ∷ put 1 0 1 1 ∷ put 1 0 2 2 ∷ prepare 1 ∷ begin ∷ put 2 1 3 3 ∷ put 2 1 4 4 ∷ prepare 2 ∷ begin ∷ put 3 2 5 5 ∷ [])
 
 pub record Limited : Type 0 where
-  pub most-sizes : open-with 256 1024 4096 ≡ 0
-  pub rows-beyond : open-with 257 1024 4096 ≡ 1
-  pub versions-beyond : open-with 256 1025 4096 ≡ 1
-  pub buckets-beyond : open-with 256 1024 4097 ≡ 1
+  pub most-sizes : open-with 1024 4096 4096 ≡ 0
+  pub rows-beyond : open-with 1025 4096 4096 ≡ 1
+  pub versions-beyond : open-with 1024 4097 4096 ≡ 1
+  pub buckets-beyond : open-with 1024 4096 4097 ≡ 1
   pub eighth-live : number (after (each (λ n. begin ∷ []) 7)) begin ≡ 0
   pub ninth-live : number (after (each (λ n. begin ∷ []) 8)) begin ≡ 3
   pub last-number : number (run (fresh (record { rows = 4; versions = 8; buckets = 32 }) 18446744073709551613) []) begin ≡ 0
@@ -52,8 +52,8 @@ pub record Limited : Type 0 where
   pub seventeenth-write : number (after (begin ∷ each (λ n. put 1 2 6 n ∷ []) 16)) (put 1 2 6 1) ≡ 12
   pub sixteenth-read : number (after (begin ∷ each reads 15)) (capture 1 31) ≡ 0
   pub seventeenth-read : number (after (begin ∷ each reads 16)) (capture 1 31) ≡ 9
-  pub sixty-fourth-record : number (wide (rows-64 ++ (begin ∷ capture 9 6 ∷ collect 9 ∷ []))) (rows 9 256) ≡ 0
-  pub sixty-fifth-record : number (wide (rows-64 ++ writes 9 64 1 ++ (begin ∷ capture 11 6 ∷ collect 11 ∷ []))) (rows 11 256) ≡ 11
+  pub last-record : number (wide (rows-128 ++ (begin ∷ capture 17 6 ∷ collect 17 ∷ []))) (rows 17 1024) ≡ 0
+  pub record-beyond : number (wide (rows-128 ++ writes 17 128 1 ++ (begin ∷ capture 19 6 ∷ collect 19 ∷ []))) (rows 19 1024) ≡ 11
   pub last-version : number (reserving 3) (prepare 3) ≡ 0
   pub version-beyond : number (reserving 2) (prepare 3) ≡ 13
   pub again-read : number (after (begin ∷ each reads 16)) (capture 1 0) ≡ 0
@@ -73,8 +73,8 @@ limited = record {
   seventeenth-write = refl;
   sixteenth-read = refl;
   seventeenth-read = refl;
-  sixty-fourth-record = refl;
-  sixty-fifth-record = refl;
+  last-record = refl;
+  record-beyond = refl;
   last-version = refl;
   version-beyond = refl;
   again-read = refl;

@@ -35,7 +35,7 @@ roomOf (ask.Publish n) = 0
 roomOf (ask.Validate n) = 0
 roomOf (ask.Abort n) = 0
 
--- the lent list is as long as the room that is asked for; room above 256 counts as 256
+-- the lent list is as long as the room that is asked for; room above 1,024 counts as 1,024
 abbrev pub Lent : Words → Step → Type 0
 Lent w s = min (roomOf s) mostRows ≤ length (w .tables .found)
 

@@ -29,7 +29,7 @@ pub record-versions-again : Excludes records (λ (versions, lists, rows, ptrs, s
 unfolding computes
 record-versions-again = apart ([], [], 0 ∷ 1 ∷ [], 1 ∷ 1 ∷ [], 0, 0) (λ (l : LeftRecords). toldBy (l .told)) refl
 
--- `record_versions`: a sixty-fifth is kept
+-- `record_versions`: one record too many is kept
 pub record-versions-any-number : Excludes records (λ (versions, lists, rows, ptrs, slot, n).
     let ps = planned (knownPointers lists slot n) ptrs in
     let new = recordsFor versions rows ps in

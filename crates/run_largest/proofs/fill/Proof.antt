@@ -9,7 +9,7 @@ abbrev Inv-loop : tie.InvT-loop
 Inv-loop rows₀ versions₀ buckets₀ lists₀ p₀ first₀ rows versions buckets lists p first = Unit
 
 abbrev μ-loop : tie.MeasureT-loop
-μ-loop rows₀ versions₀ buckets₀ lists₀ p₀ first₀ rows versions buckets lists p first = 1024 - first
+μ-loop rows₀ versions₀ buckets₀ lists₀ p₀ first₀ rows versions buckets lists p first = 4096 - first
 
 loop-holds : tie.Need-loop-holds Inv-loop μ-loop
 loop-holds c = tt
