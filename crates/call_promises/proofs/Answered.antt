@@ -29,7 +29,7 @@ use Rattle.call.specs.Calls.{Left, refusedOpen, openOf}
 use Rattle.call_promises.specs.Calls.{Call, asking, lending, called, Typed, AnyCall}
 use Rattle.call_promises.specs.Refused.{Marks}
 use Rattle.call_promises.specs.Demands.{ExactCall, Opening, openNumber, ExactOpen, validating, JudgedCall}
-use Rattle.call_promises.proofs.Opened.{open-view}
+use Rattle.call.proofs.Opened.{open-view}
 use Rattle.call_promises.proofs.Refusing.{refused-words, refused-open}
 use Rattle.call_promises.proofs.Calls.{any-call}
 
@@ -206,6 +206,6 @@ open-given o n =
 pub opens-exactly : (o : Opening) → ExactOpen o
 opens-exactly o = record {
   given-when = open-given o;
-  done-leaves = λ e. open-view (o .rows) (o .versions) (o .buckets) (o .lists) (o .sizes) (o .clock) (o .clock-in) (open-done o e);
+  done-leaves = λ e. open-view (o .rows) (o .versions) (o .buckets) (o .lists) (o .sizes) (o .clock) (open-done o e) (o .clock-in);
   refused-leaves = λ d. refused-open (o .rows) (o .versions) (o .buckets) (o .lists) (o .sizes) (o .clock) (openNumber o) (refused-is _ d);
 }

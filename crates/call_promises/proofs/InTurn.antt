@@ -23,7 +23,7 @@ use Rattle.step_bridge.proofs.Running.{Stands}
 use Rattle.call_promises.specs.Calls.{Call, asking, called, stepsOf}
 use Rattle.call_promises.specs.Demands.{Opening, opened, openNumber, after}
 use Rattle.call_promises.specs.InTurn.{callFor, front, handed, toldEntry, callsDone, callsOneByOne, turnCalls, publishing, CallsInTurn}
-use Rattle.call_promises.proofs.Opened.{open-stands, open-view}
+use Rattle.call.proofs.Opened.{open-stands, open-view}
 use Rattle.call_promises.proofs.Calls.{called-as, called-stands}
 use Rattle.call_promises.proofs.Answered.{told-number, open-done}
 use Rattle.call_promises.proofs.Sequences.{follows}
@@ -103,8 +103,8 @@ module _ (o : Opening) (e : openNumber o ≡ 0) where
   pub done-after : (cs : List Call) → callsDone (opened o) cs ≡ entries start (stepsOf cs)
   done-after cs =
       let d = open-done o e in
-      done-told _ (open-stands (o .rows) (o .versions) (o .buckets) (o .lists) (o .sizes) (o .clock) (o .clock-in) d) cs
-      ∙ ap (λ (v : Store). entries v (stepsOf cs)) (open-view (o .rows) (o .versions) (o .buckets) (o .lists) (o .sizes) (o .clock) (o .clock-in) d)
+      done-told _ (open-stands (o .rows) (o .versions) (o .buckets) (o .lists) (o .sizes) (o .clock) d (o .clock-in)) cs
+      ∙ ap (λ (v : Store). entries v (stepsOf cs)) (open-view (o .rows) (o .versions) (o .buckets) (o .lists) (o .sizes) (o .clock) d (o .clock-in))
 
   pub turn-after : (cs : List Call) → callsOneByOne o cs ≡ oneByOne (o .clock) (entries start (stepsOf cs))
   turn-after cs = ap (oneByOne (o .clock)) (done-after cs)

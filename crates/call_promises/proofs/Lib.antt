@@ -1,4 +1,3 @@
-pub mod Opened
 pub mod Refusing
 pub mod Sweeping
 pub mod Called

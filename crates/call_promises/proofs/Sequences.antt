@@ -24,7 +24,7 @@ use Rattle.step.specs.Words.{view}
 use Rattle.step_bridge.proofs.Running.{Stands}
 use Rattle.call_promises.specs.Calls.{Call, asking, called, stepsOf}
 use Rattle.call_promises.specs.Demands.{Opening, openNumber, after, storeAfter, Follows, reading, validating, preparing, MarkedCalls, ReadCall}
-use Rattle.call_promises.proofs.Opened.{tests, open-stands, open-view}
+use Rattle.call.proofs.Opened.{tests, open-stands, open-view}
 use Rattle.call_promises.proofs.Calls.{stands-typed, sized-fit, called-as, calls-stand, calls-view}
 use Rattle.call_promises.proofs.Answered.{told-number, told-judged, open-done}
 
@@ -44,13 +44,13 @@ reading-asks t lent = let e : min (length lent) (length lent) ≡ length lent = 
 
 module _ (o : Opening) (e : openNumber o ≡ 0) where
   after-stands : (cs : List Call) → Stands (after o cs)
-  after-stands cs = calls-stand _ (open-stands (o .rows) (o .versions) (o .buckets) (o .lists) (o .sizes) (o .clock) (o .clock-in) (open-done o e)) cs
+  after-stands cs = calls-stand _ (open-stands (o .rows) (o .versions) (o .buckets) (o .lists) (o .sizes) (o .clock) (open-done o e) (o .clock-in)) cs
 
   after-view : (cs : List Call) → view (after o cs) ≡ storeAfter o cs
   after-view cs =
       let d = open-done o e in
-      calls-view _ (open-stands (o .rows) (o .versions) (o .buckets) (o .lists) (o .sizes) (o .clock) (o .clock-in) d) cs
-      ∙ ap (λ (v : Store). run v (stepsOf cs)) (open-view (o .rows) (o .versions) (o .buckets) (o .lists) (o .sizes) (o .clock) (o .clock-in) d)
+      calls-view _ (open-stands (o .rows) (o .versions) (o .buckets) (o .lists) (o .sizes) (o .clock) d (o .clock-in)) cs
+      ∙ ap (λ (v : Store). run v (stepsOf cs)) (open-view (o .rows) (o .versions) (o .buckets) (o .lists) (o .sizes) (o .clock) d (o .clock-in))
 
   pub follows : (cs : List Call) → Follows o cs
   follows cs = let h = after-stands cs in record { typed = stands-typed _ h; fits = sized-fit _ (h .sized); stands-for = after-view cs }
@@ -90,7 +90,7 @@ module _ (o : Opening) (e : openNumber o ≡ 0) where
       }
 
   opens : canOpen (sizesView (o .sizes)) (o .clock) ≡ true
-  opens = tests (o .rows) (o .versions) (o .buckets) (o .lists) (o .sizes) (o .clock) (o .clock-in) (open-done o e) .0
+  opens = tests (o .rows) (o .versions) (o .buckets) (o .lists) (o .sizes) (o .clock) (open-done o e) .0
 
   -- ---- what lies below xmin
 

@@ -1,12 +1,12 @@
 -- Replay of a whole log: a status, and the text of the report.
 use Prim.Native.Nat.{ℕ, zero, suc, _+_, _*_, min}
-use mathlib.Core.Bool.{cond}
+use mathlib.Core.Bool.{Bool, false, cond, not, _&&_}
 use mathlib.Core.Option.{Option, none, some}
 use mathlib.Core.List.{List, [], _∷_, _++_}
 use lib.Dec.{leb}
 use lib.ListN.{length, drop}
 use Rattle.model.specs.Store.{Sizes, Store, fresh}
-use Rattle.model.specs.Refusals.{WrongSize, NoRoom, Malformed, refusalNumber, Step}
+use Rattle.model.specs.Refusals.{WrongSize, NoRoom, Malformed, WrongShape, refusalNumber, Step}
 use Rattle.model.specs.Machine.{step, canOpen}
 use Rattle.model.specs.Log.{Command, Opening, Asking, readRecord}
 use Rattle.model.specs.Report.{openWord, badWord, line, answerLine}
@@ -68,6 +68,22 @@ mostRoom = 4294967295
 
 unfoldable pub replay : List ℕ → ℕ → Replayed
 replay log room = replayFrom (min room mostRoom) log none []
+
+-- an open asks for sizes that the lent tables are too short for; that a size is wrong by itself comes first
+abbrev pub tooShort : (Sizes → Bool) → Command → Bool
+tooShort lent (Opening z clock) = canOpen z clock && not (lent z)
+tooShort lent (Asking a) = false
+
+abbrev pub opensTooShort : (Sizes → Bool) → Option (Command × List ℕ) → Bool
+opensTooShort lent none = false
+opensTooShort lent (some c) = tooShort lent (c .0)
+
+-- over lent tables: where its first record is such an open, `open 16`, and stop; else as any replay
+unfoldable pub replayLent : (Sizes → Bool) → List ℕ → ℕ → Replayed
+replayLent lent log room =
+    cond (opensTooShort lent (readRecord log))
+    (writeThen (min room mostRoom) [] (line openWord (refusalNumber WrongShape ∷ [])) (stops (refusalNumber WrongShape)))
+    (replay log room)
 
 -- status × 4,294,967,296 + bytes written
 abbrev pub packed : Replayed → ℕ

@@ -60,7 +60,7 @@ module _ (log report : List ℕ) where
       unfolding replay
       opening = replay-reads (roomIn report) log 0 none [] _ h (read-open there z clock is)
 
-      pub left-unopened : canOpen (sizesView z) clock ≡ false → (l : Left) → l ≡ unopenedAt report
+      pub left-unopened : canOpen (sizesView z) clock ≡ false → (l : Left) → l ≡ unopenedAt report 1
           → Leaves (l .stopped) (l .report) (replay log (length report)) report
       left-unopened q l e = rw (opening, q) (last-line report [] (openLine 1) (omega arith) 1 (omega arith) l e)
 
@@ -74,6 +74,9 @@ module _ (log report : List ℕ) where
             let f = line-off report [] (openLine 0) (omega arith) line el w in
             rw (opening, q, goes-full (roomIn report) [] (openLine 0) behind (f .full), f .report) (refl, omega arith, omega arith)
 
+        pub too-long : line .wrote ≡ Full → roomIn report < length (openLine 0)
+        too-long w = omega (arith, line-off report [] (openLine 0) (omega arith) line el w .full)
+
         module _ {end : ℕ} (w : line .wrote ≡ Next end) where
           nothing : length {A = ℕ} [] ≤ roomIn report
           nothing = omega arith
@@ -81,13 +84,16 @@ module _ (log report : List ℕ) where
           on : On report [] (openLine 0) nothing line end
           on = line-on report [] (openLine 0) nothing line el end w
 
-          fits : length (openLine 0) ≤ roomIn report
+          pub fits : length (openLine 0) ≤ roomIn report
           fits = omega (arith, on .fits)
 
           replayed : replay log (length report) ≡ behind (openLine 0)
           replayed = rw (opening, q) (goes-on (roomIn report) [] (openLine 0) behind (on .fits))
 
-          kept : length (line .report) ≡ length report
+          pub ended : end ≡ length (openLine 0)
+          ended = on .end
+
+          pub kept : length (line .report) ≡ length report
           kept = rw (on .report) (shown-long report (openLine 0) [] (omega (arith, fits)))
 
           pub opened-fits : end ≤ roomIn (line .report)

@@ -1,6 +1,6 @@
 -- The loop of the replay: what stands before each record, and each way out of the loop.
 -- Assumes nothing.
-use Prim.Native.Nat.{ℕ, _<_, _≤_}
+use Prim.Native.Nat.{ℕ, _+_, _-_, _<_, _≤_}
 use mathlib.Core.Path.{_≡_, refl, sym, ap, subst, _∙_}
 use mathlib.Core.Option.{some}
 use mathlib.Core.List.{List, _++_}
@@ -36,22 +36,30 @@ use Rattle.report.proofs.Reported.{shown}
 use Rattle.report.proofs.Answers.{line-told}
 use Rattle.replay.specs.Stops.{Left, malformedAt}
 use Rattle.replay.specs.Replay.{Leaves}
+use Rattle.replay.specs.Lent.{wordsFor}
+use Rattle.replay.proofs.Leaving.{words-end, words-none, words-full, words-on}
 use Rattle.replay.proofs.RecordByRecord.{onward, replay-ends, replay-reads, goes-on, goes-full}
 use Rattle.replay.proofs.Lining.{roomIn, line-on, line-off, last-line}
 
--- before the record at a place: the words stand for a store, the text stands in the report, and the replay of the rest is the whole
-pub record Going (log old : List ℕ) (m : Replayed) (at wrote : ℕ) (report : List ℕ) (w : Words) : Type 0 where
+-- before the record at a place: the words stand for a store, the text stands in the report, and the replay of the rest is the whole, in text and in words
+pub record Going (log old : List ℕ) (m : Replayed) (final : Words) (at wrote : ℕ) (report : List ℕ) (w : Words) : Type 0 where
   pub stands : Stands w
   pub text : List ℕ
   pub long : wrote ≡ length text
   pub laid : report ≡ shown text old
   pub fits : length text ≤ roomIn old
   pub rest : m ≡ replayFrom (roomIn old) (drop at log) (some (view w)) text
+  pub more : ℕ
+  pub enough : length log ≤ at + more
+  pub words : final ≡ wordsFor (roomIn old) log more at wrote w
 
-module _ {log old : List ℕ} {m : Replayed} {at wrote : ℕ} {report : List ℕ} {w : Words} (g : Going log old m at wrote report w) where
+module _ {log old : List ℕ} {m : Replayed} {final : Words} {at wrote : ℕ} {report : List ℕ} {w : Words} (g : Going log old m final at wrote report w) where
   -- the log is at its end
   pub ends : length log ≤ at → Leaves (record { status = 0; wrote = wrote }) report m old
   ends h = rw (g .rest, replay-ends (roomIn old) log at (some (view w)) (g .text) h, g .long, g .laid) (refl, omega arith, omega (arith, g .fits))
+
+  pub ends-words : length log ≤ at → w ≡ final
+  ends-words h = sym (g .words ∙ words-end (roomIn old) log (g .more) at wrote w h)
 
   module _ (h : at < length log) {d : Decoded} (ed : d ≡ decodedOf log at) where
     there : Reads log at d
@@ -67,6 +75,9 @@ module _ {log old : List ℕ} {m : Replayed} {at wrote : ℕ} {report : List ℕ
     stops-malformed other l e =
         let e′ : l ≡ malformedAt (shown (g .text) old) (length (g .text)) = rw (← g .laid, ← g .long) e in
         rw (bad-by (d .command) refl other) (last-line old (g .text) badLine (g .fits) 15 (omega arith) l e′)
+
+    pub stops-words : NoStep (d .command) → w ≡ final
+    stops-words other = sym (g .words ∙ words-none (roomIn old) log (g .more) at wrote w (subst (λ (x : Decoded). NoStep (x .command)) ed other))
 
     module _ {s : Step} (asks : d .command ≡ Ask s) where
       -- the next record is further on
@@ -116,8 +127,13 @@ module _ {log old : List ℕ} {m : Replayed} {at wrote : ℕ} {report : List ℕ
               let f = line-off old (g .text) lineIs (g .fits) line lined q in
               rw (written-then, goes-full (roomIn old) (g .text) lineIs goes-to (f .full), f .report, g .long) (refl, omega arith, omega (arith, g .fits))
 
+          pub full-words : line .wrote ≡ Full → {k : ℕ} → k ≡ placeFor (w .txns) s → after w k mv ≡ final
+          full-words q ek =
+              let f = line-off old (g .text) lineIs (g .fits) line lined q in
+              rw (ek, em) (sym (g .words ∙ words-full (roomIn old) log (g .more) at wrote w h (g .enough) s (rw (← ed) asks) (rw (g .long) (f .full))))
+
           -- on, with the words that the step leaves
-          pub goes : {k : ℕ} → k ≡ placeFor (w .txns) s → (end : ℕ) → line .wrote ≡ Next end → Going log old m (d .next) end (line .report) (after w k mv)
+          pub goes : {k : ℕ} → k ≡ placeFor (w .txns) s → (end : ℕ) → line .wrote ≡ Next end → Going log old m final (d .next) end (line .report) (after w k mv)
           goes ek end q =
               let f = line-on old (g .text) lineIs (g .fits) line lined end q in
               rw (ek, em) (record {
@@ -127,4 +143,16 @@ module _ {log old : List ℕ} {m : Replayed} {at wrote : ℕ} {report : List ℕ
                 laid = f .report;
                 fits = rw (length-append (g .text) lineIs) (f .fits);
                 rest = written-then ∙ goes-on (roomIn old) (g .text) lineIs goes-to (f .fits);
+                more = g .more - 1;
+                enough = omega (arith, g .enough, further);
+                words = g .words ∙ onto (f .fits) (f .end);
               })
+            where
+              ends-at : length (g .text) + length lineIs ≤ roomIn old → wrote + length lineIs ≤ roomIn old
+              ends-at f = rw (g .long) f
+
+              onto : length (g .text) + length lineIs ≤ roomIn old → end ≡ length (g .text ++ lineIs)
+                  → wordsFor (roomIn old) log (g .more) at wrote w ≡ wordsFor (roomIn old) log (g .more - 1) (d .next) end (wordsAfter w s)
+              onto f e =
+                  let n : wrote + length lineIs ≡ end = sym (e ∙ length-append (g .text) lineIs ∙ rw (g .long)) in
+                  words-on (roomIn old) log (g .more) at wrote w h (g .enough) s (rw (← ed) asks) (ends-at f) ∙ rw (n, ed)

@@ -1,10 +1,13 @@
 pub mod RecordByRecord
 pub mod Lining
+pub mod Leaving
 pub mod Going
 pub mod Zeroes
 pub mod Wholes
 pub mod Beside
 pub mod Turning
 pub mod First
+pub mod Lending
+pub mod Greatest
 pub mod Statuses
 pub mod Samples

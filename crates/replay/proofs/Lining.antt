@@ -63,7 +63,7 @@ module _ (old text next : List ℕ) (long : length text ≤ roomIn old) where
     line-off q = off-by (leb (length text + length next) (roomIn old)) refl q
 
 -- a last line: what the code leaves of it is what the model's replay leaves
-module _ (old text next : List ℕ) (long : length text ≤ roomIn old) (status : ℕ) (small : status ≤ 15) where
+module _ (old text next : List ℕ) (long : length text ≤ roomIn old) (status : ℕ) (small : status ≤ 16) where
   last-by : (b : Bool) → leb (length text + length next) (roomIn old) ≡ b → (l : Left)
       → l ≡ stopWith (writtenAt (shown text old) (length text) next) status (length text)
       → Leaves (l .stopped) (l .report) (writeThen (roomIn old) text next (stops status)) old

@@ -1,7 +1,7 @@
 -- How a replay stops: its status, how many bytes it wrote, and the lent report.
 use Prim.Native.Nat.{ℕ}
 use mathlib.Core.List.{List}
-use Rattle.model.specs.Refusals.{WrongSize, NoRoom, Malformed, refusalNumber}
+use Rattle.model.specs.Refusals.{NoRoom, Malformed, refusalNumber}
 use Rattle.report.specs.declared.Wrote.{Wrote}
 use Rattle.report.specs.declared.Wrote.the-variants.{Next, Full}
 use Rattle.report.specs.Written.{Written, writtenAt}
@@ -21,9 +21,9 @@ stopAfter Full status at = record { status = refusalNumber NoRoom; wrote = at }
 abbrev pub stopWith : Written → ℕ → ℕ → Left
 stopWith w status at = record { stopped = stopAfter (w .wrote) status at; report = w .report }
 
--- `bad 15`, and stop; `open 1`, and stop
+-- `bad 15`, and stop; the line of a refused open, and stop
 abbrev pub malformedAt : List ℕ → ℕ → Left
 malformedAt report at = stopWith (writtenAt report at badLine) (refusalNumber Malformed) at
 
-abbrev pub unopenedAt : List ℕ → Left
-unopenedAt report = stopWith (writtenAt report 0 (openLine (refusalNumber WrongSize))) (refusalNumber WrongSize) 0
+abbrev pub unopenedAt : List ℕ → ℕ → Left
+unopenedAt report why = stopWith (writtenAt report 0 (openLine why)) why 0

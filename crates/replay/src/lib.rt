@@ -1,4 +1,4 @@
-// A log replayed into a report: the one function that a host calls.
+// A log replayed into a report, over tables of its own or lent ones: the functions that a host calls.
 use base_limits::MOST_BUCKETS;
 use base_limits::MOST_LIVE;
 use base_limits::MOST_ROWS;
@@ -7,12 +7,12 @@ use base_protocol::Answer;
 use base_protocol::Extent;
 use base_protocol::NO_ROOM;
 use base_protocol::Sizes;
+use call::open;
 use log::Command;
 use log::decode_at;
 use report::Wrote;
 use report::answer_line;
 use report::open_line;
-use shape_open::can_open;
 use step::Beside;
 use step::keeps;
 use step::step_keeping;
@@ -35,12 +35,12 @@ use txn_places::prepared_count;
 use txn_places::wanted;
 ghost use mathlib.Core.Path.{_≡_};
 ghost use Prim.Native.Nat.{_≤_, min};
-ghost use mathlib.Core.Bool.{true};
 ghost use lib.ListN.{length};
-ghost use Rattle.model.specs.Machine.{canOpen};
+ghost use Rattle.step.specs.Steps.{Tables};
 ghost use Rattle.model.specs.Replay.{replay, packed, reported, mostRoom};
-ghost use Rattle.base_protocol.specs.View.{sizesView};
-ghost use Rattle.replay.specs.Replay.{Leaves, Zeroed, openedFrom};
+ghost use Rattle.report_answers.specs.Answers.{numberOf};
+ghost use Rattle.replay.specs.Replay.{Leaves, openedFrom};
+ghost use Rattle.replay.specs.Lent.{Opens, freshIn, wordsFrom, replayedIn, lentLeft, lentOf};
 
 mod stop; // stop.rt: how a replay stops
 
@@ -66,10 +66,29 @@ fn replay_steps(
     found: &mut [u64],
     opened: Opened,
 ) -> Stopped
-    requires { ⌜ Zeroed (now rows) (now versions) (now buckets) (now lists) (now found)
-        × (canOpen (sizesView (opened .sizes)) (opened .clock) ≡ true)
+    requires { ⌜ Opens (record { rows = now rows; versions = now versions; buckets = now buckets; lists = now lists; found = now found })
+        (opened .sizes) (opened .clock)
         × (opened .wrote ≤ min (length (now report)) mostRoom) ⌝ }
-    ensures { λ r. ⌜ Leaves r (now (report .exit)) (openedFrom (now (log .entry)) (now (report .entry)) opened) (now (report .entry)) ⌝ }
+    ensures { λ r. ⌜ Leaves r (now (report .exit)) (openedFrom (now (log .entry)) (now (report .entry)) opened) (now (report .entry))
+        × (_≡_ {A = Tables}
+        (record {
+          rows = now (rows .exit);
+          versions = now (versions .exit);
+          buckets = now (buckets .exit);
+          lists = now (lists .exit);
+          found = now (found .exit);
+        })
+        (wordsFrom (min (length (now (report .entry))) mostRoom) (now (log .entry)) (opened .at) (opened .wrote)
+        (freshIn
+        (record {
+          rows = now (rows .entry);
+          versions = now (versions .entry);
+          buckets = now (buckets .entry);
+          lists = now (lists .entry);
+          found = now (found .entry);
+        })
+        (opened .sizes) (opened .clock))
+        .tables)) ⌝ }
 {
     let sizes = opened.sizes;
     let free = parts_of(idle(0));
@@ -158,7 +177,22 @@ fn replay_steps(
     }
 }
 
-// The first record, which must be an open, and then the others.
+// Document 01's number for an answer.
+fn number_of(answer: Answer) -> u64
+    ensures { λ r. ⌜ r ≡ numberOf answer ⌝ }
+{
+    match answer {
+        Answer::Done => 0,
+        Answer::Number(_) => 0,
+        Answer::Stamp(_) => 0,
+        Answer::Count(_) => 0,
+        Answer::Rows(_) => 0,
+        Answer::Judged(_) => 0,
+        Answer::Refused(why) => why,
+    }
+}
+
+// The first record, which must be an open that the lent tables are long enough for, and then the others.
 fn replay_open(
     log: &[u8],
     report: &mut [u8],
@@ -166,10 +200,14 @@ fn replay_open(
     versions: &mut [u64],
     buckets: &mut [u64],
     lists: &mut [u64],
-    found: &mut [u64],
 ) -> Stopped
-    requires { ⌜ Zeroed (now rows) (now versions) (now buckets) (now lists) (now found) ⌝ }
-    ensures { λ r. ⌜ Leaves r (now (report .exit)) (replay (now (log .entry)) (length (now (report .entry)))) (now (report .entry)) ⌝ }
+    ensures { λ r. ⌜ Leaves r (now (report .exit))
+        (replayedIn (now (log .entry)) (now (report .entry))
+        (record { rows = now (rows .entry); versions = now (versions .entry); buckets = now (buckets .entry); lists = now (lists .entry) }))
+        (now (report .entry))
+        × (record { rows = now (rows .exit); versions = now (versions .exit); buckets = now (buckets .exit); lists = now (lists .exit) }
+        ≡ lentLeft (now (log .entry)) (min (length (now (report .entry))) mostRoom)
+        (record { rows = now (rows .entry); versions = now (versions .entry); buckets = now (buckets .entry); lists = now (lists .entry) })) ⌝ }
 {
     if log.len() == 0 {
         return Stopped {
@@ -183,8 +221,11 @@ fn replay_open(
     let Command::Open { sizes, clock } = command else {
         return stop_malformed(report, 0);
     };
-    if !can_open(sizes, clock) {
-        return stop_unopened(report);
+    let called = open(rows, versions, buckets, lists, sizes, clock);
+    let answer = called.answer;
+    let why = number_of(answer);
+    if why != 0 {
+        return stop_unopened(report, why);
     }
     let line = open_line(report, 0, 0);
     let Wrote::Next(end) = line else {
@@ -199,10 +240,42 @@ fn replay_open(
         at: next,
         wrote: end,
     };
-    replay_steps(log, report, rows, versions, buckets, lists, found, opened)
+    let mut found = [0u64; MOST_ROWS];
+    replay_steps(
+        log,
+        report,
+        rows,
+        versions,
+        buckets,
+        lists,
+        &mut found,
+        opened,
+    )
 }
 
-// Replays a log into a report, over tables of the greatest size: status × 4,294,967,296 + bytes written.
+// Replays a log into a report, over lent tables, whatever stands in them: status × 4,294,967,296 + bytes written.
+#[no_mangle]
+pub extern "C" fn toruxeng_replay_lent(
+    log: &[u8],
+    report: &mut [u8],
+    rows: &mut [u64],
+    versions: &mut [u64],
+    buckets: &mut [u64],
+    lists: &mut [u64],
+) -> u64
+    ensures { λ r. ⌜ record {
+      answer = r;
+      report = now (report .exit);
+      tables = record { rows = now (rows .exit); versions = now (versions .exit); buckets = now (buckets .exit); lists = now (lists .exit) };
+    }
+        ≡ lentOf (now (log .entry)) (now (report .entry))
+        (record { rows = now (rows .entry); versions = now (versions .entry); buckets = now (buckets .entry); lists = now (lists .entry) }) ⌝ }
+{
+    let r = replay_open(log, report, rows, versions, buckets, lists);
+    r.status * HALF + r.wrote as u64
+}
+
+// The same over tables of its own, of the greatest size.
 #[no_mangle]
 pub extern "C" fn toruxeng_replay(log: &[u8], report: &mut [u8]) -> u64
     ensures { λ r. ⌜ (r ≡ packed (replay (now (log .entry)) (length (now (report .entry)))))
@@ -212,15 +285,12 @@ pub extern "C" fn toruxeng_replay(log: &[u8], report: &mut [u8]) -> u64
     let mut versions = [0u64; VERSION_WORDS * (MOST_VERSIONS + 1)];
     let mut buckets = [0u64; BUCKET_WORDS * MOST_BUCKETS];
     let mut lists = [0u64; SLOT_WORDS * MOST_LIVE];
-    let mut found = [0u64; MOST_ROWS];
-    let r = replay_open(
+    toruxeng_replay_lent(
         log,
         report,
         &mut rows,
         &mut versions,
         &mut buckets,
         &mut lists,
-        &mut found,
-    );
-    r.status * HALF + r.wrote as u64
+    )
 }

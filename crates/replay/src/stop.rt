@@ -1,7 +1,6 @@
 // How a replay stops: with a last line, or with 10 where that line did not fit.
 use base_protocol::MALFORMED;
 use base_protocol::NO_ROOM;
-use base_protocol::WRONG_SIZE;
 use report::Wrote;
 use report::bad_line;
 use report::open_line;
@@ -38,10 +37,10 @@ pub fn stop_malformed(report: &mut [u8], at: usize) -> Stopped
     stop_after(line, MALFORMED, at)
 }
 
-// `open 1`, and stop.
-pub fn stop_unopened(report: &mut [u8]) -> Stopped
-    ensures { λ r. ⌜ record { stopped = r; report = now (report .exit) } ≡ unopenedAt (now (report .entry)) ⌝ }
+// The line of a refused open, and stop.
+pub fn stop_unopened(report: &mut [u8], why: u64) -> Stopped
+    ensures { λ r. ⌜ record { stopped = r; report = now (report .exit) } ≡ unopenedAt (now (report .entry)) why ⌝ }
 {
-    let line = open_line(report, 0, WRONG_SIZE);
-    stop_after(line, WRONG_SIZE, 0)
+    let line = open_line(report, 0, why);
+    stop_after(line, why, 0)
 }

@@ -16,7 +16,9 @@ use Rattle.step.specs.Words.{Words, othersIn}
 use Rattle.log.specs.declared.Command.the-variants.{Ask}
 use Rattle.report.specs.declared.Wrote.the-variants.{Next, Full}
 use Rattle.replay.specs.Replay.{Leaves, openedFrom}
-use Rattle.replay.proofs.Going.{Going, ends, stops-malformed, further, slot-kept, stops-full, goes}
+use Rattle.replay.specs.Lent.{freshIn, wordsFrom}
+use Rattle.replay.proofs.Lining.{roomIn}
+use Rattle.replay.proofs.Going.{Going, ends, ends-words, stops-malformed, stops-words, further, slot-kept, stops-full, full-words, goes}
 use Rattle.replay.proofs.Zeroes.{wordsOf, found-room, starts}
 use Rattle.replay.proofs.Wholes.{wholes}
 use Rattle.replay.proofs.Turning.{Turned, Found, behind, met, below, placed-for, keeping, placing-moved, placing}
@@ -36,7 +38,10 @@ Inv-loop log report₀ rows₀ versions₀ buckets₀ lists₀ found₀ snapshot
     × (length snapshots ≡ 8)
     × (length rests ≡ 8)
     × (others ≡ othersIn (wholes (others .numbers) snapshots rests))
-    × Going log report₀ (openedFrom log report₀ (record { sizes = extent₀ .sizes; clock = extent₀ .clock; at = at₀; wrote = wrote₀ })) at wrote report
+    × Going log report₀ (openedFrom log report₀ (record { sizes = extent₀ .sizes; clock = extent₀ .clock; at = at₀; wrote = wrote₀ }))
+    (wordsFrom (roomIn report₀) log at₀ wrote₀
+    (freshIn (record { rows = rows₀; versions = versions₀; buckets = buckets₀; lists = lists₀; found = found₀ }) (extent₀ .sizes) (extent₀ .clock)))
+    at wrote report
     (wordsOf rows versions buckets lists found (wholes (others .numbers) snapshots rests) (extent .sizes) (extent .clock) (extent .used))
 
 abbrev μ-loop : tie.MeasureT-loop
@@ -72,8 +77,9 @@ loop-holds c =
       refl,
       refl,
       refl,
-      starts (a .log .now) (a .report .now) (a .rows .now) (a .versions .now) (a .buckets .now) (a .lists .now) (a .found .now) (a .opened)
-          (s .pre .0) (s .pre .1) (omega (arith, s .good)) (s .pre .2),
+      starts (a .log .now) (a .report .now)
+          (record { rows = a .rows .now; versions = a .versions .now; buckets = a .buckets .now; lists = a .lists .now; found = a .found .now }) (a .opened)
+          (s .pre .0) (omega (arith, s .good)) (s .pre .1),
     )
 
 -- ---- a turn: the words that it begins with
@@ -88,7 +94,7 @@ module _ (c : tie.In-loop Inv-loop μ-loop) where
       (l .extent .clock) (l .extent .used)
 
   room : mostRows ≤ length (words .tables .found)
-  room = found-room (words .tables .found) (begun .pre .0 .4) (c .before .loop .inv .5)
+  room = found-room (begun .pre .0) (words .tables .found) (c .before .loop .inv .5)
 
 decode-at-requires : tie.Need-decode-at-requires Inv-loop μ-loop
 decode-at-requires c κs = tt
@@ -129,8 +135,10 @@ returns c =
     let stop = unasked c in
     let other = stop .before .before in
     let read = other .before in
-    stops-malformed (loop-unasked c .loop .inv .10) (read .before .loop-test .taken) (read .decode-at .ensures) (other .match .keys2) _
-    (stop .stop-malformed .ensures)
+    let g = loop-unasked c .loop .inv .10 in (
+      stops-malformed g (read .before .loop-test .taken) (read .decode-at .ensures) (other .match .keys2) _ (stop .stop-malformed .ensures),
+      ap (λ (w : Words). w .tables) (stops-words g (read .before .loop-test .taken) (read .decode-at .ensures) (other .match .keys2)),
+    )
 
 wanted-requires : tie.Need-wanted-requires Inv-loop μ-loop
 wanted-requires c κs = tt
@@ -403,15 +411,30 @@ module _ (c : tie.After-answer-line Inv-loop μ-loop) where
       stops-full (from asker .loop .inv .10) (turn asker .loop-test .taken) (read asker .decode-at .ensures) (asks asker) (room (turn asker))
       (turned joined .moved) (c .answer-line .ensures) q
 
+  -- the words that the function is to leave
+  abbrev final : Words
+  final =
+      let a = begun (turn asker) .args in
+      wordsFrom (roomIn (a .report .now)) (a .log .now) (a .opened .at) (a .opened .wrote)
+      (freshIn (record { rows = a .rows .now; versions = a .versions .now; buckets = a .buckets .now; lists = a .lists .now; found = a .found .now })
+      (a .opened .sizes) (a .opened .clock))
+
+  full-left : c .answer-line .result ≡ Full → tables joined ≡ final .tables
+  full-left q =
+      ap (λ (w : Words). w .tables)
+      (behind (turned joined)
+      ∙ full-words (from asker .loop .inv .10) (turn asker .loop-test .taken) (read asker .decode-at .ensures) (asks asker) (room (turn asker))
+      (turned joined .moved) (c .answer-line .ensures) q (placed-for (found asker)))
+
   -- it was written: the next turn begins with the words that the step leaves
   going : (end : ℕ) → c .answer-line .result ≡ Next end → let j = joined .if1 in
-      Going (begun (turn asker) .args .log .now) (begun (turn asker) .args .report .now) whole (read asker .decode-at .result .next) end
+      Going (begun (turn asker) .args .log .now) (begun (turn asker) .args .report .now) whole final (read asker .decode-at .result .next) end
       (c .answer-line .last .0)
       (wordsOf (j .rows) (j .versions) (j .buckets) (j .lists) (j .found) (wholes (j .others .numbers) (j .snapshots) (j .rests)) (j .extent .sizes)
       (j .extent .clock) (j .extent .used))
   going end q =
       let a = begun (turn asker) .args in
-      subst (λ (w : Words). Going (a .log .now) (a .report .now) whole (read asker .decode-at .result .next) end (c .answer-line .last .0) w)
+      subst (λ (w : Words). Going (a .log .now) (a .report .now) whole final (read asker .decode-at .result .next) end (c .answer-line .last .0) w)
       (sym (behind (turned joined)))
       (goes (from asker .loop .inv .10) (turn asker .loop-test .taken) (read asker .decode-at .ensures) (asks asker) (room (turn asker))
       (turned joined .moved) (c .answer-line .ensures) (placed-for (found asker)) end q)
@@ -445,7 +468,7 @@ same-length-12 : tie.Need-same-length-12 Inv-loop μ-loop
 same-length-12 c = tables-kept (joined (unwritten c)) .4
 
 returns-2 : tie.Need-returns-2 Inv-loop μ-loop
-returns-2 c = full (unwritten c) (c .enum-told .given .1)
+returns-2 c = (full (unwritten c) (c .enum-told .given .1), full-left (unwritten c) (c .enum-told .given .1))
 
 -- ---- on to the next turn
 abbrev written : tie.After-known-told2 Inv-loop μ-loop → tie.After-answer-line Inv-loop μ-loop
@@ -491,7 +514,9 @@ same-length-18 : tie.Need-same-length-18 Inv-loop μ-loop
 same-length-18 c = c .before .loop .inv .5
 
 returns-3 : tie.Need-returns-3 Inv-loop μ-loop
-returns-3 c = ends (c .before .loop .inv .10) (c .loop-test .left)
+returns-3 c =
+    let g = c .before .loop .inv .10 in
+    (ends g (c .loop-test .left), ap (λ (w : Words). w .tables) (ends-words g (c .loop-test .left)))
 
 pub replay-steps-spec : {M : Type 1} → statement M
 replay-steps-spec =

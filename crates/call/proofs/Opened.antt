@@ -34,15 +34,15 @@ pub cleared-long : (n : ℕ) (xs : List ℕ) → n ≤ length (cleared n xs)
 unfolding cleared
 cleared-long n xs = omega (arith, length-append (replicate n 0) (drop n xs), length-replicate {A = ℕ} n 0)
 
-module _ (rows versions buckets lists : List ℕ) (z : Sizes) (clock : ℕ) (l : clock ≤ lastNumber) where
-  -- the words of a fresh machine over cleared tables
-  abbrev pub freshWords : Words
-  freshWords = wordsOf (cleared (rowWords * z .rows) rows) (cleared (versionWords * suc (z .versions)) versions)
-      (cleared (bucketWords * z .buckets) buckets) lists [] (freshOf z clock)
+module _ (rows versions buckets lists : List ℕ) (z : Sizes) (clock : ℕ) where
+  -- the words of a fresh machine over cleared tables, and a list lent for the rows of a read
+  abbrev pub freshWords : List ℕ → Words
+  freshWords found = wordsOf (cleared (rowWords * z .rows) rows) (cleared (versionWords * suc (z .versions)) versions)
+      (cleared (bucketWords * z .buckets) buckets) lists found (freshOf z clock)
 
   done-by : (a b : Bool)
       → cond (not a) (refusedOpen 1 rows versions buckets lists)
-      (cond (not b) (refusedOpen 16 rows versions buckets lists) (record { answer = tell.Done; words = freshWords })) .answer ≡ tell.Done
+      (cond (not b) (refusedOpen 16 rows versions buckets lists) (record { answer = tell.Done; words = freshWords [] })) .answer ≡ tell.Done
       → (a ≡ true) × (b ≡ true)
   done-by true true e = (refl, refl)
   done-by true false e = let q : _≡_ {A = ℕ} 0 1 = cc in absurd (omega arith)
@@ -53,27 +53,28 @@ module _ (rows versions buckets lists : List ℕ) (z : Sizes) (clock : ℕ) (l :
     unfolding openOf
     tests = done-by (canOpen (sizesView z) clock) (tablesLent rows versions buckets lists z) o
 
-    pub open-words : openOf rows versions buckets lists z clock .words ≡ freshWords
+    pub open-words : openOf rows versions buckets lists z clock .words ≡ freshWords []
     unfolding openOf
     open-words = rw (tests .0, tests .1)
 
-    opened : Opened freshWords
-    opened = record {
-      opens = tests .0;
-      clock-in = l;
-      unused = refl;
-      free = refl;
-      rows-zero = cleared-zero (rowWords * z .rows) rows;
-      versions-zero = cleared-zero (versionWords * suc (z .versions)) versions;
-      buckets-zero = cleared-zero (bucketWords * z .buckets) buckets;
-      rows-long = cleared-long (rowWords * z .rows) rows;
-      versions-long = cleared-long (versionWords * suc (z .versions)) versions;
-      buckets-long = cleared-long (bucketWords * z .buckets) buckets;
-      lists-long = lent-roomy rows versions buckets lists z (tests .1) .lists-there;
-    }
+    module _ (l : clock ≤ lastNumber) where
+      pub opened : (found : List ℕ) → Opened (freshWords found)
+      opened found = record {
+        opens = tests .0;
+        clock-in = l;
+        unused = refl;
+        free = refl;
+        rows-zero = cleared-zero (rowWords * z .rows) rows;
+        versions-zero = cleared-zero (versionWords * suc (z .versions)) versions;
+        buckets-zero = cleared-zero (bucketWords * z .buckets) buckets;
+        rows-long = cleared-long (rowWords * z .rows) rows;
+        versions-long = cleared-long (versionWords * suc (z .versions)) versions;
+        buckets-long = cleared-long (bucketWords * z .buckets) buckets;
+        lists-long = lent-roomy rows versions buckets lists z (tests .1) .lists-there;
+      }
 
-    pub open-stands : Stands (openOf rows versions buckets lists z clock .words)
-    open-stands = rw open-words (opened-stands freshWords opened)
+      pub open-stands : Stands (openOf rows versions buckets lists z clock .words)
+      open-stands = rw open-words (opened-stands (freshWords []) (opened []))
 
-    pub open-view : view (openOf rows versions buckets lists z clock .words) ≡ fresh (sizesView z) clock
-    open-view = rw open-words (opened-view freshWords opened)
+      pub open-view : view (openOf rows versions buckets lists z clock .words) ≡ fresh (sizesView z) clock
+      open-view = rw open-words (opened-view (freshWords []) (opened []))
