@@ -23,7 +23,8 @@ use Rattle.table_buckets.specs.Buckets.{bucketsOf, laid, canonicalOf}
 use Rattle.table_buckets.specs.Upstream.{inRange}
 use Rattle.table_buckets.specs.declared.Canonical.the-variants.{Sorted}
 use Rattle.table_buckets.proofs.Checks.{fine-when}
-use Rattle.table_buckets.proofs.Sorted.{Below, Ascending, member, buckets-ascending, buckets-member, ascending-unique, buckets-no-longer}
+use Rattle.table_buckets.specs.Steps.{Below, Ascending}
+use Rattle.table_buckets.proofs.Sorted.{member, buckets-ascending, buckets-member, ascending-unique, buckets-no-longer}
 use Rattle.table.specs.Lists.{writes, writeOf, writesOf}
 use Rattle.table.specs.declared.lists.Write.{Write}
 use Rattle.table_scans.proofs.Laws.{fields-length}
