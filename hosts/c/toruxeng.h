@@ -14,6 +14,17 @@
 #define TORUXENG_VERSION_MINOR 4
 #define TORUXENG_VERSION_PATCH 5
 
+/* What a store can be opened with at most; room for more rows than it can have is room for all of them. */
+#define TORUXENG_MOST_ROWS 1024
+#define TORUXENG_MOST_VERSIONS 4096
+#define TORUXENG_MOST_BUCKETS 4096
+
+/* How many transactions can be live, and what each can have. */
+#define TORUXENG_MOST_LIVE 8
+#define TORUXENG_MOST_INDEX_READS 16
+#define TORUXENG_MOST_READ_RECORDS 128
+#define TORUXENG_MOST_PENDING_WRITES 16
+
 #ifdef __cplusplus
 extern "C" {
 #endif
@@ -64,7 +75,7 @@ enum toruxeng_kind {
  *     a pointer not valid for its length    undefined          undefined: this cannot be tested
  *
  * The call keeps nothing, allocates nothing and never unwinds, so any number of threads may call at once, each with a
- * report of its own. It takes about 173,000 bytes of the calling thread's stack, whatever the log: 180 KiB is enough for
+ * report of its own. It takes about 423,000 bytes of the calling thread's stack, whatever the log: 432 KiB is enough for
  * the call itself, on x86-64 and on aarch64 (docs/HOSTS.md has the figures).
  */
 uint64_t toruxeng_replay(const uint8_t *log, size_t log_length, uint8_t *report, size_t report_length);

@@ -4,6 +4,7 @@ use bench::sqlite::Sqlite;
 use bench::table::{compare, left_by, Compared};
 use bench::transactions::{Operation, Transaction, Transactions};
 use generator::{benchmark, Random};
+use toruxeng::limits::ROWS;
 use toruxeng::Log;
 use twin::Content;
 
@@ -22,8 +23,8 @@ fn transactions(log: &[u8]) -> Vec<Transaction> {
 fn overtaken() -> Log {
     let mut log = Log::open(4, 8, 4, 1);
     log.begin().put(1, 0, 6, 10).prepare(1).install(1).end(1).publish(1);
-    log.begin().put(3, 0, 7, u64::MAX).begin().capture(4, 6).collect(4).rows(4, 256).erase(4, 1).put(4, 2, 6, 5);
-    log.capture(4, 6).collect(4).rows(4, 256);
+    log.begin().put(3, 0, 7, u64::MAX).begin().capture(4, 6).collect(4).rows(4, ROWS).erase(4, 1).put(4, 2, 6, 5);
+    log.capture(4, 6).collect(4).rows(4, ROWS);
     log.prepare(4).install(4).end(4).publish(4).prepare(3).install(3).end(3).publish(3);
     log
 }

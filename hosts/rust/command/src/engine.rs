@@ -1,9 +1,9 @@
 //! The one place that calls the engine.
 
-use toruxeng::{replay, Line, Report, Stopped};
+use toruxeng::{replay, Line, Report, Stopped, LONGEST_LINE};
 
-/// The longest line, 330 bytes, answers a record of 16 bytes; no other line is longer for each byte of its record.
-const ROOM_FOR_A_BYTE: usize = 21;
+/// The longest line answers a record of 16 bytes; no other line is longer for each byte of its record.
+const ROOM_FOR_A_BYTE: usize = LONGEST_LINE.div_ceil(16);
 
 /// The lines of a report, and why the replay stopped where it did not reach the log's end.
 pub struct Replayed<'a> {

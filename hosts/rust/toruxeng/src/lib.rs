@@ -10,6 +10,7 @@
 
 mod error;
 mod kept;
+pub mod limits;
 mod log;
 mod raw;
 mod replay;
@@ -18,7 +19,7 @@ mod step;
 mod store;
 
 pub use error::Error;
-pub use log::Log;
+pub use log::{Log, LONGEST_LINE};
 pub use raw::{replay_raw, RawError};
 pub use replay::{replay, replay_or_abort, Status, Stopped};
 pub use report::{Advice, Kind, Line, Lines, Refusal, Report, RowNumbers, Values, Verdict};

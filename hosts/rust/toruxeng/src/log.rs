@@ -1,17 +1,22 @@
 //! The bytes of a log, step by step.
 
+use crate::limits::{PENDING_WRITES, READ_RECORDS, ROWS};
 use crate::report::Kind;
 use crate::step::Step;
 
-/// A rows line has at most 80 rows, 64 by read records and 16 by pending writes.
-const LONGEST_ROWS_LINE: usize = "rows 0 80".len() + 80 * " 255".len() + "\n".len();
+/// A read finds at most a row for each read record and for each pending write; the last rows of the largest store have four digits.
+const MOST_FOUND: usize = READ_RECORDS + PENDING_WRITES;
+const FOUR_DIGITS: usize = ROWS as usize - 1000;
+
+/// No line of a report is longer than one with the last rows of the largest store, and only a rows step answers such a one.
+pub const LONGEST_LINE: usize = "rows 0 144\n".len() + (MOST_FOUND - FOUR_DIGITS) * " 999".len() + FOUR_DIGITS * " 1023".len();
 /// The line of verdict 1 has the most and the largest values of the others.
 const LONGEST_OTHER_LINE: usize = "validate 0 1 4095 18446744073709551615 18446744073709551615\n".len();
 
 /// No line that answers a step of this kind is longer.
 pub(crate) fn longest_line(kind: Kind) -> usize {
     if kind == Kind::Rows {
-        LONGEST_ROWS_LINE
+        LONGEST_LINE
     } else {
         LONGEST_OTHER_LINE
     }

@@ -2,6 +2,8 @@
 
 use std::fmt;
 
+use crate::limits::ROWS;
+
 /// The lines of a report, each whole.
 #[derive(Clone, Copy, Debug, PartialEq, Eq)]
 pub struct Report<'a> {
@@ -208,7 +210,7 @@ impl<'a> RowNumbers<'a> {
         let (count, rest) = text.split_once(' ').unwrap_or((text, ""));
         let rows = RowNumbers { rest, left: usize::try_from(decimal(count)?).ok()? };
         let listed = if rest.is_empty() { 0 } else { rest.split(' ').count() };
-        let in_range = |row| decimal(row).is_some_and(|row| row < 256);
+        let in_range = |row| decimal(row).is_some_and(|row| row < ROWS.into());
         let whole = listed == rows.left && (rest.is_empty() || rest.split(' ').all(in_range));
         (whole && !text.ends_with(' ')).then_some(rows)
     }
@@ -356,7 +358,7 @@ impl Refusal {
             Refusal::Stale => "a bucket that was to be read changed since the transaction began; the transaction is marked",
             Refusal::IndexReadsFull => "16 buckets were read already",
             Refusal::RoomTooShort => "more rows match than the room given",
-            Refusal::ReadRecordsFull => "more than 64 versions would be read",
+            Refusal::ReadRecordsFull => "more than 128 versions would be read",
             Refusal::PendingWritesFull => "16 writes are pending",
             Refusal::VersionsUsedUp => "no versions are left for its rows",
             Refusal::Conflict => "a read no longer stands, or the transaction is marked",

@@ -9,11 +9,9 @@ use std::sync::{Mutex, MutexGuard, PoisonError};
 
 use crate::error::Error;
 use crate::kept::Kept;
+use crate::limits::ROWS;
 use crate::report::{Refusal, Values, Verdict};
 use crate::step::Step;
-
-/// More rows than a store can have.
-const ROOM_FOR_ALL: u32 = 256;
 
 /// The kept log and what is asked of it. Any thread may use it at any time; each step waits for the one before.
 ///
@@ -82,7 +80,7 @@ impl Store {
 }
 
 fn read_steps(number: u64, key: u64) -> [Step; 3] {
-    [Step::capture(number, key), Step::collect(number), Step::rows(number, ROOM_FOR_ALL)]
+    [Step::capture(number, key), Step::collect(number), Step::rows(number, ROWS)]
 }
 
 fn rows_of(values: &[Values]) -> Vec<u32> {

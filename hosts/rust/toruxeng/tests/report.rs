@@ -1,5 +1,6 @@
 //! Lines as values, of reports that were kept as bytes.
 
+use toruxeng::limits::{INDEX_READS, LIVE, PENDING_WRITES, READ_RECORDS, ROWS};
 use toruxeng::{Advice, Kind, Line, Log, Refusal, Report, Values, Verdict};
 
 const PRINTED: &str = include_str!("../../../../crates/run_log/stdout");
@@ -30,8 +31,8 @@ fn each_kind_of_line_has_its_values() {
 
 #[test]
 fn rows_are_counted_and_ascending() {
-    let Ok(Values::Rows(rows)) = only_line("rows 0 3 0 7 255\n").answer else { panic!("rows have their rows") };
-    assert_eq!((rows.len(), rows.collect::<Vec<_>>()), (3, vec![0, 7, 255]));
+    let Ok(Values::Rows(rows)) = only_line("rows 0 3 0 7 1023\n").answer else { panic!("rows have their rows") };
+    assert_eq!((rows.len(), rows.collect::<Vec<_>>()), (3, vec![0, 7, 1023]));
     let Ok(Values::Rows(mut none)) = only_line("rows 0 0\n").answer else { panic!("rows have their rows") };
     assert_eq!((none.len(), none.next()), (0, None));
 }
@@ -71,7 +72,7 @@ fn what_is_no_line_is_refused() {
         "rows 0 1\n",
         "rows 0 1 \n",
         "rows 0 0 \n",
-        "rows 0 1 256\n",
+        "rows 0 1 1024\n",
         "rows 0 2 1\n",
         "validate 0\n",
         "validate 0 1 2 2\n",
@@ -99,8 +100,21 @@ fn refusals_have_their_numbers_and_advice() {
 }
 
 #[test]
+fn refusals_name_their_limits() {
+    let limits = [
+        (Refusal::IndexReadsFull, INDEX_READS),
+        (Refusal::ReadRecordsFull, READ_RECORDS),
+        (Refusal::PendingWritesFull, PENDING_WRITES),
+    ];
+    for (refusal, limit) in limits {
+        assert!(refusal.to_string().contains(&format!(" {limit} ")), "{refusal}");
+    }
+    assert_eq!(LIVE, 8, "in words: {}", Refusal::TooManyLive);
+}
+
+#[test]
 fn a_log_tells_the_room_of_its_report() {
     let mut log = Log::open(1, 1, 1, 1);
     assert_eq!(log.report_room(), 60);
-    assert_eq!(log.begin().rows(1, 256).report_room(), 60 + 60 + 330);
+    assert_eq!(log.begin().rows(1, ROWS).report_room(), 60 + 60 + 611);
 }

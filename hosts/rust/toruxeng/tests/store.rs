@@ -2,6 +2,7 @@
 
 use std::thread;
 
+use toruxeng::limits::{PENDING_WRITES, READ_RECORDS, ROWS, VERSIONS};
 use toruxeng::{replay, Error, Kind, Refusal, Status, Stopped, Store, Transaction, Verdict};
 
 const TAKEN: Error = Error::Refused(Refusal::Taken);
@@ -11,7 +12,7 @@ const TOO_MANY: Error = Error::Refused(Refusal::TooManyLive);
 
 /// Rows 0 and 1 hold the keys 10 and 11; no two keys below 64 share a bucket.
 fn loaded() -> Store {
-    let store = Store::open(128, 1024, 64, 1).expect("sizes in range");
+    let store = Store::open(ROWS, VERSIONS, 64, 1).expect("sizes in range");
     let load = store.begin().expect("the first");
     load.put(0, 10, 0).expect("row 0");
     load.put(1, 11, 0).expect("row 1");
@@ -24,6 +25,15 @@ fn revocation(store: &Store) -> Transaction<'_> {
     let update = store.begin().expect("a place is free");
     update.erase(1).expect("row 1");
     update
+}
+
+/// A write of each of the first rows, as many to a transaction as it can have, all published.
+fn write_in_turn(store: &Store, rows: u32, write: impl Fn(&Transaction, u32) -> Result<(), Error>) {
+    for first in (0..rows).step_by(PENDING_WRITES) {
+        let update = store.begin().expect("a place is free");
+        (first..rows.min(first + PENDING_WRITES as u32)).for_each(|row| write(&update, row).expect("16 writes"));
+        update.publish().expect("nobody else writes, and versions are left");
+    }
 }
 
 /// How many more transactions can begin, all at once.
@@ -125,7 +135,7 @@ fn what_is_refused_is_not_kept_but_for_a_stale_read() {
     let read = tap.read(10).expect("nobody holds it");
     revocation(&store).publish().expect("the tap holds nothing");
     let kept = store.bytes();
-    assert_eq!(tap.put(128, 1, 1), Err(Error::Refused(Refusal::RowOutOfRange)));
+    assert_eq!(tap.put(ROWS, 1, 1), Err(Error::Refused(Refusal::RowOutOfRange)));
     assert_eq!(read.validate(), Ok(Verdict::Clear));
     assert_eq!(store.bytes(), kept);
 
@@ -152,7 +162,7 @@ fn a_marked_transaction_takes_no_more_work_and_is_aborted() {
     let marked = store.bytes();
     assert_eq!(tap.put(2, 12, 1), Err(STALE));
     assert_eq!(tap.erase(2), Err(STALE));
-    assert_eq!(tap.put(128, 12, 1), Err(STALE), "8 comes before 6");
+    assert_eq!(tap.put(ROWS, 12, 1), Err(STALE), "8 comes before 6");
     assert_eq!(store.bytes(), marked, "nothing of them is kept");
 
     let other = store.begin().expect("a place is free");
@@ -166,12 +176,8 @@ fn a_marked_transaction_takes_no_more_work_and_is_aborted() {
 
 #[test]
 fn erases_of_empty_rows_leave_every_version_to_others() {
-    let store = Store::open(256, 1, 64, 1).expect("sizes in range");
-    for first in (0..256).step_by(16) {
-        let update = store.begin().expect("a place is free");
-        (first..first + 16).for_each(|row| update.erase(row).expect("16 writes"));
-        update.publish().expect("no version is needed");
-    }
+    let store = Store::open(ROWS, 1, 64, 1).expect("sizes in range");
+    write_in_turn(&store, ROWS, |update, row| update.erase(row));
     let write = |row: u32| {
         let update = store.begin()?;
         update.put(row, 10, 0)?;
@@ -188,11 +194,7 @@ fn erases_of_empty_rows_leave_every_version_to_others() {
 #[test]
 fn a_read_that_is_refused_half_way_leaves_its_transaction_usable() {
     let store = loaded();
-    for first in (0..80).step_by(16) {
-        let load = store.begin().expect("a place is free");
-        (first..first + 16).for_each(|row| load.put(row, 20, 0).expect("16 writes"));
-        load.publish().expect("nobody else");
-    }
+    write_in_turn(&store, READ_RECORDS as u32 + 1, |update, row| update.put(row, 20, 0));
     let tap = store.begin().expect("a place is free");
     let kept = store.bytes();
     assert_eq!(tap.read(20).err(), Some(Error::Refused(Refusal::ReadRecordsFull)));

@@ -1,6 +1,6 @@
-//! One version in the wrapper, the header and CHANGELOG.md.
+//! One version in the wrapper, the header and CHANGELOG.md, and the same limits.
 
-use toruxeng::VERSION;
+use toruxeng::{limits, VERSION};
 
 const HEADER: &str = include_str!("../../../c/toruxeng.h");
 const CHANGES: &str = include_str!("../../../../CHANGELOG.md");
@@ -21,4 +21,18 @@ fn the_header_has_the_version() {
 fn the_newest_changes_are_of_the_version() {
     let newest = CHANGES.lines().find_map(|line| line.strip_prefix("## "));
     assert_eq!(newest, Some(VERSION));
+}
+
+#[test]
+fn the_header_has_the_limits() {
+    let sizes = [("ROWS", limits::ROWS), ("VERSIONS", limits::VERSIONS), ("BUCKETS", limits::BUCKETS)];
+    let of_a_transaction = [
+        ("LIVE", limits::LIVE),
+        ("INDEX_READS", limits::INDEX_READS),
+        ("READ_RECORDS", limits::READ_RECORDS),
+        ("PENDING_WRITES", limits::PENDING_WRITES),
+    ];
+    for (name, most) in sizes.map(|(name, most)| (name, most as usize)).into_iter().chain(of_a_transaction) {
+        assert_eq!(defined(&format!("TORUXENG_MOST_{name}")), Some(most.to_string().as_str()), "{name}");
+    }
 }
