@@ -5,7 +5,7 @@
  * of its log and its room; then the logs. An answer for each call: the function's answer, a sum of faults, the bytes of stack used (0 where
  * not measured); then the report.
  *
- * Each call runs in a thread with 192 KiB of stack. Log and report end at a page that cannot be touched and have marked bytes before them.
+ * Each call runs in a thread with 448 KiB of stack. Log and report end at a page that cannot be touched and have marked bytes before them.
  */
 #define _GNU_SOURCE
 #include <pthread.h>
@@ -18,7 +18,7 @@
 
 #include "toruxeng.h"
 
-enum { CALLS = 8, STACK = 192 * 1024, MARKED = 64, MARK = 0xA5 };
+enum { CALLS = 8, STACK = 448 * 1024, MARKED = 64, MARK = 0xA5 };
 enum { LARGEST = 256 << 20 };
 
 enum fault { AROUND_REPORT = 1, AFTER_LAST_LINE = 2, LOG_CHANGED = 4 };

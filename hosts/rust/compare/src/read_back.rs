@@ -3,6 +3,7 @@
 use std::collections::BTreeSet;
 
 use generator::Random;
+use twin::limits::ROWS;
 use twin::{Content, Step};
 
 use crate::in_turn::Apart;
@@ -13,7 +14,6 @@ const KEYS: usize = 4;
 /// The steps that read one, and which of them answers the rows.
 const READING: usize = 5;
 const ANSWER: usize = 3;
-const ROOM: u32 = 256;
 
 /// Some of the keys that the steps read or put.
 pub fn some_keys(steps: &[Step], random: &mut Random) -> Vec<u64> {
@@ -37,7 +37,7 @@ pub fn reading(keys: &[u64], clock: u64) -> Vec<Step> {
 }
 
 fn read(number: u64, key: u64) -> [Step; READING] {
-    let rows = Step::Rows { number, room: ROOM };
+    let rows = Step::Rows { number, room: ROWS };
     [Step::Begin, Step::Capture { number, key }, Step::Collect { number }, rows, Step::Abort { number }]
 }
 

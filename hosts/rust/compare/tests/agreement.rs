@@ -3,6 +3,7 @@
 use compare::{compare, report_length, twin_replay};
 use engine::{Driver, STACK};
 use generator::{benchmark, log, longest_chain, room, Family, Random};
+use twin::limits::VERSIONS;
 
 const SHORT_LOGS: u64 = 25_000;
 const SHORT: u64 = 60;
@@ -81,7 +82,7 @@ fn on_the_longest_chain_with_a_small_stack() {
     assert_agree(&mut driver, &log, room);
     let report = String::from_utf8(twin_replay(&log, room).1).expect("a report is text");
     let lines = |start: &str| report.lines().filter(|line| line.starts_with(start)).count();
-    assert_eq!((lines("publish 0 "), lines("rows 0 1 0")), (1024, 20));
+    assert_eq!((lines("publish 0 "), lines("rows 0 1 0")), (VERSIONS as usize, 20));
     let used = driver.stack_used(&log, room);
     println!("stack used: {used} bytes");
     assert!(used < STACK);

@@ -5,6 +5,7 @@ use compare::read_back::{reading, same_keys};
 use compare::{log_of, Look, Run, Turn};
 use engine::Driver;
 use generator::Random;
+use twin::limits::{PENDING_WRITES, READ_RECORDS, ROWS};
 use twin::{Content, Step, Store};
 
 /// The numbers that the transactions of these logs begin with, in their order.
@@ -15,7 +16,7 @@ const LATE: u64 = 8;
 const LOADED: Content = Content { key: 1, payload: 10 };
 
 fn open(rows: u32, clock: u64) -> Step {
-    Step::Open { rows, versions: 100, buckets: 8, clock }
+    Step::Open { rows, versions: 200, buckets: 8, clock }
 }
 
 fn put(number: u64, row: u32, key: u64, payload: u64) -> Step {
@@ -23,7 +24,7 @@ fn put(number: u64, row: u32, key: u64, payload: u64) -> Step {
 }
 
 fn read(number: u64, key: u64) -> [Step; 3] {
-    [Step::Capture { number, key }, Step::Collect { number }, Step::Rows { number, room: 256 }]
+    [Step::Capture { number, key }, Step::Collect { number }, Step::Rows { number, room: ROWS }]
 }
 
 fn to_end(number: u64) -> [Step; 3] {
@@ -174,15 +175,15 @@ fn one_that_did_not_publish_is_published_in_turn() {
 
 #[test]
 fn a_key_of_too_many_rows_and_one_behind_the_last_number_are_not_read_back() {
-    let mut many = vec![open(65, 1)];
-    for round in 0..5 {
-        let number = 1 + 2 * u64::from(round);
-        let rows = 13 * round..13 * (round + 1);
+    let rows: Vec<u32> = (0..=READ_RECORDS as u32).collect();
+    let mut many = vec![open(ROWS, 1)];
+    for (round, rows) in (0..).zip(rows.chunks(PENDING_WRITES)) {
+        let number = 1 + 2 * round;
         many.push(Step::Begin);
-        many.extend(rows.map(|row| put(number, row, 1, 0)));
+        many.extend(rows.iter().map(|&row| put(number, row, 1, 0)));
         many.extend(commit(number));
     }
-    let expected = Counts { transactions: 5, refused_keys: 1, ..Counts::default() };
+    let expected = Counts { transactions: 9, refused_keys: 1, ..Counts::default() };
     assert_eq!(checked(&many), Some(expected));
 
     let last = u64::MAX - 2;

@@ -11,7 +11,7 @@ const FAULTS: [(u64, &str); 3] = [
 ];
 
 /// Bytes of stack that a call's thread has; one that needs more ends at its guard page.
-pub const STACK: u64 = 192 * 1024;
+pub const STACK: u64 = 448 * 1024;
 
 /// What one call gave back.
 #[derive(Clone, Debug, PartialEq, Eq)]

@@ -1,11 +1,13 @@
 //! Long logs for the bench and for the longest walk.
 
+use twin::limits::{ROWS, VERSIONS};
 use twin::Step;
 
 use crate::random::Random;
 use crate::writer::Writer;
 
-const VERSIONS: u32 = 1024;
+/// The usual work has no more versions than a store of 0.4 could have, so that its figures stand beside those from then.
+const WORK_VERSIONS: u32 = 1024;
 
 /// One row with every version that the tables allow, read `reads` times by a snapshot that sees the first alone.
 pub fn longest_chain(reads: u64) -> Vec<u8> {
@@ -73,14 +75,14 @@ struct Work {
 type Plan = (u64, Vec<Step>);
 
 fn work(work: Work, random: &mut Random) -> Vec<u8> {
-    let mut writer = Writer::open(work.rows as u32, VERSIONS, work.buckets, 1);
+    let mut writer = Writer::open(work.rows as u32, WORK_VERSIONS, work.buckets, 1);
     let mut done = 1;
     for row in 0..work.rows {
         writer.put_and_publish(row as u32, row % work.keys, 0);
         done += 6;
     }
     // the versions that are left are spread over the whole log
-    let updates = (u64::from(VERSIONS) - work.rows).max(1);
+    let updates = (u64::from(WORK_VERSIONS) - work.rows).max(1);
     let steps_for_an_update = (work.steps / updates).max(1);
     let mut next_update = done;
     let mut plans: Vec<Plan> = Vec::new();
@@ -117,7 +119,7 @@ fn plan(work: &Work, number: u64, publishes: bool, random: &mut Random) -> Vec<S
     let mut steps = Vec::new();
     for read in 0..random.from_to(1, 4) {
         let key = if read == 0 { key } else { random.below(work.keys) };
-        steps.extend([Step::Capture { number, key }, Step::Collect { number }, Step::Rows { number, room: 256 }]);
+        steps.extend([Step::Capture { number, key }, Step::Collect { number }, Step::Rows { number, room: ROWS }]);
     }
     let update = publishes || random.percent(20);
     if update {

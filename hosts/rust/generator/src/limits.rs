@@ -1,15 +1,18 @@
 //! Logs that walk up to a limit of document 01 and past it, or whose reads others overtake.
 
-use std::ops::Range;
-
+use twin::limits::{BUCKETS, PENDING_WRITES, READ_RECORDS, ROWS, VERSIONS};
 use twin::Step;
 
 use crate::random::Random;
 use crate::traffic::Traffic;
-use crate::writer::Writer;
+use crate::writer::{put, Writer};
 
 /// One case, chosen at random, and then some traffic.
 pub fn at_a_limit(steps: u64, random: &mut Random) -> Vec<u8> {
+    // a full table takes thousands of steps
+    if random.percent(1) {
+        return all_versions(random).bytes;
+    }
     let limit = random.one_of::<fn(&mut Random) -> Writer>(&[
         live,
         index_reads,
@@ -36,7 +39,7 @@ pub fn at_a_limit(steps: u64, random: &mut Random) -> Vec<u8> {
 /// Ordinary sizes, so that only the limit in question is met.
 fn ample(random: &mut Random) -> Writer {
     let buckets = random.from_to(24, 64) as u32;
-    Writer::open(256, 1024, buckets, random.from_to(1, 9))
+    Writer::open(ROWS, VERSIONS, buckets, random.from_to(1, 9))
 }
 
 /// Eight live transactions, in whatever phase, and more begins.
@@ -45,7 +48,7 @@ fn live(random: &mut Random) -> Writer {
     for round in 0..random.from_to(7, 12) {
         if let Some(number) = writer.begin() {
             if random.percent(40) {
-                let _ = writer.step(Step::Put { number, row: round as u32, key: round, payload: 0 });
+                let _ = writer.step(put(number, round as u32, round));
             }
             if random.percent(40) {
                 let ended = [Step::Prepare { number }, Step::Install { number }, Step::End { number }];
@@ -66,42 +69,37 @@ fn index_reads(random: &mut Random) -> Writer {
         writer.put_and_publish(0, 16, 0);
     }
     for key in 0..random.from_to(15, 18) {
-        writer.read(number, key, 256);
+        writer.read(number, key, ROWS);
     }
     if random.percent(50) {
         if let Some(other) = writer.begin() {
             let _ = writer.step(Step::Capture { number: other, key: random.from_to(14, 18) });
         }
     }
-    writer.read(number, random.from_to(14, 18), 256);
-    writer.read(number, random.below(16), 256);
+    writer.read(number, random.from_to(14, 18), ROWS);
+    writer.read(number, random.below(16), ROWS);
     let _ = writer.step(Step::Validate { number });
     writer
 }
 
-/// About 64 versions of one to three keys, read with some of the rows pending.
+/// About 128 versions of one to three keys, read with some of the rows pending.
 fn read_records(random: &mut Random) -> Writer {
+    const MOST: u32 = READ_RECORDS as u32;
     let mut writer = ample(random);
     let keys = random.from_to(1, 3);
-    let mut row = 0;
-    while row < random.from_to(60, 70) {
-        let Some(number) = writer.begin() else { break };
-        for _ in 0..16 {
-            let _ = writer.step(Step::Put { number, row: row as u32, key: row % keys, payload: row });
-            row += 1;
-        }
-        writer.commit(number);
-    }
+    let count = random.one_of(&[MOST - 1, MOST, MOST + 1, MOST + PENDING_WRITES as u32]);
+    let first = random.below(u64::from(ROWS - count)) as u32;
+    writer.write_each(first..first + count, |number, row| put(number, row, u64::from(row) % keys));
     let Some(number) = writer.begin() else { return writer };
-    for _ in 0..random.below(17) {
-        let pending = random.below(row) as u32;
+    for _ in 0..random.one_of(&[0, 0, 1, PENDING_WRITES]) {
+        let pending = first + random.below(count.into()) as u32;
         let _ = writer.step(match random.percent(50) {
-            true => Step::Put { number, row: pending, key: random.below(keys), payload: 0 },
+            true => put(number, pending, random.below(keys)),
             false => Step::Erase { number, row: pending },
         });
     }
     for key in (0..keys).chain(0..keys) {
-        writer.read(number, key, random.one_of(&[256, 256, 64, 63]));
+        writer.read(number, key, random.one_of(&[ROWS, ROWS, MOST, MOST - 1]));
     }
     let _ = writer.step(Step::Validate { number });
     writer.commit(number);
@@ -120,7 +118,7 @@ fn pending_writes(random: &mut Random) -> Writer {
             false => Step::Erase { number, row },
         });
     }
-    writer.read(number, random.below(9), 256);
+    writer.read(number, random.below(9), ROWS);
     writer.commit(number);
     writer
 }
@@ -133,7 +131,7 @@ fn versions(random: &mut Random) -> Writer {
         let Some(number) = writer.begin() else { break };
         let first = random.below(12) as u32;
         for row in first..first + random.from_to(1, 3) as u32 {
-            let _ = writer.step(Step::Put { number, row, key: u64::from(row), payload: 0 });
+            let _ = writer.step(put(number, row, u64::from(row)));
         }
         if random.percent(50) {
             writer.commit(number);
@@ -144,14 +142,30 @@ fn versions(random: &mut Random) -> Writer {
     writer
 }
 
+/// Every version of the largest table but for a few, and writers that want those and more at the same time.
+fn all_versions(random: &mut Random) -> Writer {
+    let mut writer = ample(random);
+    let left = random.below(PENDING_WRITES as u64) as u32;
+    writer.use_versions(VERSIONS - left);
+    for _ in 0..4 {
+        let Some(number) = writer.begin() else { break };
+        let first = random.below(u64::from(ROWS - left)) as u32;
+        for row in first..first + random.from_to(1, u64::from(left) + 1) as u32 {
+            let _ = writer.step(put(number, row, u64::from(row)));
+        }
+        let _ = writer.step(Step::Prepare { number });
+    }
+    writer
+}
+
 /// Erases of erased, live and empty rows beside puts, with few versions left, so that it shows which of these rows get one.
 fn erases(random: &mut Random) -> Writer {
     let erased = random.below(4) as u32;
-    let put = erased + random.below(4) as u32;
-    let mut writer = Writer::open(8, put + erased + random.from_to(1, 2) as u32, 64, 1);
+    let live = erased + random.below(4) as u32;
+    let mut writer = Writer::open(8, live + erased + random.from_to(1, 2) as u32, 64, 1);
     let early = writer.begin();
-    in_one(&mut writer, 0..put, |number, row| Step::Put { number, row, key: u64::from(row), payload: 0 });
-    in_one(&mut writer, 0..erased, |number, row| Step::Erase { number, row });
+    writer.write_each(0..live, |number, row| put(number, row, u64::from(row)));
+    writer.write_each(0..erased, |number, row| Step::Erase { number, row });
     for _ in 0..random.from_to(5, 7) {
         let Some(number) = writer.begin() else { break };
         for _ in 0..random.from_to(1, 3) {
@@ -159,24 +173,16 @@ fn erases(random: &mut Random) -> Writer {
         }
         let last = [Step::Prepare { number }, Step::Install { number }, Step::End { number }, Step::Publish { number }];
         let taken = random.one_of(&[4, 4, 3, 1, 1, 1]);
-        last[..taken].iter().for_each(|&step| drop(writer.step(step)));
+        writer.steps(&last[..taken]);
     }
     // a bucket that was stamped is stale for the one that began first
     for number in early.into_iter().chain(writer.begin()) {
         for _ in 0..random.from_to(1, 3) {
-            writer.read(number, random.below(4), 256);
+            writer.read(number, random.below(4), ROWS);
         }
         let _ = writer.step(Step::Validate { number });
     }
     writer
-}
-
-/// A transaction of its own with a write for each row.
-fn in_one(writer: &mut Writer, rows: Range<u32>, write: fn(u64, u32) -> Step) {
-    if let Some(number) = writer.begin() {
-        rows.for_each(|row| drop(writer.step(write(number, row))));
-        writer.commit(number);
-    }
 }
 
 /// One or two writes of one row, whose key is mostly its own.
@@ -184,7 +190,7 @@ fn put_or_erase(writer: &mut Writer, number: u64, random: &mut Random) {
     let row = random.below(6) as u32;
     let key = if random.percent(80) { u64::from(row) } else { random.below(6) };
     for _ in 0..random.from_to(1, 2) {
-        let _ = writer.step(random.one_of(&[Step::Put { number, row, key, payload: 0 }, Step::Erase { number, row }]));
+        let _ = writer.step(random.one_of(&[put(number, row, key), Step::Erase { number, row }]));
     }
 }
 
@@ -197,7 +203,7 @@ fn clock(random: &mut Random) -> Writer {
     for round in 0..random.from_to(4, 16) {
         match writer.begin() {
             Some(number) if random.percent(60) => {
-                let _ = writer.step(Step::Put { number, row: round as u32 % 4, key: round, payload: 0 });
+                let _ = writer.step(put(number, round as u32 % 4, round));
                 writer.commit(number);
             }
             Some(number) if random.percent(50) => {
@@ -209,26 +215,18 @@ fn clock(random: &mut Random) -> Writer {
     writer
 }
 
-/// Rooms round the number of matches, up to all 256 rows.
+/// Rooms round the number of matches, and round that of all rows.
 fn room(random: &mut Random) -> Writer {
     let mut writer = ample(random);
-    let matches = random.one_of(&[0, 1, 2, 3, 15, 16, 17, 48]);
-    let mut row = 0;
-    while row < matches {
-        let Some(number) = writer.begin() else { break };
-        for _ in 0..16.min(matches - row) {
-            let _ = writer.step(Step::Put { number, row: row as u32, key: 5, payload: row });
-            row += 1;
-        }
-        writer.commit(number);
-    }
+    let matches = random.one_of(&[0, 1, 2, 3, 15, 16, 17, 48, READ_RECORDS as u32]);
+    writer.write_each(0..matches, |number, row| put(number, row, 5));
     let Some(number) = writer.begin() else { return writer };
     for _ in 0..3 {
         let _ = writer.step(Step::Capture { number, key: 5 });
         let _ = writer.step(Step::Collect { number });
-        for room in [0, 1, matches.saturating_sub(1), matches, 256, 257, u64::from(u32::MAX)] {
+        for room in [0, 1, matches.saturating_sub(1), matches, ROWS, ROWS + 1, u32::MAX] {
             if random.percent(40) {
-                let _ = writer.step(Step::Rows { number, room: room as u32 });
+                let _ = writer.step(Step::Rows { number, room });
             }
         }
     }
@@ -237,14 +235,14 @@ fn room(random: &mut Random) -> Writer {
 
 /// Rows at the count and past it.
 fn rows_out_of_range(random: &mut Random) -> Writer {
-    let rows = random.one_of(&[1, 2, 255, 256]);
+    let rows = random.one_of(&[1, 2, ROWS - 1, ROWS]);
     let mut writer = Writer::open(rows, 64, 8, 1);
     let Some(number) = writer.begin() else { return writer };
     for row in [0, rows - 1, rows, rows + 1, u32::MAX, rows - 1] {
-        let _ = writer.step(Step::Put { number, row, key: 1, payload: 0 });
+        let _ = writer.step(put(number, row, 1));
         let _ = writer.step(Step::Erase { number, row: row ^ random.below(2) as u32 });
     }
-    writer.read(number, 1, 256);
+    writer.read(number, 1, ROWS);
     writer.commit(number);
     writer
 }
@@ -258,7 +256,7 @@ fn old_snapshot(random: &mut Random) -> Writer {
     }
     let Some(old) = writer.begin() else { return writer };
     if random.percent(50) {
-        writer.read(old, 0, 256);
+        writer.read(old, 0, ROWS);
     }
     for round in 0..random.from_to(1, 24) {
         let row = random.below(3);
@@ -267,7 +265,7 @@ fn old_snapshot(random: &mut Random) -> Writer {
         writer.put_and_publish(row as u32, key, round);
     }
     for key in 0..keys {
-        writer.read(old, key, 256);
+        writer.read(old, key, ROWS);
     }
     let _ = writer.step(Step::Validate { number: old });
     if random.percent(30) {
@@ -282,12 +280,12 @@ fn overtaken(random: &mut Random) -> Writer {
     let mut writer = ample(random);
     let Some(loader) = writer.begin() else { return writer };
     for row in 0..4 {
-        let _ = writer.step(Step::Put { number: loader, row, key: u64::from(row), payload: 0 });
+        let _ = writer.step(put(loader, row, u64::from(row)));
     }
     writer.commit(loader);
     let Some(reader) = writer.begin() else { return writer };
     for _ in 0..random.from_to(1, 4) {
-        writer.read(reader, random.below(4), 256);
+        writer.read(reader, random.below(4), ROWS);
     }
     for _ in 0..random.from_to(1, 3) {
         let row = random.below(4);
@@ -296,7 +294,7 @@ fn overtaken(random: &mut Random) -> Writer {
         let _ = writer.step(Step::Validate { number: reader });
     }
     if random.percent(30) {
-        writer.read(reader, random.below(4), 256);
+        writer.read(reader, random.below(4), ROWS);
     }
     let _ = writer.step(Step::Validate { number: reader });
     writer.commit(reader);
@@ -308,10 +306,10 @@ fn marked(random: &mut Random) -> Writer {
     let mut writer = ample(random);
     let Some(number) = writer.begin() else { return writer };
     for _ in 0..random.one_of(&[0, 1, 15, 16]) {
-        let _ = writer.step(Step::Put { number, row: random.below(4) as u32, key: random.below(9), payload: 0 });
+        let _ = writer.step(put(number, random.below(4) as u32, random.below(9)));
     }
     if random.percent(50) {
-        writer.read(number, 2, 256);
+        writer.read(number, 2, ROWS);
     }
     writer.put_and_publish(0, 1, 0);
     let _ = writer.step(Step::Capture { number, key: 1 });
@@ -322,7 +320,7 @@ fn marked(random: &mut Random) -> Writer {
         }
     }
     for _ in 0..random.from_to(2, 9) {
-        let row = random.one_of(&[0, 255, 256, u32::MAX]);
+        let row = random.one_of(&[0, ROWS - 1, ROWS, u32::MAX]);
         let key = random.from_to(1, 3);
         let _ = writer.step(random.one_of(&[
             Step::Put { number, row, key, payload: 1 },
@@ -350,11 +348,11 @@ fn begun_between(random: &mut Random) -> Writer {
     let _ = writer.step(Step::Put { number, row: 0, key: 0, payload: 1 });
     let last = [Step::Prepare { number }, Step::Install { number }, Step::End { number }, Step::Publish { number }];
     let before = random.below(5) as usize;
-    last[..before].iter().for_each(|&step| drop(writer.step(step)));
+    writer.steps(&last[..before]);
     let reader = writer.begin();
-    last[before..].iter().for_each(|&step| drop(writer.step(step)));
+    writer.steps(&last[before..]);
     if let Some(reader) = reader {
-        writer.read(reader, 0, 256);
+        writer.read(reader, 0, ROWS);
         let _ = writer.step(Step::Validate { number: reader });
         writer.commit(reader);
     }
@@ -363,9 +361,8 @@ fn begun_between(random: &mut Random) -> Writer {
 
 /// An open at the edges of its sizes.
 fn sizes(random: &mut Random) -> Writer {
-    let rows = random.one_of(&[1, 256, 1, 256, 0, 257, u32::MAX]);
-    let versions = random.one_of(&[1, 1024, 1, 1024, 0, 1025, u32::MAX]);
-    let buckets = random.one_of(&[1, 4096, 1, 4096, 0, 4097, u32::MAX]);
+    let [rows, versions, buckets] =
+        [ROWS, VERSIONS, BUCKETS].map(|most| random.one_of(&[1, most, 1, most, 0, most + 1, u32::MAX]));
     let clock = random.one_of(&[1, 1, 1, 2, 0, u64::MAX]);
     Writer::open(rows, versions, buckets, clock)
 }

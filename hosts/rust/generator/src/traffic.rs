@@ -1,5 +1,6 @@
 //! Transactions that come and go at random, most steps in their right phase.
 
+use twin::limits::{BUCKETS, ROWS, VERSIONS};
 use twin::{Phase, Step};
 
 use crate::random::Random;
@@ -14,9 +15,10 @@ pub struct Traffic {
 }
 
 pub fn mixed(steps: u64, random: &mut Random) -> Vec<u8> {
-    let rows = random.from_to(1, 48);
-    let versions = random.from_to(1, 1024);
-    let buckets = random.from_to(1, 32);
+    // small stores mostly, so that transactions meet
+    let mut size =
+        |small: u64, most: u32| if random.percent(75) { random.from_to(1, small) } else { random.from_to(1, most.into()) };
+    let [rows, versions, buckets] = [size(48, ROWS), size(1024, VERSIONS), size(32, BUCKETS)];
     let clock = if random.percent(80) { random.from_to(1, 100) } else { random.word() / 2 + 1 };
     let mut writer = Writer::open(rows as u32, versions as u32, buckets as u32, clock);
     let traffic = Traffic { rows, keys: random.from_to(1, 40), live: random.from_to(1, 8) };
@@ -27,7 +29,7 @@ pub fn mixed(steps: u64, random: &mut Random) -> Vec<u8> {
 pub fn contended(steps: u64, random: &mut Random) -> Vec<u8> {
     let rows = random.from_to(1, 4);
     let buckets = random.from_to(1, 3);
-    let mut writer = Writer::open(rows as u32, 1024, buckets as u32, random.from_to(1, 9));
+    let mut writer = Writer::open(rows as u32, VERSIONS, buckets as u32, random.from_to(1, 9));
     let traffic = Traffic { rows, keys: random.from_to(1, 5), live: random.from_to(4, 9) };
     traffic.go(&mut writer, steps, random);
     writer.bytes
@@ -72,7 +74,7 @@ impl Traffic {
             ]),
             Phase::Holding { .. } => random.weighed(&[(96, Step::Collect { number }), (4, abort)]),
             Phase::Collected { .. } => {
-                let room = if random.percent(85) { 256 } else { random.below(4) as u32 };
+                let room = if random.percent(85) { ROWS } else { random.below(4) as u32 };
                 random.weighed(&[(96, Step::Rows { number, room }), (4, abort)])
             }
             Phase::Prepared => random.weighed(&[(92, Step::Install { number }), (8, abort)]),

@@ -1,5 +1,8 @@
 //! A log in the making, with the store that it leads to.
 
+use std::ops::Range;
+
+use twin::limits::{PENDING_WRITES, ROWS};
 use twin::{Answer, Phase, Step, Store, Values};
 
 /// Appends records and knows, by the twin, what each would answer.
@@ -22,6 +25,13 @@ impl Writer {
         self.store.as_mut().map_or(Err(1), |store| store.step(&step))
     }
 
+    /// Appends the steps, whatever each answers.
+    pub fn steps(&mut self, steps: &[Step]) {
+        for &step in steps {
+            let _ = self.step(step);
+        }
+    }
+
     /// Begins a transaction and gives its number, where it is not refused.
     pub fn begin(&mut self) -> Option<u64> {
         match self.step(Step::Begin) {
@@ -32,16 +42,12 @@ impl Writer {
 
     /// One read of a key: capture, collect, rows.
     pub fn read(&mut self, number: u64, key: u64, room: u32) {
-        let _ = self.step(Step::Capture { number, key });
-        let _ = self.step(Step::Collect { number });
-        let _ = self.step(Step::Rows { number, room });
+        self.steps(&[Step::Capture { number, key }, Step::Collect { number }, Step::Rows { number, room }]);
     }
 
     /// From prepare to publish.
     pub fn commit(&mut self, number: u64) {
-        for step in [Step::Prepare { number }, Step::Install { number }, Step::End { number }, Step::Publish { number }] {
-            let _ = self.step(step);
-        }
+        self.steps(&[Step::Prepare { number }, Step::Install { number }, Step::End { number }, Step::Publish { number }]);
     }
 
     /// A transaction of its own that puts one row and publishes.
@@ -52,6 +58,25 @@ impl Writer {
         }
     }
 
+    /// A write of each row, as many to a transaction as it can have, all published.
+    pub fn write_each(&mut self, rows: Range<u32>, write: impl Fn(u64, u32) -> Step) {
+        for first in rows.clone().step_by(PENDING_WRITES) {
+            let Some(number) = self.begin() else { return };
+            for row in first..rows.end.min(first + PENDING_WRITES as u32) {
+                let _ = self.step(write(number, row));
+            }
+            self.commit(number);
+        }
+    }
+
+    /// Takes so many versions: all rows again and again, each under a key of its own, since a transaction gives a row one.
+    pub fn use_versions(&mut self, count: u32) {
+        for used in (0..count).step_by(ROWS as usize) {
+            let rows = 0..ROWS.min(count - used);
+            self.write_each(rows, |number, row| Step::Put { number, row, key: row.into(), payload: used.into() });
+        }
+    }
+
     pub fn live(&self) -> Vec<(u64, Phase)> {
         self.store.iter().flat_map(Store::live).collect()
     }
@@ -59,6 +84,11 @@ impl Writer {
     fn append(&mut self, step: &Step) {
         append_record(&mut self.bytes, step);
     }
+}
+
+/// A put of no payload.
+pub fn put(number: u64, row: u32, key: u64) -> Step {
+    Step::Put { number, row, key, payload: 0 }
 }
 
 /// Appends the record of one step.

@@ -4,6 +4,7 @@ use std::collections::{BTreeMap, BTreeSet};
 
 use generator::{log, room, Family, Random};
 use told::{told, OFTEN};
+use twin::limits::PENDING_WRITES;
 use twin::Step;
 
 mod told;
@@ -45,7 +46,7 @@ const NUMBERS_MARKED: [(&str, &[u32]); 11] = [
 ];
 
 /// The longest lines, as the host wrapper counts on them.
-const LONGEST_ROWS_LINE: usize = 330;
+const LONGEST_ROWS_LINE: usize = 611;
 const LONGEST_OTHER_LINE: usize = 60;
 
 /// How often each line's word and number came.
@@ -125,7 +126,7 @@ struct Marked {
 impl Marked {
     fn add(&mut self, log: &[u8]) {
         let mut row_count = 0;
-        let mut pending: BTreeMap<u64, u64> = BTreeMap::new();
+        let mut pending: BTreeMap<u64, usize> = BTreeMap::new();
         let mut marked = BTreeSet::new();
         for (step, answer) in told(log) {
             if let Step::Open { rows, .. } = step {
@@ -140,7 +141,7 @@ impl Marked {
             match (step, answer) {
                 (Step::Put { .. } | Step::Erase { .. }, 0) => *writes += 1,
                 (Step::Put { row, .. } | Step::Erase { row, .. }, 8) => {
-                    *self.writes.entry((word.to_string(), row >= row_count, *writes == 16)).or_default() += 1;
+                    *self.writes.entry((word.to_string(), row >= row_count, *writes == PENDING_WRITES)).or_default() += 1;
                 }
                 (Step::Capture { .. }, 8) => {
                     marked.insert(number);

@@ -3,6 +3,7 @@
 //! It was written from the document and its readings (docs/DECISIONS.md), and shares no code with the proved engine or its host wrapper,
 //! so that where the two agree, two readings of the document agree.
 
+pub mod limits;
 mod records;
 mod replay;
 mod store;

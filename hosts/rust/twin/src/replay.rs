@@ -2,6 +2,7 @@
 
 use std::fmt::Write;
 
+use crate::limits::{PENDING_WRITES, READ_RECORDS};
 use crate::records::{read_record, Step};
 use crate::store::{Answer, Store, Values, Verdict};
 
@@ -67,8 +68,8 @@ pub fn replay(log: &[u8], report: &mut [u8]) -> u64 {
 
 /// The status, and the report where there is room for all of it.
 pub fn whole_report(log: &[u8]) -> (u64, Vec<u8>) {
-    // the longest line is one of 80 rows, 64 by read records and 16 by pending writes; no record is shorter than 4 bytes
-    const LONGEST_LINE: usize = 330;
+    // the longest line has a row for each read record and for each pending write; no record is shorter than 4 bytes
+    const LONGEST_LINE: usize = "rows 0 144\n".len() + (READ_RECORDS + PENDING_WRITES) * " 1023".len();
     let mut report = vec![0; (log.len() / 4 + 1) * LONGEST_LINE];
     let answer = replay(log, &mut report);
     report.truncate(answer as u32 as usize);

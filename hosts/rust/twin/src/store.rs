@@ -2,17 +2,12 @@
 
 use std::collections::{BTreeMap, BTreeSet};
 
+use crate::limits;
 use crate::records::Step;
 
 mod contents;
 
 pub use contents::Content;
-
-const LIVE: usize = 8;
-const INDEX_READS: usize = 16;
-const READ_RECORDS: usize = 64;
-const PENDING_WRITES: usize = 16;
-const ROOM: usize = 256;
 
 /// A refusal number of document 01.
 pub type Refusal = u32;
@@ -146,8 +141,8 @@ pub struct Store {
 impl Store {
     /// A fresh store, or refusal 1.
     pub fn open(rows: u32, versions: u32, buckets: u32, clock: u64) -> Result<Store, Refusal> {
-        let in_range = (1..=256).contains(&rows) && (1..=1024).contains(&versions) && (1..=4096).contains(&buckets);
-        if !in_range || clock == 0 {
+        let sizes = [(rows, limits::ROWS), (versions, limits::VERSIONS), (buckets, limits::BUCKETS)];
+        if clock == 0 || !sizes.iter().all(|(size, most)| (1..=*most).contains(size)) {
             return Err(1);
         }
         Ok(Store {
@@ -219,7 +214,7 @@ impl Store {
 
     fn begin(&mut self) -> Answer {
         let live = self.transactions.len();
-        if live >= LIVE {
+        if live >= limits::LIVE {
             return Err(3);
         }
         if self.clock as u128 + live as u128 + 2 > u64::MAX as u128 {
@@ -256,7 +251,7 @@ impl Store {
             return Err(8);
         }
         let captured = transaction.index_reads.iter().any(|read| read.bucket == bucket);
-        if !captured && transaction.index_reads.len() == INDEX_READS {
+        if !captured && transaction.index_reads.len() == limits::INDEX_READS {
             return Err(9);
         }
         self.buckets[bucket].holder = number;
@@ -299,10 +294,10 @@ impl Store {
                 }
             }
         }
-        if matches.len() > ROOM.min(room as usize) {
+        if matches.len() > room.min(limits::ROWS) as usize {
             return Err(10);
         }
-        if transaction.read_records.len() + new_records.len() > READ_RECORDS {
+        if transaction.read_records.len() + new_records.len() > limits::READ_RECORDS {
             return Err(11);
         }
         let transaction = self.change(number);
@@ -331,7 +326,7 @@ impl Store {
         if write.row as usize >= self.rows.len() {
             return Err(6);
         }
-        if transaction.pending.len() == PENDING_WRITES {
+        if transaction.pending.len() == limits::PENDING_WRITES {
             return Err(12);
         }
         self.change(number).pending.push(write);
