@@ -2,7 +2,7 @@
 
 use compare::{compare, report_length, twin_replay};
 use engine::{Driver, STACK};
-use generator::{benchmark, log, longest_chain, room, Family, Random};
+use generator::{benchmark, edges, log, longest_chain, room, Family, Random};
 use twin::limits::VERSIONS;
 
 const SHORT_LOGS: u64 = 25_000;
@@ -45,6 +45,14 @@ fn on_long_logs() {
     }
     let log = benchmark(LONG, &mut random);
     assert_agree(&mut driver, &log, report_length(&log));
+}
+
+#[test]
+fn at_each_limit_and_one_beyond() {
+    let mut driver = Driver::start();
+    for edge in edges() {
+        assert_agree(&mut driver, &edge.log, report_length(&edge.log));
+    }
 }
 
 #[test]

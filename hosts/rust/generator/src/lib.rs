@@ -1,12 +1,14 @@
-//! Logs from a seed: mixed, contended, at every limit, damaged, noise; and the logs that the bench measures.
+//! Logs from a seed: mixed, contended, at every limit, damaged, noise; logs at each edge of the limits; and the logs that the bench measures.
 
 mod damage;
+mod edges;
 mod growth;
 mod limits;
 mod random;
 mod traffic;
 mod writer;
 
+pub use edges::{edges, Edge};
 pub use growth::{benchmark, longest_chain, with_chains, with_live, with_rows, Chains};
 pub use random::Random;
 pub use writer::append_record;

@@ -2,7 +2,7 @@
 
 use std::collections::{BTreeMap, BTreeSet};
 
-use generator::{log, room, Family, Random};
+use generator::{edges, log, room, Family, Random};
 use told::{told, OFTEN};
 use twin::limits::PENDING_WRITES;
 use twin::Step;
@@ -175,6 +175,12 @@ fn every_answer_occurs() {
     assert_numbers(&counts.lines, &NUMBERS);
     assert_eq!(counts.verdicts.keys().copied().collect::<Vec<_>>(), [0, 1, 2, 3]);
     assert_eq!(counts.statuses.keys().copied().collect::<Vec<_>>(), [0, 1, 10, 15]);
+}
+
+#[test]
+fn the_longest_line_occurs() {
+    let longest = edges().into_iter().map(|edge| edge.last_line.len() + "\n".len()).max();
+    assert_eq!(longest, Some(LONGEST_ROWS_LINE));
 }
 
 #[test]
