@@ -1,11 +1,12 @@
-/* Replays logs from standard input and says what each call did to the memory round it.
+/* driver STACK: replays logs from standard input and says what each call did to the memory round it.
  *
  * It stands between an archive and tests that may run on another machine than the archive is for. All numbers are 8 bytes, little-endian.
  * A request: how many calls (1 to 8, made at the same time, a thread each), whether to measure the stack (1 or 0) and, for each, the length
- * of its log and its room; then the logs. An answer for each call: the function's answer, a sum of faults, the bytes of stack used (0 where
- * not measured); then the report.
+ * of its log and its room; then the logs. An answer for each call: the function's answer, a sum of faults, the bytes of stack that the call
+ * touched below its caller's frame (0 where not measured); then the report.
  *
- * Each call runs in a thread with 448 KiB of stack. Log and report end at a page that cannot be touched and have marked bytes before them.
+ * Each call runs in a thread that can touch STACK bytes of stack, to the next whole page. Log and report end at a page that cannot be
+ * touched and have marked bytes before them.
  */
 #define _GNU_SOURCE
 #include <pthread.h>
@@ -18,8 +19,10 @@
 
 #include "toruxeng.h"
 
-enum { CALLS = 8, STACK = 448 * 1024, MARKED = 64, MARK = 0xA5 };
+enum { CALLS = 8, MARKED = 64, MARK = 0xA5 };
 enum { LARGEST = 256 << 20 };
+/* What a thread is told to be its stack: of a smaller one than the C library wants (128 KiB on aarch64), the rest cannot be touched. */
+enum { STACK_MAPPED = 1 << 20 };
 
 enum fault { AROUND_REPORT = 1, AFTER_LAST_LINE = 2, LOG_CHANGED = 4 };
 
@@ -38,6 +41,7 @@ struct call {
     uint8_t *log_copy;
     uint64_t answer;
     uint8_t *stack;
+    const uint8_t *frame;
     pthread_t thread;
     int thread_ends;
     sem_t begun;
@@ -45,6 +49,7 @@ struct call {
 };
 
 static size_t page;
+static size_t stack_size;
 
 static void fail(const char *what)
 {
@@ -99,13 +104,18 @@ static uint64_t read_number(void)
     return number;
 }
 
+static size_t whole_pages(size_t size)
+{
+    return (size + page - 1) / page * page;
+}
+
 /* Makes room for `length` bytes, marks them and the bytes before them. */
 static void prepare_buffer(struct buffer *buffer, uint64_t length)
 {
     if (length > LARGEST) {
         fail("a log or a report is too large");
     }
-    size_t needed = ((size_t)length + MARKED + page - 1) / page * page;
+    size_t needed = whole_pages((size_t)length + MARKED);
     if (needed > buffer->size) {
         if (buffer->pages != NULL) {
             munmap(buffer->pages, buffer->size + page);
@@ -152,20 +162,28 @@ static void *replay(void *argument)
         if (call->thread_ends) {
             return NULL;
         }
+        call->frame = __builtin_frame_address(0);
         call->answer = toruxeng_replay(call->log.bytes, call->log.length, call->report.bytes, call->report.length);
         sem_post(&call->done);
     }
 }
 
-/* A thread on a painted stack with a page below it that cannot be touched. */
+/* The lowest byte that a call's thread can touch. */
+static uint8_t *stack_end(const struct call *call)
+{
+    return call->stack + STACK_MAPPED - stack_size;
+}
+
+/* A thread on a painted stack, below which nothing can be touched. */
 static void start_thread(struct call *call)
 {
     pthread_attr_t attributes;
-    call->stack = map(page + STACK);
-    memset(call->stack + page, MARK, STACK);
+    call->stack = map(STACK_MAPPED);
+    memset(stack_end(call), MARK, stack_size);
     call->thread_ends = 0;
-    if (mprotect(call->stack, page, PROT_NONE) != 0 || sem_init(&call->begun, 0, 0) != 0 || sem_init(&call->done, 0, 0) != 0
-        || pthread_attr_init(&attributes) != 0 || pthread_attr_setstack(&attributes, call->stack + page, STACK) != 0
+    if (mprotect(call->stack, STACK_MAPPED - stack_size, PROT_NONE) != 0 || sem_init(&call->begun, 0, 0) != 0
+        || sem_init(&call->done, 0, 0) != 0 || pthread_attr_init(&attributes) != 0
+        || pthread_attr_setstack(&attributes, call->stack, STACK_MAPPED) != 0
         || pthread_create(&call->thread, &attributes, replay, call) != 0) {
         fail("a thread cannot be started");
     }
@@ -179,18 +197,18 @@ static void end_thread(struct call *call)
     if (pthread_join(call->thread, NULL) != 0) {
         fail("a thread cannot be joined");
     }
-    munmap(call->stack, page + STACK);
+    munmap(call->stack, STACK_MAPPED);
     call->stack = NULL;
 }
 
-/* From the lowest byte that is not as it was painted to the top. */
-static uint64_t stack_used(const struct call *call)
+/* From the lowest byte that is not as it was painted up to the caller's frame: a frame of which only some bytes are written counts whole. */
+static uint64_t stack_touched(const struct call *call)
 {
-    size_t untouched = 0;
-    while (untouched < STACK && call->stack[page + untouched] == MARK) {
-        untouched++;
+    const uint8_t *lowest = stack_end(call);
+    while (lowest < call->frame && *lowest == MARK) {
+        lowest++;
     }
-    return STACK - untouched;
+    return (uint64_t)(call->frame - lowest);
 }
 
 static uint64_t faults(const struct call *call)
@@ -214,18 +232,28 @@ static uint64_t faults(const struct call *call)
 static void finish(struct call *call, int measured)
 {
     sem_wait(&call->done);
-    uint64_t head[3] = { call->answer, faults(call), measured ? stack_used(call) : 0 };
+    uint64_t head[3] = { call->answer, faults(call), measured ? stack_touched(call) : 0 };
     write_all(head, sizeof head);
     size_t written = toruxeng_written(call->answer);
     write_all(call->report.bytes, written < call->report.length ? written : call->report.length);
     free(call->log_copy);
 }
 
-int main(void)
+static void read_stack_size(int count, char **words)
+{
+    char *end = NULL;
+    stack_size = count == 2 ? whole_pages(strtoul(words[1], &end, 10)) : 0;
+    if (stack_size == 0 || stack_size >= STACK_MAPPED || *end != '\0') {
+        fail("its one argument is the bytes of stack that each call has");
+    }
+}
+
+int main(int word_count, char **words)
 {
     static struct call calls[CALLS];
     uint64_t count;
     page = (size_t)sysconf(_SC_PAGESIZE);
+    read_stack_size(word_count, words);
     while (read_all(&count, sizeof count)) {
         if (count < 1 || count > CALLS) {
             fail("a request has 1 to 8 calls");

@@ -8,6 +8,8 @@ use twin::limits::VERSIONS;
 const SHORT_LOGS: u64 = 25_000;
 const SHORT: u64 = 60;
 const LONG: u64 = 20_000;
+/// The largest of the tables that stand on the stack, of six words a version.
+const VERSIONS_BYTES: u64 = 6 * 8 * VERSIONS as u64;
 
 /// TORUXENG_SEED gives other logs than the gate's.
 fn seed() -> u64 {
@@ -91,7 +93,7 @@ fn on_the_longest_chain_with_a_small_stack() {
     let report = String::from_utf8(twin_replay(&log, room).1).expect("a report is text");
     let lines = |start: &str| report.lines().filter(|line| line.starts_with(start)).count();
     assert_eq!((lines("publish 0 "), lines("rows 0 1 0")), (VERSIONS as usize, 20));
-    let used = driver.stack_used(&log, room);
-    println!("stack used: {used} bytes");
-    assert!(used < STACK);
+    let touched = driver.stack_touched(&log, room);
+    println!("stack touched: {touched} bytes");
+    assert!((VERSIONS_BYTES..STACK).contains(&touched));
 }

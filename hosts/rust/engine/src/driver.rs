@@ -36,6 +36,7 @@ impl Driver {
     pub fn start() -> Driver {
         let program = env::var_os("TORUXENG_DRIVER").expect("TORUXENG_DRIVER names the driver; `hosts/build TARGET` builds it");
         let mut process = Command::new(program)
+            .arg(STACK.to_string())
             .stdin(Stdio::piped())
             .stdout(Stdio::piped())
             .spawn()
@@ -58,8 +59,8 @@ impl Driver {
         calls.iter().map(|(log, room)| self.answer(log, *room).0).collect()
     }
 
-    /// How far down its stack the call wrote, its thread's own start included.
-    pub fn stack_used(&mut self, log: &[u8], room: usize) -> u64 {
+    /// How far below its caller's frame the call wrote.
+    pub fn stack_touched(&mut self, log: &[u8], room: usize) -> u64 {
         self.request(&[(log, room)], true);
         self.answer(log, room).1
     }
@@ -72,7 +73,7 @@ impl Driver {
         self.to.write_all(&request).expect("the driver takes a request");
     }
 
-    /// What the call gave back, and the stack that it used.
+    /// What the call gave back, and the stack that it touched.
     fn answer(&mut self, log: &[u8], room: usize) -> (Replayed, u64) {
         let [answer, faults, stack] = [(); 3].map(|_| self.number(log));
         for (fault, what) in FAULTS {

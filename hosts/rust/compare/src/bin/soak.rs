@@ -60,7 +60,7 @@ fn main() -> ExitCode {
     println!("no difference in {} steps of {} logs, {seconds} seconds", tally.steps, tally.logs);
     println!("logs by status: {:?}\nsteps by number: {:?}", tally.by_status, tally.by_number);
     let chain = longest_chain(1);
-    let [empty, longest] = [&[][..], &chain].map(|log| driver.stack_used(log, report_length(log)));
-    println!("stack of a thread that replays an empty log: {empty} bytes; the longest chain: {longest} bytes");
+    let [empty, longest] = [&[][..], &chain].map(|log| driver.stack_touched(log, report_length(log)));
+    println!("stack that a call touches: an empty log {empty} bytes, the longest chain {longest} bytes");
     ExitCode::SUCCESS
 }
