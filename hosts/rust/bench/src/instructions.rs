@@ -7,12 +7,9 @@ use std::process::{Child, Command, Stdio};
 
 use crate::engine::Engine;
 
-/// Of one replay of a log that is named by these words; or why they were not counted.
-pub fn of_a_replay(engine: Engine, log: &[String]) -> Result<u64, String> {
-    let rounds = |rounds: &str| {
-        let words = ["once", engine.name(), rounds].map(str::to_string);
-        start(&[], &[&words, log].concat(), &[])
-    };
+/// Of one replay of the benchmark log; or why they were not counted.
+pub fn of_a_replay(engine: Engine) -> Result<u64, String> {
+    let rounds = |rounds: &str| start(&[], &["once", engine.name(), rounds].map(str::to_string), &[]);
     between(rounds("1")?, rounds("2")?)
 }
 

@@ -1,17 +1,27 @@
 //! Logs from a seed: mixed, contended, at every limit, damaged, noise; logs at each edge of the limits; and the logs that the bench measures.
 
+mod chains;
 mod damage;
 mod edges;
-mod growth;
 mod limits;
+mod posted;
 mod random;
 mod traffic;
+mod work;
 mod writer;
 
+pub use chains::{longest_chain, with_chains, Chains};
 pub use edges::{edges, Edge};
-pub use growth::{benchmark, longest_chain, with_chains, with_live, with_rows, Chains};
+pub use posted::{with_posted, Posted, STEPS_OF_A_ROUND};
 pub use random::Random;
+pub use work::{benchmark, with_live};
 pub use writer::append_record;
+
+/// A log, and the byte from which on its steps count; those before only bring the store there.
+pub struct Stretch {
+    pub log: Vec<u8>,
+    pub from: usize,
+}
 
 /// What a log is made to try.
 #[derive(Clone, Copy, Debug, PartialEq, Eq, PartialOrd, Ord)]

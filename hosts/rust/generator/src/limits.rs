@@ -5,7 +5,7 @@ use twin::Step;
 
 use crate::random::Random;
 use crate::traffic::Traffic;
-use crate::writer::{put, Writer};
+use crate::writer::{committing, put, Writer};
 
 /// One case, chosen at random, and then some traffic.
 pub fn at_a_limit(steps: u64, random: &mut Random) -> Vec<u8> {
@@ -51,10 +51,8 @@ fn live(random: &mut Random) -> Writer {
                 let _ = writer.step(put(number, round as u32, round));
             }
             if random.percent(40) {
-                let ended = [Step::Prepare { number }, Step::Install { number }, Step::End { number }];
-                for step in ended.into_iter().take(random.from_to(1, 3) as usize) {
-                    let _ = writer.step(step);
-                }
+                let taken = random.from_to(1, 3) as usize;
+                writer.steps(&committing(number)[..taken]);
             }
         }
     }
@@ -171,9 +169,8 @@ fn erases(random: &mut Random) -> Writer {
         for _ in 0..random.from_to(1, 3) {
             put_or_erase(&mut writer, number, random);
         }
-        let last = [Step::Prepare { number }, Step::Install { number }, Step::End { number }, Step::Publish { number }];
         let taken = random.one_of(&[4, 4, 3, 1, 1, 1]);
-        writer.steps(&last[..taken]);
+        writer.steps(&committing(number)[..taken]);
     }
     // a bucket that was stamped is stale for the one that began first
     for number in early.into_iter().chain(writer.begin()) {
@@ -346,7 +343,7 @@ fn begun_between(random: &mut Random) -> Writer {
     let Some(number) = writer.begin() else { return writer };
     // the same key leaves the stamps, so that the reader is not stale
     let _ = writer.step(Step::Put { number, row: 0, key: 0, payload: 1 });
-    let last = [Step::Prepare { number }, Step::Install { number }, Step::End { number }, Step::Publish { number }];
+    let last = committing(number);
     let before = random.below(5) as usize;
     writer.steps(&last[..before]);
     let reader = writer.begin();

@@ -40,14 +40,13 @@ impl Writer {
         }
     }
 
-    /// One read of a key: capture, collect, rows.
+    /// One read of a key.
     pub fn read(&mut self, number: u64, key: u64, room: u32) {
-        self.steps(&[Step::Capture { number, key }, Step::Collect { number }, Step::Rows { number, room }]);
+        self.steps(&reading(number, key, room));
     }
 
-    /// From prepare to publish.
     pub fn commit(&mut self, number: u64) {
-        self.steps(&[Step::Prepare { number }, Step::Install { number }, Step::End { number }, Step::Publish { number }]);
+        self.steps(&committing(number));
     }
 
     /// A transaction of its own that puts one row and publishes.
@@ -84,6 +83,16 @@ impl Writer {
     fn append(&mut self, step: &Step) {
         append_record(&mut self.bytes, step);
     }
+}
+
+/// One read of a key.
+pub fn reading(number: u64, key: u64, room: u32) -> [Step; 3] {
+    [Step::Capture { number, key }, Step::Collect { number }, Step::Rows { number, room }]
+}
+
+/// From prepare to publish.
+pub fn committing(number: u64) -> [Step; 4] {
+    [Step::Prepare { number }, Step::Install { number }, Step::End { number }, Step::Publish { number }]
 }
 
 /// A put of no payload.
