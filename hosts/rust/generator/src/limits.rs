@@ -30,7 +30,7 @@ pub fn at_a_limit(steps: u64, random: &mut Random) -> Vec<u8> {
         sizes,
     ]);
     let mut writer = limit(random);
-    let traffic = Traffic { rows: random.from_to(1, 8), keys: random.from_to(1, 8), live: random.from_to(1, 8) };
+    let traffic = Traffic { rows: random.from_to(1, 8), keys: random.from_to(1, 8), apart: 1, live: random.from_to(1, 8) };
     let tail = random.below(steps / 2 + 1);
     traffic.go(&mut writer, tail, random);
     writer.bytes

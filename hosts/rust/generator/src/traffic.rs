@@ -10,6 +10,8 @@ use crate::writer::Writer;
 pub struct Traffic {
     pub rows: u64,
     pub keys: u64,
+    /// From one key to the next.
+    pub apart: u64,
     /// As many transactions as it tries to keep live.
     pub live: u64,
 }
@@ -21,7 +23,9 @@ pub fn mixed(steps: u64, random: &mut Random) -> Vec<u8> {
     let [rows, versions, buckets] = [size(48, ROWS), size(1024, VERSIONS), size(32, BUCKETS)];
     let clock = if random.percent(80) { random.from_to(1, 100) } else { random.word() / 2 + 1 };
     let mut writer = Writer::open(rows as u32, versions as u32, buckets as u32, clock);
-    let traffic = Traffic { rows, keys: random.from_to(1, 40), live: random.from_to(1, 8) };
+    // keys that are far apart fall into high buckets too
+    let apart = random.one_of(&[1, 1, 97, u64::MAX / 40]);
+    let traffic = Traffic { rows, keys: random.from_to(1, 40), apart, live: random.from_to(1, 8) };
     traffic.go(&mut writer, steps, random);
     writer.bytes
 }
@@ -30,7 +34,7 @@ pub fn contended(steps: u64, random: &mut Random) -> Vec<u8> {
     let rows = random.from_to(1, 4);
     let buckets = random.from_to(1, 3);
     let mut writer = Writer::open(rows as u32, VERSIONS, buckets as u32, random.from_to(1, 9));
-    let traffic = Traffic { rows, keys: random.from_to(1, 5), live: random.from_to(4, 9) };
+    let traffic = Traffic { rows, keys: random.from_to(1, 5), apart: 1, live: random.from_to(4, 9) };
     traffic.go(&mut writer, steps, random);
     writer.bytes
 }
@@ -61,7 +65,7 @@ impl Traffic {
     fn fitting(&self, number: u64, phase: Phase, random: &mut Random) -> Step {
         let put = self.put(number, random);
         let erase = Step::Erase { number, row: random.below(self.rows) as u32 };
-        let capture = Step::Capture { number, key: random.below(self.keys) };
+        let capture = Step::Capture { number, key: self.key(random) };
         let abort = Step::Abort { number };
         match phase {
             Phase::Open => random.weighed(&[
@@ -87,7 +91,7 @@ impl Traffic {
     pub fn any(&self, number: u64, random: &mut Random) -> Step {
         let put = self.put(number, random);
         let row = random.below(self.rows + 2) as u32;
-        let key = random.below(self.keys);
+        let key = self.key(random);
         let room = random.below(4) as u32;
         random.one_of(&[
             Step::Begin,
@@ -106,6 +110,10 @@ impl Traffic {
     }
 
     fn put(&self, number: u64, random: &mut Random) -> Step {
-        Step::Put { number, row: random.below(self.rows) as u32, key: random.below(self.keys), payload: random.word() }
+        Step::Put { number, row: random.below(self.rows) as u32, key: self.key(random), payload: random.word() }
+    }
+
+    fn key(&self, random: &mut Random) -> u64 {
+        random.below(self.keys) * self.apart
     }
 }
