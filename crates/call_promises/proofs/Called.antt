@@ -38,14 +38,15 @@ use Rattle.step.specs.Words.{Words, view, txnAt, placeFor, Sized}
 use Rattle.step_bridge.proofs.Places.{standing, live-at}
 use Rattle.step_bridge.proofs.Placed.{unmoved}
 use Rattle.step_bridge.proofs.Same.{two-held, SameAt, SameAs, Same, refused-same, by-place-as}
-use Rattle.step_bridge.proofs.Shaped.{Shaped, shaped}
+use Rattle.step_bridge.proofs.Shaped.{Shaped, shaped, count-pos}
 use Rattle.step_bridge.proofs.Tabled.{part}
 use Rattle.step_bridge.proofs.Freeing.{freedAt, clear-all, clear-length}
 use Rattle.step_bridge.proofs.Needing.{row-in}
 use Rattle.step_bridge.proofs.Pushing.{install-same}
-use Rattle.step_bridge.proofs.Aborting.{late-test, freedList, freed-in, freed-buckets, abort-chains, abort-index, ended-at}
+use Rattle.step_bridge.proofs.Telling.{Tells}
+use Rattle.step_bridge.proofs.Aborting.{late-test, freedList, freed-in, freed-buckets, abort-chains, abort-index, abort-told, ended-at}
 use Rattle.step_bridge.proofs.Publishing.{rowsAfter, bucketsAfter, stamped, stamped-is, rows-long, buckets-long, publish-chains, publish-index, phase-ended}
-use Rattle.step_bridge.proofs.Publishing.{holders-freed, claims-freed, clock-below}
+use Rattle.step_bridge.proofs.Publishing.{holders-freed, claims-freed, publish-told, clock-below}
 use Rattle.step_bridge.proofs.Writing.{end-same, put-same, erase-same}
 use Rattle.step_bridge.proofs.Judging.{validate-same}
 use Rattle.step_bridge.proofs.Capturing.{capture-same}
@@ -57,6 +58,7 @@ use Rattle.step_bridge.proofs.Stepping.{Lent}
 use Rattle.call.specs.Calls.{asker, sweptFor, sweptMoved, calledBy}
 use Rattle.call_promises.proofs.Refusing.{ends, still-there, called-stays}
 use Rattle.call_promises.proofs.Sweeping.{release-freed, swept-held, swept-chains, swept-index, swept-rows-long, swept-buckets-long}
+use Rattle.call_promises.proofs.Sweeping.{swept-told}
 
 -- where nothing was changed nothing is swept
 module _ (w : Words) where
@@ -98,15 +100,17 @@ module _ (w : Words) (z : Sized w) (p : ℕ) (l : p < mostLive) (a : 1 ≤ txnAt
       → clock ≡ clock′ → chainsView (rowsPart (sizesView (w .sizes)) rows) (versionsPart (sizesView (w .sizes)) (w .tables .versions)) (w .used) ≡ c
       → indexView (rowsPart (sizesView (w .sizes)) rows) (bucketsPart (sizesView (w .sizes)) buckets) ≡ x
       → freed (heldView (rowsPart (sizesView (w .sizes)) rows) (bucketsPart (sizesView (w .sizes)) buckets)) (txnAt w p .number) ≡ h
-      → length rows ≡ length (w .tables .rows) → length buckets ≡ length (w .tables .buckets) → t ≡ told o → w .tables .found ≡ lentAfter o (w .tables .found)
+      → length rows ≡ length (w .tables .rows) → length buckets ≡ length (w .tables .buckets) → 1 ≤ w .sizes .buckets → Tells w rows buckets
+      → t ≡ told o → w .tables .found ≡ lentAfter o (w .tables .found)
       → SameAt w p (sweptMoved (w .sizes) (txnAt w p .number) (ended rows buckets t clock))
       (gives (record { sizes = view w .sizes; clock = clock′; chains = c; index = x; held = h; txns = update (view w .txns) p model.noTxn }) o)
-  swept-at rows buckets t o clock clock′ c x h e₁ e₂ e₃ e₄ r b f g =
+  swept-at rows buckets t o clock clock′ c x h e₁ e₂ e₃ e₄ r b pos tells f g =
       let v = txnAt w p .number in
       rw (swept-ended rows buckets t clock)
       (ended-at w z p l _ _ t o clock clock′ c x h e₁ (swept-chains (view w .sizes) v a rows buckets _ _ ∙ e₂)
       (swept-index (view w .sizes) v a rows buckets ∙ e₃) (swept-held (view w .sizes) v a rows buckets (rw r (z .rows)) (rw b (z .buckets)) ∙ e₄)
-      (swept-rows-long (view w .sizes) v a rows buckets ∙ r) (swept-buckets-long (view w .sizes) v a rows buckets ∙ b) f g)
+      (swept-rows-long (view w .sizes) v a rows buckets ∙ r) (swept-buckets-long (view w .sizes) v a rows buckets ∙ b)
+      (swept-told (view w .sizes) v a rows buckets pos tells) f g)
 
   -- freed in part, and then swept, is freed
   swept-freed : (rows buckets rs bs : List ℕ)
@@ -143,7 +147,8 @@ module _ (w : Words) (z : Sized w) (g : Shaped w) (n : ℕ) where
       (swept-freed w z q l a _ _ rs (freedList w q)
       (clear-all bucketWords 1 (omega arith) (w .sizes .buckets) v (w .tables .buckets) (freedList w q) (freed-in w z g q a) (z .buckets))
       (clear-all rowWords 1 (omega arith) (w .sizes .rows) v (w .tables .rows) rs (λ r m. row-in w z g q a r m) (z .rows)))
-      (clear-length rowWords 1 v (w .tables .rows) rs) (clear-length bucketWords 1 v (w .tables .buckets) (freedList w q)) refl refl
+      (clear-length rowWords 1 v (w .tables .rows) rs) (clear-length bucketWords 1 v (w .tables .buckets) (freedList w q))
+      (count-pos w g) (abort-told w z g v rs (freedList w q)) refl refl
 
   abort-called : SameAs w (ask.Abort n) (calledBy w (ask.Abort n))
   unfolding refusal abortOf
@@ -177,7 +182,8 @@ module _ (w : Words) (z : Sized w) (g : Shaped w) (n : ℕ) where
       swept-at w z q l a _ _ (tell.Stamp (w .clock)) (machine.Stamp (w .clock)) (oneMore (w .clock)) (suc (w .clock)) _ _ _
       (one-up (w .clock) (clock-below w g q l a)) (publish-chains w z q)
       (publish-index w z g q a (le-leb phaseInstalled _ (phase-ended (phaseView (txnAt w q .phase)) e)))
-      (swept-freed w z q l a _ _ _ _ (holders-freed w z g q a) (claims-freed w z g q a)) (rows-long w z q) (buckets-long w z q) refl refl
+      (swept-freed w z q l a _ _ _ _ (holders-freed w z g q a) (claims-freed w z g q a)) (rows-long w z q) (buckets-long w z q)
+      (count-pos w g) (publish-told w z g q a) refl refl
 
   publish-called : SameAs w (ask.Publish n) (calledBy w (ask.Publish n))
   unfolding refusal publishStep publishOf

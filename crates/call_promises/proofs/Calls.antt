@@ -37,7 +37,7 @@ use Rattle.step_bridge.proofs.Listing.{every-at}
 use Rattle.step_bridge.proofs.Same.{SameAs}
 use Rattle.step_bridge.proofs.Running.{Stands}
 use Rattle.step_bridge.proofs.Stepping.{Lent}
-use Rattle.shape.specs.Shape.{tablesLent, inPlace, allInPlace, tablesFit, shapeOf}
+use Rattle.shape.specs.Shape.{tablesLent, inPlace, allInPlace, listsIn, tablesFit, shapeOf}
 use Rattle.call.specs.Calls.{calledBy, wordsCalled, callOf}
 use Rattle.call.proofs.Laws.{lent-roomy}
 use Rattle.call_promises.specs.Calls.{Call, roomWithin, asking, lending, called, calls, stepsOf, Typed, CalledAs, AnyCall}
@@ -138,8 +138,9 @@ fit-sized : (w : Words) → Typed w → tablesFit w ≡ true → Sized w
 unfolding tablesFit
 fit-sized w t e =
     let all-lent = tablesLent (w .tables .rows) (w .tables .versions) (w .tables .buckets) (w .tables .lists) (w .sizes) in
-    let lent = and-l all-lent (allInPlace (w .txns)) e in
-    let placed = and-r all-lent (allInPlace (w .txns)) e in
+    let front = and-l (all-lent && allInPlace (w .txns)) (listsIn w) e in
+    let lent = and-l all-lent (allInPlace (w .txns)) front in
+    let placed = and-r all-lent (allInPlace (w .txns)) front in
     let room = lent-roomy (w .tables .rows) (w .tables .versions) (w .tables .buckets) (w .tables .lists) (w .sizes) lent in
     record {
       eight = t .eight;
@@ -148,6 +149,7 @@ fit-sized w t e =
       buckets = room .buckets-there;
       lists = room .lists-there;
       txns = λ i l. sized-txn i (txnAt w i) (t .seven i l) (every-at mostLive (λ j. inPlace j (txnAt w j)) placed i l);
+      told = and-r (all-lent && allInPlace (w .txns)) (listsIn w) e;
     }
 
 sized-typed : (w : Words) → Sized w → Typed w
@@ -172,6 +174,7 @@ sized-fit w z =
       le-leb (bucketWords * w .sizes .buckets) (length (w .tables .buckets)) (z .buckets),
       le-leb listsWords (length (w .tables .lists)) (z .lists),
       every-each mostLive (λ i. inPlace i (txnAt w i)) placed,
+      z .told,
     )
 
 -- ---- one call
@@ -192,7 +195,7 @@ module _ (w : Words) (found : List ℕ) where
   lent-shape = ap (λ (b : Bool). b && rightShape (view w)) lent-fit
 
   lent-sized : Sized w → Sized (lending w found)
-  lent-sized z = record { eight = z .eight; rows = z .rows; versions = z .versions; buckets = z .buckets; lists = z .lists; txns = z .txns }
+  lent-sized z = record { eight = z .eight; rows = z .rows; versions = z .versions; buckets = z .buckets; lists = z .lists; txns = z .txns; told = z .told }
 
 -- a store of wrong shape gets 16 in the model too
 model-right : (v : Store) (a : Asked) → rightShape v ≡ true → step v a ≡ stepIn v a

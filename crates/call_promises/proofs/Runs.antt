@@ -1,7 +1,7 @@
 -- An open and calls that meet the premises of the page of statements: a read that finds a row, another transaction that publishes meanwhile, a clear verdict; a
 -- prepare of erases of something and of nothing, and one of nothing alone; a capture that finds a stale stamp; and a transaction that reads before another
 -- publishes, and comes to end after it. Assumes nothing.
-use Prim.Native.Nat.{ℕ}
+use Prim.Native.Nat.{ℕ, _*_}
 use mathlib.Core.Path.{_≡_, refl, ap, _∙_}
 use mathlib.Core.Bool.{true}
 use mathlib.Core.Option.{some}
@@ -25,6 +25,7 @@ use Rattle.base_protocol.specs.declared.Answer.the-variants as tell
 use Rattle.base_protocol.specs.declared.Verdict.the-variants as verdict
 use Rattle.base_protocol.specs.View.{told}
 use Rattle.report_answers.specs.Answers.{numberOf}
+use Rattle.table.specs.Fields.{rowWords, versionWords, bucketWords}
 use Rattle.table.specs.Lists.{listsWords}
 use Rattle.call.specs.Calls.{openOf}
 use Rattle.call_promises.specs.Calls.{Call, called}
@@ -36,9 +37,9 @@ use Rattle.call_promises.proofs.InTurn.{done-after, turn-after}
 -- 4 rows, 8 versions and 4 buckets, over tables full of sevens
 abbrev pub o : Opening
 o = record {
-  rows = replicate 16 7;
-  versions = replicate 54 7;
-  buckets = replicate 8 7;
+  rows = replicate (rowWords * 4) 7;
+  versions = replicate (versionWords * 9) 7;
+  buckets = replicate (bucketWords * 4) 7;
   lists = replicate listsWords 7;
   sizes = record { rows = 4; versions = 8; buckets = 4 };
   clock = 1;

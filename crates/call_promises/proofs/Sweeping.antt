@@ -16,10 +16,12 @@ use Rattle.model.specs.Store as model
 use Rattle.model.specs.Steps.{release, freed}
 use Rattle.table.specs.Words.{field, clearFields, clearEvery}
 use Rattle.table.proofs.Parts.{part-past}
+use Rattle.table_postings.specs.Links.{listsTell}
 use Rattle.txn.specs.View.{rowsPart, bucketsPart, chainsView, indexView, heldView}
 use Rattle.table.specs.Fields.{rowWords, bucketWords, clearHolders, clearClaims, releaseEvery, unclaimEvery}
 use Rattle.step_bridge.proofs.Same.{two-held}
 use Rattle.step_bridge.proofs.Tabled.{part, InRange}
+use Rattle.step_bridge.proofs.Telling.{tells-kept}
 use Rattle.step_bridge.proofs.Freeing.{freedAt, freed-release, clear-all, clear-other, clear-length}
 
 -- the numbers below a bound
@@ -100,3 +102,12 @@ module _ (z : model.Sizes) (v : ℕ) (l : 1 ≤ v) (rows buckets : List ℕ) whe
 
   pub swept-buckets-long : length (releaseEvery buckets (z .buckets) v) ≡ length buckets
   swept-buckets-long = rw (release-all v (z .buckets) buckets) (clear-length bucketWords 1 v buckets (below (z .buckets)))
+
+  -- the lists tell as before
+  pub swept-told : 1 ≤ z .buckets → listsTell (record { rows = rows; buckets = buckets }) (z .rows) (z .buckets) ≡ true
+      → listsTell (record { rows = unclaimEvery rows (z .rows) v; buckets = releaseEvery buckets (z .buckets) v }) (z .rows) (z .buckets) ≡ true
+  swept-told some told =
+      rw (release-all v (z .buckets) buckets, unclaim-all-below v (z .rows) rows)
+      (tells-kept _ _ (z .rows) (z .buckets) some
+      (λ k lo hi. clear-other rowWords 1 (omega arith) (z .rows) v rows (below (z .rows)) k hi (λ e. omega arith))
+      (clear-other bucketWords 1 (omega arith) (z .buckets) v buckets (below (z .buckets)) 2 (omega arith) (omega arith)) told)

@@ -2,6 +2,7 @@
 -- Assumes nothing.
 use Prim.Native.Nat.{ℕ, zero, suc, _+_, min}
 use mathlib.Core.Path.{_≡_, refl}
+use mathlib.Core.Bool.{Bool}
 use mathlib.Core.Logic.{_⊎_, inl, inr}
 use mathlib.Core.Option.{Option, none, some}
 use mathlib.Core.List.{List, [], _∷_, _++_}
@@ -9,11 +10,11 @@ use lib.Dec.{leb}
 use lib.ListN.{length}
 use Rattle.base_lists.specs.Table.{cond-elim}
 use Rattle.model.specs.Refusals.{WrongSize, NoRoom, Malformed, refusalNumber}
-use Rattle.model.specs.Store.{Store, fresh}
+use Rattle.model.specs.Store.{Sizes, Store, fresh}
 use Rattle.model.specs.Machine.{canOpen, step}
 use Rattle.model.specs.Log.{Command, Opening, Asking, readRecord}
 use Rattle.model.specs.Report.{answerLine}
-use Rattle.model.specs.Replay.{Replayed, stops, writeThen, reads, recordThen, replayFor, replayFrom, mostRoom, replay}
+use Rattle.model.specs.Replay.{Replayed, stops, writeThen, reads, recordThen, replayFor, replayFrom, mostRoom, replay, opensTooShort, replayLent}
 
 abbrev pub Status : Replayed → Type 0
 Status r = (r .status ≡ 0) ⊎ (r .status ≡ 1) ⊎ (r .status ≡ 10) ⊎ (r .status ≡ 15)
@@ -53,3 +54,12 @@ for-status room (suc k) log so text =
 pub replay-status : (log : List ℕ) (room : ℕ) → Status (replay log room)
 unfolding replay replayFrom
 replay-status log room = for-status (min room mostRoom) (length log) log none []
+
+-- over lent tables also 16
+pub lent-status : (lent : Sizes → Bool) (log : List ℕ) (room : ℕ) → Status (replayLent lent log room) ⊎ (replayLent lent log room .status ≡ 16)
+unfolding replayLent writeThen
+lent-status lent log room = cond-elim Either (opensTooShort lent (readRecord log)) _ (replay log room)
+    (λ e. cond-elim Either (leb _ (min room mostRoom)) _ _ (λ f. inr refl) (λ f. inl (inr (inr (inl refl))))) (λ e. inl (replay-status log room))
+  where
+    Either : Replayed → Type 0
+    Either r = Status r ⊎ (r .status ≡ 16)

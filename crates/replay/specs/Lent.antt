@@ -42,7 +42,13 @@ abbrev pub openedIn : Lent → Sizes → ℕ → Words
 openedIn t z clock =
     let w = openOf (t .rows) (t .versions) (t .buckets) (t .lists) z clock .words in
     record {
-      tables = record { rows = w .tables .rows; versions = w .tables .versions; buckets = w .tables .buckets; lists = w .tables .lists; found = replicate mostRows 0 };
+      tables = record {
+        rows = w .tables .rows;
+        versions = w .tables .versions;
+        buckets = w .tables .buckets;
+        lists = w .tables .lists;
+        found = replicate mostRows 0;
+      };
       txns = w .txns;
       sizes = w .sizes;
       clock = w .clock;
@@ -69,7 +75,8 @@ whereAsked (Open z clock) w on = w
 whereAsked (Ask s) w on = on s
 whereAsked Malformed w on = w
 
--- the words behind the records from a place of the log on, n at the most, where so many bytes of the report are written: each step is carried out, and one whose line does not fit is the last
+-- the words behind the records from a place of the log on, n at the most, where so many bytes of the report are written: each step is carried out,
+-- and one whose line does not fit is the last
 unfoldable pub wordsFor : ℕ → List ℕ → ℕ → ℕ → ℕ → Words → Words
 wordsFor room log zero at wrote w = w
 wordsFor room log (suc n) at wrote w =

@@ -44,7 +44,7 @@ use Rattle.step_bridge.proofs.Distinct.{gets-same}
 use Rattle.step_bridge.proofs.Reserving.{reserved-same}
 use Rattle.shape_chains.specs.ChainsShape.{chainsFit}
 use Rattle.shape_txn.specs.TxnShape.{countsFit, writesIn, rangesFit, rowFits, headsFit, leastOf, txnFits, placeFits}
-use Rattle.shape.specs.Shape.{tablesLent, inPlace, allInPlace, tablesFit, shapeOf}
+use Rattle.shape.specs.Shape.{tablesLent, inPlace, allInPlace, listsIn, tablesFit, shapeOf}
 use Rattle.shape.specs.Tests.{txnsFit, unlike, distinctAt, allDistinct}
 
 -- the second test matters only where the first holds
@@ -296,7 +296,8 @@ module _ (w : Words) where
       let txns = txnsFit (w .tables .rows) (w .tables .versions) (w .tables .lists) (extentIn w) (w .txns) in
       and-same (tablesFit w) (tablesFit w) (rightShape (view w)) _ refl
       (λ f.
-      let places = and-r (tablesLent (w .tables .rows) (w .tables .versions) (w .tables .buckets) (w .tables .lists) (w .sizes)) (allInPlace (w .txns)) f in
+      let lent = tablesLent (w .tables .rows) (w .tables .versions) (w .tables .buckets) (w .tables .lists) (w .sizes) in
+      let places = and-r lent (allInPlace (w .txns)) (and-l (lent && allInPlace (w .txns)) (listsIn w) f) in
       and-same _ _ _ _
       (and-same _ _ _ _
       (and-same _ _ _ _

@@ -10,6 +10,7 @@ use Rattle.model.specs.Shape.{rightShape}
 use Rattle.base_protocol.specs.declared.Sizes.{Sizes}
 use Rattle.table.specs.Fields.{rowWords, versionWords, bucketWords}
 use Rattle.table.specs.Lists.{listsWords}
+use Rattle.table_postings.specs.Links.{listsTell}
 use Rattle.txn.specs.Methods.{idleOf}
 use Rattle.txn.specs.declared.Transaction.{Transaction}
 use Rattle.shape_txn.specs.TxnShape.{countsFit}
@@ -31,9 +32,13 @@ inPlace i t = eqb (t .slot) i && leb (t .snapshot .«active_n») mostActive && c
 abbrev pub allInPlace : List Transaction → Bool
 allInPlace ts = every mostLive (λ i. inPlace i (getD ts i (idleOf i)))
 
--- a table shorter than its size, a record in a wrong slot and one with a count above its limit get 16 too
+-- the lists of the buckets tell the postings
+abbrev pub listsIn : Words → Bool
+listsIn w = listsTell (record { rows = w .tables .rows; buckets = w .tables .buckets }) (w .sizes .rows) (w .sizes .buckets)
+
+-- a table shorter than its size, a record in a wrong slot, one with a count above its limit and lists that do not tell the postings get 16 too
 unfoldable pub tablesFit : Words → Bool
-tablesFit w = tablesLent (w .tables .rows) (w .tables .versions) (w .tables .buckets) (w .tables .lists) (w .sizes) && allInPlace (w .txns)
+tablesFit w = tablesLent (w .tables .rows) (w .tables .versions) (w .tables .buckets) (w .tables .lists) (w .sizes) && allInPlace (w .txns) && listsIn w
 
 -- the shape that public steps test first
 unfoldable pub shapeOf : Words → Bool

@@ -1,4 +1,4 @@
-// The shape that public steps test first: the model's test, and that the lent tables and the records' slots fit.
+// The shape that public steps test first: the model's test, and that the lent tables, the records' slots and the lists of the buckets fit.
 use base_limits::LAST_NUMBER;
 use base_limits::MOST_ACTIVE;
 use base_limits::MOST_LIVE;
@@ -7,6 +7,7 @@ use base_protocol::Extent;
 use base_protocol::Sizes;
 use shape_chains::chains_fit;
 use shape_open::good_sizes;
+use shape_postings::lists_tell;
 use shape_txn::counts_fit;
 use shape_txn::place_fits;
 use table::BUCKET_WORDS;
@@ -189,6 +190,9 @@ pub fn right_shape(
         return false;
     }
     if !good_sizes(sizes) {
+        return false;
+    }
+    if !lists_tell(rows, buckets, sizes.rows, sizes.buckets) {
         return false;
     }
     if m.clock < 1 {

@@ -1,6 +1,7 @@
 -- A whole store in words, how the model sees it, and a step of it.
 use Prim.Native.Nat.{ℕ, suc, _*_, _≤_, _<_}
 use mathlib.Core.Path.{_≡_}
+use mathlib.Core.Bool.{true}
 use mathlib.Core.List.{List, map}
 use lib.ListN.{length, getD, set}
 use Rattle.base_limits.specs.Limits.{mostLive, mostActive, mostIndexReads, mostWrites, mostRecords, mostRows}
@@ -11,6 +12,7 @@ use Rattle.base_protocol.specs.declared.Sizes.{Sizes}
 use Rattle.base_protocol.specs.View.{sizesView}
 use Rattle.table.specs.Fields.{rowWords, versionWords, bucketWords}
 use Rattle.table.specs.Lists.{listsWords}
+use Rattle.table_postings.specs.Links.{listsTell}
 use Rattle.txn.specs.View.{rowsPart, versionsPart, bucketsPart, chainsView, indexView, heldView, txnView}
 use Rattle.txn.specs.Methods.{idleOf}
 use Rattle.txn.specs.declared.Transaction.{Transaction}
@@ -96,3 +98,5 @@ pub record Sized (w : Words) : Type 0 where
   pub buckets : bucketWords * w .sizes .buckets ≤ length (w .tables .buckets)
   pub lists : listsWords ≤ length (w .tables .lists)
   pub txns : (i : ℕ) → i < mostLive → SizedTxn i (txnAt w i)
+  -- the lists of the buckets tell the postings
+  pub told : listsTell (record { rows = w .tables .rows; buckets = w .tables .buckets }) (w .sizes .rows) (w .sizes .buckets) ≡ true

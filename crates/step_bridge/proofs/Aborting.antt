@@ -24,7 +24,6 @@ use Rattle.model.specs.Machine.{gives, lentAfter, accepted, afterRefusal, carri
 use Rattle.model.specs.Machine as machine
 use Rattle.model.specs.Holding.{needs, Wants}
 use Rattle.model.proofs.Good.{Good, right-shape}
-use Rattle.model.proofs.Ranges.{good-sized}
 use Rattle.model.proofs.Written.{posted-old}
 use Rattle.base_protocol.specs.declared.Step.the-variants as ask
 use Rattle.base_protocol.specs.declared.Answer.{Answer}
@@ -44,13 +43,14 @@ use Rattle.table.specs.Fields.{rowWords, bucketWords, clearHolders, clearClaims
 use Rattle.finish_publish.specs.Publish.{neededIn, freedIn, abortOf}
 use Rattle.step.specs.Steps.{inAborted}
 use Rattle.step.specs.Words.{Words, view, txnAt, SizedTxn, Sized}
-use Rattle.step_bridge.proofs.Shaped.{Shaped, shaped}
+use Rattle.step_bridge.proofs.Shaped.{Shaped, shaped, count-pos}
 use Rattle.step_bridge.proofs.Places.{standing, sized-at, live-at}
 use Rattle.step_bridge.proofs.Placed.{idle-view, txns-set, sized-set}
 use Rattle.step_bridge.proofs.Same.{same-store, SameAt, Same, refused-same, by-place}
 use Rattle.step_bridge.proofs.Listing.{listed-all}
 use Rattle.step_bridge.proofs.Judging.{needs-length, read-in}
 use Rattle.step_bridge.proofs.Tabled.{InRange}
+use Rattle.step_bridge.proofs.Telling.{Tells, tells-kept}
 use Rattle.step_bridge.proofs.Freeing.{freed-release, clear-all, clear-other, clear-length}
 use Rattle.step_bridge.proofs.Needing.{rowNeeds, listedNeeds, row-in, pending-row, needed-listed}
 
@@ -118,9 +118,6 @@ module _ (w : Words) (p : ℕ) where
       ≡ clearHolders bs (txnAt w p .number) freedList
   unfolding freedIn neededIn
   freed-buckets z bs = ap (λ (hs : List ℕ). clearHolders bs (txnAt w p .number) hs) (listed-all 49 freedList (omega (arith, listed-few z)))
-
-pub count-pos : (w : Words) → Shaped w → 1 ≤ w .sizes .buckets
-count-pos w g = good-sized (view w .sizes) (g .sizes) .buckets-pos
 
 module _ (w : Words) (z : Sized w) (g : Shaped w) (p : ℕ) (l : 1 ≤ txnAt w p .number) where
   -- what is listed is in range
@@ -194,6 +191,14 @@ module _ (w : Words) where
     clear-other bucketWords 1 (omega arith) (w .sizes .buckets) n (w .tables .buckets) bs 0 (omega arith) (omega arith),
   )
 
+-- the lists tell as before
+pub abort-told : (w : Words) → Sized w → Shaped w → (n : ℕ) (rs bs : List ℕ)
+    → Tells w (clearClaims (w .tables .rows) n rs) (clearHolders (w .tables .buckets) n bs)
+abort-told w z g n rs bs =
+    tells-kept _ _ (w .sizes .rows) (w .sizes .buckets) (count-pos w g)
+    (λ k lo hi. clear-other rowWords 1 (omega arith) (w .sizes .rows) n (w .tables .rows) rs k hi (λ e. omega arith))
+    (clear-other bucketWords 1 (omega arith) (w .sizes .buckets) n (w .tables .buckets) bs 2 (omega arith) (omega arith)) (z .told)
+
 pub sized-idle : (p : ℕ) (t : Transaction) → SizedTxn p t → SizedTxn p (idleOf (t .slot))
 sized-idle p t s = record {
   slot = s .slot;
@@ -211,7 +216,8 @@ pub ended-at : (w : Words) → Sized w → (p : ℕ) → p < mostLive
     → clock ≡ clock′ → chainsView (rowsPart (sizesView (w .sizes)) rows) (versionsPart (sizesView (w .sizes)) (w .tables .versions)) (w .used) ≡ c
     → indexView (rowsPart (sizesView (w .sizes)) rows) (bucketsPart (sizesView (w .sizes)) buckets) ≡ x
     → heldView (rowsPart (sizesView (w .sizes)) rows) (bucketsPart (sizesView (w .sizes)) buckets) ≡ h
-    → length rows ≡ length (w .tables .rows) → length buckets ≡ length (w .tables .buckets) → a ≡ told o → w .tables .found ≡ lentAfter o (w .tables .found)
+    → length rows ≡ length (w .tables .rows) → length buckets ≡ length (w .tables .buckets) → Tells w rows buckets → a ≡ told o
+    → w .tables .found ≡ lentAfter o (w .tables .found)
     → SameAt w p (record {
       stepped = record { answer = a; txn = idleOf (txnAt w p .slot); clock = clock; used = w .used };
       rows = rows;
@@ -221,14 +227,14 @@ pub ended-at : (w : Words) → Sized w → (p : ℕ) → p < mostLive
       found = w .tables .found;
     })
     (gives (record { sizes = view w .sizes; clock = clock′; chains = c; index = x; held = h; txns = update (view w .txns) p model.noTxn }) o)
-ended-at w z p l rows buckets a o clock clock′ c x h e₁ e₂ e₃ e₄ r b t f =
+ended-at w z p l rows buckets a o clock clock′ c x h e₁ e₂ e₃ e₄ r b e₅ t f =
     let s = txnAt w p .slot in
     record {
       store = same-store _ _ refl e₁ e₂ e₃ e₄ (txns-set w z p l (w .tables .lists) (idleOf s) (λ j d. refl)
           ∙ ap (λ (y : model.Txn). update (view w .txns) p y) (idle-view (w .tables .lists) s));
       answer = t;
       lent = f;
-      sized = sized-set w z p l _ _ _ _ (sized-idle p (txnAt w p) (sized-at w z p)) r refl b refl;
+      sized = sized-set w z p l _ _ _ _ (sized-idle p (txnAt w p) (sized-at w z p)) r refl b refl e₅;
     }
 
 module _ (w : Words) (z : Sized w) (g : Good (view w)) (n : ℕ) where
@@ -253,7 +259,8 @@ module _ (w : Words) (z : Sized w) (g : Good (view w)) (n : ℕ) where
       let rs = writtenBy (w .tables .lists) t in
       ended-at w z q l _ _ tell.Done machine.Done (w .clock) (w .clock) _ _ _ refl (abort-chains w (t .number) rs)
       (abort-index w (t .number) rs (freedList w q)) (abort-held w z g q a (leb-false 5 (rank (phaseView (t .phase))) e))
-      (clear-length rowWords 1 (t .number) (w .tables .rows) rs) (clear-length bucketWords 1 (t .number) (w .tables .buckets) (freedList w q)) refl refl
+      (clear-length rowWords 1 (t .number) (w .tables .rows) rs) (clear-length bucketWords 1 (t .number) (w .tables .buckets) (freedList w q))
+      (abort-told w z (shaped w z (right-shape (view w) g)) (t .number) rs (freedList w q)) refl refl
 
   -- buckets and claims are freed, and the record ends
   pub abort-same : Same w (ask.Abort n)

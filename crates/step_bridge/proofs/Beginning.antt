@@ -151,7 +151,7 @@ module _ (w : Words) (z : Sized w) where
             ∙ ap (λ (y : model.Txn). update (view w .txns) (standing w 0) y) (begun-view l c (w .tables .lists) (txnAt w (standing w 0))));
         answer = refl;
         lent = refl;
-        sized = sized-set w z (standing w 0) l _ _ _ _ (begun-sized l) refl refl refl refl;
+        sized = sized-set w z (standing w 0) l _ _ _ _ (begun-sized l) refl refl refl refl (z .told);
       }
 
   moved-begin : (p : ℕ) → placeFor (w .txns) ask.Begin ≡ p → p < mostLive

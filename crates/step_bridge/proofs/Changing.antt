@@ -24,14 +24,14 @@ use Rattle.txn_needs.specs.declared.Keys.{Keys}
 use Rattle.txn_needs.specs.Keys.{keyOf, oldKeyOf, newKeyOf, isInstalled, keysOf, noKeys, sameKeys, changedKeys}
 use Rattle.txn_needs.specs.Needs.{bucketsFor, keysNeed, readsNeed, writtenBy, writeChanges}
 use Rattle.step.specs.Words.{Words, view, txnAt, Sized}
-use Rattle.step_bridge.proofs.Shaped.{Shaped, shaped}
+use Rattle.step_bridge.proofs.Shaped.{Shaped, shaped, count-pos}
 use Rattle.step_bridge.proofs.Places.{sized-at}
 use Rattle.step_bridge.proofs.Judging.{reads-need}
 use Rattle.step_bridge.proofs.Tabled.{InRange}
 use Rattle.step_bridge.proofs.Keyed.{new-key-same}
 use Rattle.step_bridge.proofs.Headed.{head-same, version-field, version-key, headed-same}
 use Rattle.step_bridge.proofs.Needing.{key-buckets, rowNeeds, listedNeeds, headed, row-in, row-pending, pending-row}
-use Rattle.step_bridge.proofs.Aborting.{join-few, needs-few, needs-in, count-pos, writes-few}
+use Rattle.step_bridge.proofs.Aborting.{join-few, needs-few, needs-in, writes-few}
 
 -- the rows that the words write, and what they stamp for one
 abbrev pub rowsOf : Words → ℕ → List ℕ

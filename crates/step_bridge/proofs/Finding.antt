@@ -79,7 +79,7 @@ module _ (w : Words) (z : Sized w) (g : Shaped w) where
               records = st .records-few;
               candidates = st .candidates-few;
             })
-            refl refl refl (h .long-same);
+            refl refl refl (h .long-same) (z .told);
       }
     where
       other : (j : ℕ) → j ≢ standing w n → txnView (left .lists) (txnAt w j) ≡ txnView (w .tables .lists) (txnAt w j)

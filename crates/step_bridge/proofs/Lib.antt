@@ -4,6 +4,7 @@ pub mod Same
 pub mod Writing
 pub mod Tabled
 pub mod Listing
+pub mod Telling
 pub mod Shaped
 pub mod Judging
 pub mod Capturing

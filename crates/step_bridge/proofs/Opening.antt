@@ -1,7 +1,7 @@
 -- Words in which nothing stands are the fresh store.
 -- Assumes nothing.
 use Prim.Native.Nat.{ℕ, zero, suc, _+_, _*_, _≤_}
-use mathlib.Core.Path.{_≡_, refl, sym, ap, subst, fun-ext}
+use mathlib.Core.Path.{_≡_, refl, sym, ap, subst, _∙_, fun-ext}
 use mathlib.Core.Bool.{true}
 use mathlib.Core.List.{List, []}
 use native.Mathlib.Nat.{add-zero, zero-add}
@@ -16,6 +16,8 @@ use Rattle.base_protocol.specs.View.{sizesView}
 use Rattle.table.specs.Words.{field}
 use Rattle.table.specs.Fields.{rowWords, versionWords, bucketWords}
 use Rattle.table.specs.Lists.{listsWords}
+use Rattle.table.proofs.Parts.{part-field}
+use Rattle.table_postings.proofs.Told.{told-tells, told-fresh}
 use Rattle.txn.specs.View.{rowsPart, versionsPart, bucketsPart}
 use Rattle.txn.specs.Methods.{idleOf}
 use Rattle.txn_places.specs.Places.{freePlaces, freeFrom}
@@ -82,6 +84,11 @@ module _ (w : Words) (o : Opened w) where
           records = omega arith;
           candidates = omega arith;
         });
+    told = told-tells _ (w .sizes .rows) (w .sizes .buckets) (told-fresh _ (w .sizes .rows) (w .sizes .buckets)
+        (λ r h. sym (part-field rowWords 2 (w .sizes .rows) (w .tables .rows) r (omega arith) h)
+        ∙ ap (λ (f : ℕ → ℕ). f r) (zero-field rowWords 2 rowsOf (o .rows-zero)))
+        (λ b h. sym (part-field bucketWords 2 (w .sizes .buckets) (w .tables .buckets) b (omega arith) h)
+        ∙ ap (λ (f : ℕ → ℕ). f b) (zero-field bucketWords 2 bucketsOf (o .buckets-zero))));
   }
 
   -- what they stand for

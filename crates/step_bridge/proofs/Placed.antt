@@ -2,6 +2,7 @@
 -- Assumes nothing.
 use Prim.Native.Nat.{ℕ, suc, _+_, _*_, _≤_, _<_}
 use mathlib.Core.Path.{_≡_, refl, sym, ap, _∙_, fun-ext}
+use mathlib.Core.Bool.{true}
 use mathlib.Core.Logic.{_≢_, inl, inr}
 use mathlib.Core.List.{List}
 use native.Mathlib.Nat.{mul-le-mul-left}
@@ -16,6 +17,7 @@ use Rattle.table.specs.Regions.{listOf}
 use Rattle.table.specs.Lists.{Kind, slotWords, startOf, listAt, reads, writes, records, candidates, readOf, writeOf, recordOf, candidateOf}
 use Rattle.table.proofs.Spans.{list-kept}
 use Rattle.table.proofs.Stored.{Within}
+use Rattle.table_postings.specs.Links.{listsTell}
 use Rattle.txn.specs.View.{txnView}
 use Rattle.txn.specs.Methods.{idleOf}
 use Rattle.txn.specs.declared.Transaction.{Transaction}
@@ -77,14 +79,16 @@ module _ (w : Words) (z : Sized w) (p : ℕ) (l : p < mostLive) where
   pub sized-set : (t : Transaction) (b : Tables) (clock used : ℕ) → SizedTxn p t → length (b .rows) ≡ length (w .tables .rows)
       → length (b .versions) ≡ length (w .tables .versions)
       → length (b .buckets) ≡ length (w .tables .buckets) → length (b .lists) ≡ length (w .tables .lists)
+      → listsTell (record { rows = b .rows; buckets = b .buckets }) (w .sizes .rows) (w .sizes .buckets) ≡ true
       → Sized (record { tables = b; txns = set (w .txns) p t; sizes = w .sizes; clock = clock; used = used })
-  sized-set t b clock used h r v c d = record {
+  sized-set t b clock used h r v c d e = record {
     eight = length-set (w .txns) p t ∙ z .eight;
     rows = rw r (z .rows);
     versions = rw v (z .versions);
     buckets = rw c (z .buckets);
     lists = rw d (z .lists);
     txns = λ i k. by i (ℕ-discrete i p);
+    told = e;
   }
     where
       by : (i : ℕ) → Dec (i ≡ p) → SizedTxn i (getD (set (w .txns) p t) i (idleOf i))

@@ -39,11 +39,12 @@ use Rattle.finish_install.specs.Install as install
 use Rattle.finish_install.specs.Install.{lastWriteOf, versionStored, pushedRow, pushedRows, toInstall, installOf}
 use Rattle.step.specs.Steps.{inInstalled}
 use Rattle.step.specs.Words.{Words, view, txnAt, Sized}
-use Rattle.step_bridge.proofs.Shaped.{Shaped}
+use Rattle.step_bridge.proofs.Shaped.{Shaped, count-pos}
 use Rattle.step_bridge.proofs.Places.{standing, sized-at, live-at}
 use Rattle.step_bridge.proofs.Placed.{txns-set, sized-set}
 use Rattle.step_bridge.proofs.Same.{same-store, SameAt, Same, refused-same, later-tests, by-place}
 use Rattle.step_bridge.proofs.Tabled.{part, part-update, part-other, InRange}
+use Rattle.step_bridge.proofs.Telling.{Tells, tells-kept}
 use Rattle.step_bridge.proofs.Writing.{sized-phase}
 use Rattle.step_bridge.proofs.Needing.{headed, rows-most, writes-in, row-in, pending-row}
 use Rattle.step_bridge.proofs.Distinct.{versions-front}
@@ -91,12 +92,12 @@ module _ (xs : List ℕ) (t : Transaction) where
   all-versions-length [] c = refl
   all-versions-length (r ∷ rs) c = all-versions-length rs (pushedRow c xs t r) ∙ pushed-versions-length c r
 
-  one-row-other : (m k : ℕ) → k < 4 → k ≢ 0 → (c : install.Chains) (r : ℕ)
+  one-row-other : (m k : ℕ) → k < rowWords → k ≢ 0 → (c : install.Chains) (r : ℕ)
       → field rowWords k (part rowWords m (pushedRow c xs t r .rows)) ≡ field rowWords k (part rowWords m (c .rows))
   unfolding pushedRow
   one-row-other m k h d c r = part-other rowWords 0 m (c .rows) r (oneMore (c .used)) k h (omega arith) d
 
-  pub all-rows-other : (m k : ℕ) → k < 4 → k ≢ 0 → (rs : List ℕ) (c : install.Chains)
+  pub all-rows-other : (m k : ℕ) → k < rowWords → k ≢ 0 → (rs : List ℕ) (c : install.Chains)
       → field rowWords k (part rowWords m (pushedRows c xs t rs .rows)) ≡ field rowWords k (part rowWords m (c .rows))
   unfolding pushedRows
   all-rows-other m k h d [] c = refl
@@ -198,6 +199,14 @@ module _ (w : Words) (z : Sized w) (g : Shaped w) (n : ℕ) (l : standing w n < 
       rw (all-rows-other (w .tables .lists) t (w .sizes .rows) 1 (omega arith) (omega arith)
       (versionRows (view w .sizes) (view w .chains) (view w .txns (standing w n) .writes)) (chainsIn w))
 
+  -- the lists tell as before
+  install-told : Tells w (after-rows w (standing w n) .rows) (w .tables .buckets)
+  install-told =
+      let t = txnAt w (standing w n) in
+      let ps = versionRows (view w .sizes) (view w .chains) (view w .txns (standing w n) .writes) in
+      tells-kept _ _ (w .sizes .rows) (w .sizes .buckets) (count-pos w g)
+      (λ k lo hi. all-rows-other (w .tables .lists) t (w .sizes .rows) k hi (λ e. omega arith) ps (chainsIn w)) refl (z .told)
+
   installed-at : (b : Bool) → not (eqb (rank (phaseView (txnAt w (standing w n) .phase))) phasePrepared) ≡ b
       → SameAt w (standing w n)
       (inInstalled
@@ -229,7 +238,7 @@ module _ (w : Words) (z : Sized w) (g : Shaped w) (n : ℕ) (l : standing w n < 
         lent = refl;
         sized = sized-set w z q l _ _ _ _ (sized-phase q t phase.Installed (sized-at w z q))
             (all-rows-length (w .tables .lists) t ps (chainsIn w))
-            (all-versions-length (w .tables .lists) t ps (chainsIn w)) refl refl;
+            (all-versions-length (w .tables .lists) t ps (chainsIn w)) refl refl install-told;
       }
 
   installed-place : SameAt w (standing w n) (inInstalled (installOf (chainsIn w) (w .tables .lists) (txnAt w (standing w n))) (w .clock) (w .tables))

@@ -16,6 +16,7 @@ use Rattle.model.specs.Store.{bucketIn}
 use Rattle.model.specs.Seeing.{live}
 use Rattle.model.specs.Refusals.{liveCount, reserved}
 use Rattle.model.specs.Shape.{within, goodSizes, goodChains, goodCounts, goodRanges, goodHeads, goodTxn, distinctNumbers, rightShape}
+use Rattle.model.proofs.Ranges.{good-sized}
 use Rattle.table.specs.Fields.{rowWords}
 use Rattle.table.proofs.Parts.{part-past}
 use Rattle.txn.specs.Methods.{idleOf}
@@ -140,3 +141,7 @@ module _ (w : Words) (z : Sized w) (e : rightShape (view w) ≡ true) where
     versions-left = leb-true _ (w .sizes .versions) room;
     in-store = live-in;
   }
+
+-- there is a bucket
+pub count-pos : (w : Words) → Shaped w → 1 ≤ w .sizes .buckets
+count-pos w g = good-sized (view w .sizes) (g .sizes) .buckets-pos

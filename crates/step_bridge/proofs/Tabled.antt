@@ -1,7 +1,7 @@
 -- Fields set in the part of a table that its size names, one or all of a list: the model's `update`, `updateAll` and `release`.
 -- Assumes nothing.
 use Prim.Native.Nat.{ℕ, _*_, _≤_, _<_}
-use mathlib.Core.Path.{_≡_, refl, ap, _∙_, fun-ext}
+use mathlib.Core.Path.{_≡_, refl, sym, ap, _∙_, fun-ext}
 use mathlib.Core.Bool.{Bool, true, false, cond, _||_}
 use mathlib.Core.Logic.{_≢_, inl, inr}
 use mathlib.Core.List.{List, [], _∷_}
@@ -13,7 +13,7 @@ use Rattle.base_lists.specs.Lists.{member, Among}
 use Rattle.base_lists.specs.Table.{update, updateAll}
 use Rattle.table.specs.Words.{field, setField, setFields}
 use Rattle.table.proofs.Laws.{below, field-update, field-kept, field-length}
-use Rattle.table.proofs.Parts.{part-set, part-kept}
+use Rattle.table.proofs.Parts.{part-field, part-past, part-set, part-kept}
 
 -- the first n entries of a table, w words each
 abbrev pub part : ℕ → ℕ → List ℕ → List ℕ
@@ -26,6 +26,13 @@ module _ (w k n : ℕ) (xs : List ℕ) (i v : ℕ) where
   pub part-other : (m : ℕ) → m < w → k < w → m ≢ k → field w m (part w n (setField w k xs i v)) ≡ field w m (part w n xs)
   part-other m hm hk d = elim (decLt i n)
       [ yes h ↦ rw (part-set w k n xs i v hk h) (field-kept w k (part w n xs) i v m hm hk d) | no h ↦ rw (part-kept w k n xs i v (omega (arith, h))) ]
+
+-- a field that stays stays in the part
+pub part-same : (w k n : ℕ) (xs ys : List ℕ) → k < w → field w k xs ≡ field w k ys → field w k (part w n xs) ≡ field w k (part w n ys)
+part-same w k n xs ys hk e = fun-ext λ i. elim (decLt i n) [
+  | yes h ↦ part-field w k n xs i hk h ∙ (ap (λ (f : ℕ → ℕ). f i) e ∙ sym (part-field w k n ys i hk h))
+  | no h ↦ part-past w k n xs i (omega (arith, h)) ∙ sym (part-past w k n ys i (omega (arith, h)))
+]
 
 -- one entry, and then all of a list
 update-all : (f : ℕ → ℕ) (i v : ℕ) (is : List ℕ) → updateAll (update f i v) is v ≡ updateAll f (i ∷ is) v

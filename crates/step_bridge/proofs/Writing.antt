@@ -84,7 +84,7 @@ module _ (w : Words) (z : Sized w) (n : ℕ) (l : standing w n < mostLive) where
     answer = refl;
     lent = refl;
     sized = sized-set w z (standing w n) l _ _ _ _ (sized-phase (standing w n) (txnAt w (standing w n)) phase.Ended (sized-at w z (standing w n))) refl
-        refl refl refl;
+        refl refl refl (z .told);
   }
 
 -- one pending write more
@@ -127,7 +127,7 @@ module _ (w : Words) (z : Sized w) (p : ℕ) (l : p < mostLive) (x : Write) (a :
               writes = omega arith;
               records = s .records;
               candidates = s .candidates;
-            }) refl refl refl (length-sets (w .tables .lists) _ (writeWords x));
+            }) refl refl refl (length-sets (w .tables .lists) _ (writeWords x)) (z .told);
       })
 
 -- the number stops being active

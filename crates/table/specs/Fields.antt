@@ -5,7 +5,7 @@ use Rattle.table.specs.Words.{field, setField, setFields, clearField, cl
 
 -- a row, from 0 up
 abbrev pub rowWords : ℕ
-rowWords = 4
+rowWords = 5
 
 -- the newest version's pointer, 0 for none
 abbrev pub headOf : List ℕ → ℕ → ℕ
@@ -48,6 +48,13 @@ postedKeyOf = field rowWords 3
 
 abbrev pub setPostedKey : List ℕ → ℕ → ℕ → List ℕ
 setPostedKey = setField rowWords 3
+
+-- the row behind it in the list of its posting's bucket, by its number and 1; 0 for none
+abbrev pub laterOf : List ℕ → ℕ → ℕ
+laterOf = field rowWords 4
+
+abbrev pub setLater : List ℕ → ℕ → ℕ → List ℕ
+setLater = setField rowWords 4
 
 -- a version, at its pointer: entry 0 is not used
 abbrev pub versionWords : ℕ
@@ -97,7 +104,7 @@ setPayload = setField versionWords 5
 
 -- a bucket, from 0 up
 abbrev pub bucketWords : ℕ
-bucketWords = 2
+bucketWords = 3
 
 -- the stamp of the last change to the bucket's postings
 abbrev pub stampOf : List ℕ → ℕ → ℕ
@@ -130,3 +137,10 @@ clearHolders = clearFields bucketWords 1
 
 abbrev pub releaseEvery : List ℕ → ℕ → ℕ → List ℕ
 releaseEvery = clearEvery bucketWords 1
+
+-- the first row of the bucket's list, by its number and 1; 0 for none
+abbrev pub firstOf : List ℕ → ℕ → ℕ
+firstOf = field bucketWords 2
+
+abbrev pub setFirst : List ℕ → ℕ → ℕ → List ℕ
+setFirst = setField bucketWords 2

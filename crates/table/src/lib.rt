@@ -5,16 +5,17 @@ ghost use lib.ListN.{getD, set, take};
 ghost use Rattle.table.specs.Words.{field, setField, setFields, clearField, clearEvery};
 ghost use Rattle.table.specs.Fields.{xminOf, setXmin, xmaxOf, setXmax, nextOf, setNext, keyedOf, setKeyed, keyOf, setKey, payloadOf, setPayload};
 ghost use Rattle.table.specs.Fields.{headOf, setHead, claimOf, setClaim, unclaimed, unclaimEvery, postedOf, setPosted, postedKeyOf, setPostedKey};
-ghost use Rattle.table.specs.Fields.{stampOf, setStamp, setStamps, holderOf, setHolder, setHolders, released, releaseEvery};
+ghost use Rattle.table.specs.Fields.{laterOf, setLater};
+ghost use Rattle.table.specs.Fields.{stampOf, setStamp, setStamps, holderOf, setHolder, setHolders, released, releaseEvery, firstOf, setFirst};
 
 pub mod lists; // lists.rt: the lists of a transaction, in its slot
 
 // How many words a row's entry has, a version's and a bucket's.
-pub const ROW_WORDS: usize = 4;
+pub const ROW_WORDS: usize = 5;
 
 pub const VERSION_WORDS: usize = 6;
 
-pub const BUCKET_WORDS: usize = 2;
+pub const BUCKET_WORDS: usize = 3;
 
 // Where the words of a row's entry stand in it.
 pub const HEAD: usize = 0;
@@ -24,6 +25,8 @@ pub const CLAIM: usize = 1;
 pub const POSTED: usize = 2;
 
 pub const POSTED_KEY: usize = 3;
+
+pub const LATER: usize = 4;
 
 // Of a version's.
 pub const XMIN: usize = 0;
@@ -42,6 +45,8 @@ pub const PAYLOAD: usize = 5;
 pub const STAMP: usize = 0;
 
 pub const HOLDER: usize = 1;
+
+pub const FIRST: usize = 2;
 
 // The word at `at`, or 0.
 pub fn word(xs: &[u64], at: usize) -> u64
@@ -119,7 +124,7 @@ fn clear_every(xs: &mut [u64], w: usize, k: usize, n: u64, v: u64)
     }
 }
 
-// Rows: head, claim, posted, posted key.
+// Rows: head, claim, posted, posted key, later.
 pub fn head_at(rows: &[u64], r: usize) -> u64
     ensures { λ x. ⌜ x ≡ headOf (now (rows .entry)) r ⌝ }
 {
@@ -180,6 +185,18 @@ pub fn set_posted_key(rows: &mut [u64], r: usize, x: u64)
     ensures { λ _. ⌜ now (rows .exit) ≡ setPostedKey (now (rows .entry)) r x ⌝ }
 {
     set_field(rows, ROW_WORDS, POSTED_KEY, r, x);
+}
+
+pub fn later_at(rows: &[u64], r: usize) -> u64
+    ensures { λ x. ⌜ x ≡ laterOf (now (rows .entry)) r ⌝ }
+{
+    field_at(rows, ROW_WORDS, LATER, r)
+}
+
+pub fn set_later(rows: &mut [u64], r: usize, x: u64)
+    ensures { λ _. ⌜ now (rows .exit) ≡ setLater (now (rows .entry)) r x ⌝ }
+{
+    set_field(rows, ROW_WORDS, LATER, r, x);
 }
 
 // Versions: xmin, xmax, next, keyed, key, payload.
@@ -255,7 +272,7 @@ pub fn set_payload(versions: &mut [u64], p: usize, x: u64)
     set_field(versions, VERSION_WORDS, PAYLOAD, p, x);
 }
 
-// Buckets: stamp, holder.
+// Buckets: stamp, holder, first.
 pub fn stamp_at(buckets: &[u64], b: usize) -> u64
     ensures { λ x. ⌜ x ≡ stampOf (now (buckets .entry)) b ⌝ }
 {
@@ -306,4 +323,16 @@ pub fn release_every(buckets: &mut [u64], bucket_count: u64, number: u64)
     ensures { λ _. ⌜ now (buckets .exit) ≡ releaseEvery (now (buckets .entry)) «bucket_count» number ⌝ }
 {
     clear_every(buckets, BUCKET_WORDS, HOLDER, bucket_count, number);
+}
+
+pub fn first_at(buckets: &[u64], b: usize) -> u64
+    ensures { λ x. ⌜ x ≡ firstOf (now (buckets .entry)) b ⌝ }
+{
+    field_at(buckets, BUCKET_WORDS, FIRST, b)
+}
+
+pub fn set_first(buckets: &mut [u64], b: usize, x: u64)
+    ensures { λ _. ⌜ now (buckets .exit) ≡ setFirst (now (buckets .entry)) b x ⌝ }
+{
+    set_field(buckets, BUCKET_WORDS, FIRST, b, x);
 }

@@ -1,47 +1,21 @@
--- How a pick and a run of stores go in pieces, and which rows are not posted.
+-- What a turn of the walk over a list keeps, and the link behind a place.
 -- Assumes nothing.
-use Prim.Native.Nat.{ℕ, zero, suc, _+_, _-_, _*_, _≤_, _<_}
-use mathlib.Core.Path.{_≡_, refl, sym, _∙_}
+use Prim.Native.Nat.{ℕ, zero, suc, _+_, _-_, _≤_, _<_}
+use mathlib.Core.Path.{_≡_, refl, sym, ap, _∙_}
 use mathlib.Core.List.{List, [], _∷_, _++_}
-use mathlib.Core.Bool.{Bool, true, false, cond, _||_, and-false}
+use mathlib.Core.Bool.{Bool, true, false, cond}
+use mathlib.Core.Logic.{_≢_}
 use native.Mathlib.Nat.{add-zero, zero-add}
-use native.Mathlib.Decide.{ℕ-discrete}
 use native.Mathlib.Omega.{arith}
-use lib.Dec.{eqb}
-use lib.ListN.{length, set, length-append, List·getD-eq-default}
+use borrow.Author.Tests.{lt-ltb}
+use lib.ListN.{length, set, length-append}
 use lib.Seq.{sets}
-use Rattle.base_lists.specs.Lists.{pick}
-use Rattle.base_lists.proofs.ListLaws.{or-l, or-r, pick-same, pick-none, pick-few}
-use Rattle.table.specs.Words.{field}
-use Rattle.table.specs.Fields.{rowWords, postedKeyOf}
+use Rattle.table.specs.Fields.{setPosted, setPostedKey, laterOf, setLater, firstOf, setFirst}
 use Rattle.table.specs.Lists.{candidates, placeOf}
-use Rattle.table_postings.specs.Postings.{Kept, postedWith, postedFrom, anyKeyed, keptIn, keepAll}
-
--- numbers in two runs, the second behind the first
-pick-pieces : (test : ℕ → Bool) (k m n : ℕ) → pick test k (m + n) ≡ pick test k m ++ pick test (k + m) n
-unfolding pick
-pick-pieces test k zero n = rw (add-zero k, zero-add)
-pick-pieces test k (suc m) n = rw (f, pick-pieces test (suc k) m n, ← e) (by (test k))
-  where
-    e : k + suc m ≡ suc k + m
-    e = omega arith
-
-    f : suc m + n ≡ suc (m + n)
-    f = omega arith
-
-    by : (b : Bool) → cond b (k ∷ (pick test (suc k) m ++ pick test (k + suc m) n)) (pick test (suc k) m ++ pick test (k + suc m) n)
-        ≡ cond b (k ∷ pick test (suc k) m) (pick test (suc k) m) ++ pick test (k + suc m) n
-    by true = refl
-    by false = refl
-
--- one number
-pick-one : (test : ℕ → Bool) (k : ℕ) → pick test k 1 ≡ cond (test k) (k ∷ []) []
-unfolding pick
-pick-one test k = refl
-
--- none, where the test fails at each
-none-picked : (test : ℕ → Bool) (k n : ℕ) → ((r : ℕ) → k ≤ r → r < k + n → test r ≡ false) → pick test k n ≡ []
-none-picked test k n f = pick-same test (λ r. false) k n f ∙ pick-none (λ r. false) k n (λ r. refl)
+use Rattle.table_postings.specs.Postings.{postedWith, follow, keyedOf, keptIn}
+use Rattle.table_postings.specs.Links.{Tables, linkAt, setLink, lastPlace, staysListed, takenOut, putIn, reposted}
+use Rattle.table_postings.specs.Keeping.{Kept, keepAll}
+use Rattle.table_postings.proofs.Following.{follow-back, follow-past, follow-next}
 
 -- a run of stores in two
 sets-pieces : (xs : List ℕ) (at : ℕ) (us vs : List ℕ) → sets xs at (us ++ vs) ≡ sets (sets xs at us) (at + length us) vs
@@ -58,85 +32,108 @@ keep-pieces slot us vs st =
     let n : st .n + length us + length vs ≡ st .n + (length us + length vs) = omega arith in
     rw (length-append, sets-pieces, ← at, n)
 
--- rows that are not posted with a key
-module _ (rows : List ℕ) (key : ℕ) where
-  keyed : ℕ → Bool
-  keyed r = eqb (postedKeyOf rows r) key
+-- of a list those posted with the key: the first, where it is, and those of the rest
+keyed-next : (rows : List ℕ) (key r : ℕ) (rs : List ℕ)
+    → keyedOf rows key (r ∷ rs) ≡ cond (postedWith rows key r) (r ∷ []) [] ++ keyedOf rows key rs
+unfolding keyedOf
+keyed-next rows key r rs = by (postedWith rows key r)
+  where
+    by : (t : Bool) → cond t (r ∷ keyedOf rows key rs) (keyedOf rows key rs) ≡ cond t (r ∷ []) [] ++ keyedOf rows key rs
+    by true = refl
+    by false = refl
 
-  -- none of four rows has the key
-  unkeyed : (r : ℕ) → anyKeyed rows key r ≡ false → (q : ℕ) → r ≤ q → q < r + 4 → eqb (postedKeyOf rows q) key ≡ false
-  unfolding keyed
-  unkeyed r e q h k =
-      let three = or-l ((keyed r || keyed (r + 1)) || keyed (r + 2)) (keyed (r + 3)) e in
-      let two = or-l (keyed r || keyed (r + 1)) (keyed (r + 2)) three in
-      elim (ℕ-discrete q r) [
-        | yes d ↦ rw d (or-l (keyed r) (keyed (r + 1)) two)
-        | no a ↦ elim (ℕ-discrete q (r + 1)) [
-          | yes d ↦ rw d (or-r (keyed r) (keyed (r + 1)) two)
-          | no b ↦ elim (ℕ-discrete q (r + 2)) [
-            | yes d ↦ rw d (or-r (keyed r || keyed (r + 1)) (keyed (r + 2)) three)
-            | no c ↦ let d : q ≡ r + 3 = omega (arith, a, b, c) in rw d (or-r ((keyed r || keyed (r + 1)) || keyed (r + 2)) (keyed (r + 3)) e)
-          ]
-        ]
-      ]
+-- what a link leads to, of the rows from a place up to most, posted with the key
+abbrev pub leftOf : List ℕ → ℕ → ℕ → ℕ → ℕ → List ℕ
+leftOf rows key link place most = keyedOf rows key (follow rows link place (most - place))
 
-  -- a row past the table is not posted
-  posted-past : (q : ℕ) → length rows ≤ rowWords * q → postedWith rows key q ≡ false
-  unfolding field
-  posted-past q h = rw (List·getD-eq-default rows 0 {n = rowWords * q + 2} (omega arith))
+module _ (rows : List ℕ) (key slot link place most : ℕ) (st : Kept) where
+  -- a turn: the row that the link names is kept where it is posted with the key, and then what its own link leads to
+  pub keep-turn : (after : Kept) (posted : Bool) → place < link → link ≤ most → posted ≡ postedWith rows key (link - 1)
+      → after ≡ keepAll slot (cond posted ((link - 1) ∷ []) []) st
+      → keepAll slot (leftOf rows key link place most) st ≡ keepAll slot (leftOf rows key (laterOf rows (link - 1)) link most) after
+  keep-turn after posted h u p e =
+      let rest : place + (most - place) - link ≡ most - link = omega arith in
+      rw (follow-next rows link place (most - place) h (omega arith), rest, keyed-next, ← p, e)
+      (sym (keep-pieces slot (cond posted ((link - 1) ∷ []) []) (leftOf rows key (laterOf rows (link - 1)) link most) st))
 
--- a run of rows posted with a key, from r on
-module _ (rows : List ℕ) (key slot : ℕ) (st : Kept) (r : ℕ) where
-  -- none yet
-  pub keep-none : st ≡ keepAll slot (postedFrom rows key r r) st
-  unfolding pick
-  keep-none = let e : r - r ≡ 0 = omega arith in rw (e, add-zero)
+  -- the end of the list: its link leads back, or past the rows
+  pub keep-back : link ≤ place → keepAll slot (leftOf rows key link place most) st ≡ st
+  unfolding keyedOf
+  keep-back h = rw (follow-back rows link place (most - place) h, add-zero)
 
-  -- up to m, and then up to n
-  keep-on : (m n : ℕ) → r ≤ m → m ≤ n → keepAll slot (postedFrom rows key m n) (keepAll slot (postedFrom rows key r m) st)
-      ≡ keepAll slot (postedFrom rows key r n) st
-  keep-on m n h k =
-      let whole : n - r ≡ (m - r) + (n - m) = omega arith in
-      let at : r + (m - r) ≡ m = omega arith in
-      keep-pieces slot (postedFrom rows key r m) (postedFrom rows key m n) st ∙ rw (whole, pick-pieces, at)
+  pub keep-past : place ≤ most → most < link → keepAll slot (leftOf rows key link place most) st ≡ st
+  unfolding keyedOf
+  keep-past l h = rw (follow-past rows link place (most - place) (omega arith), add-zero)
 
-  -- the same of what stands kept before and after
-  pub keep-after : (m n : ℕ) (before after : Kept) → r ≤ m → m ≤ n → before ≡ keepAll slot (postedFrom rows key r m) st
-      → after ≡ keepAll slot (postedFrom rows key m n) before → after ≡ keepAll slot (postedFrom rows key r n) st
-  keep-after m n before after h k e f = f ∙ rw e (keep-on m n h k)
+-- a turn keeps one row at most
+pub keep-few : (slot r : ℕ) (posted : Bool) (before after : Kept) → after ≡ keepAll slot (cond posted (r ∷ []) []) before → after .n ≤ before .n + 1
+keep-few slot r true before after e = rw e (omega arith)
+keep-few slot r false before after e = rw e (omega arith)
 
-  -- one row more
-  pub keep-next : (row : ℕ) (before after : Kept) (posted : Bool) → r ≤ row → before ≡ keepAll slot (postedFrom rows key r row) st
-      → posted ≡ postedWith rows key row → after ≡ keepAll slot (cond posted (row ∷ []) []) before
-      → after ≡ keepAll slot (postedFrom rows key r (row + 1)) st
-  keep-next row before after posted h e p f =
-      let one : row + 1 - row ≡ 1 = omega arith in
-      keep-after row (row + 1) before after h (omega arith) e (f ∙ rw (p, one, pick-one))
+-- all that was kept, as the contract has it
+pub kept-all : (rows : List ℕ) (key slot first most : ℕ) (lists : List ℕ) (st : Kept)
+    → keepAll slot (leftOf rows key first 0 most) (record { n = 0; lists = lists }) ≡ st
+    → let rs = keyedOf rows key (follow rows first 0 most) in (st .n ≡ length rs) × (st .lists ≡ keptIn lists slot rs)
+kept-all rows key slot first most lists st e =
+    let whole : most - 0 ≡ most = omega arith in
+    rw (← e, whole, zero-add) (refl, refl)
 
-  -- no more rows are kept than were looked at
-  pub keep-few : (m : ℕ) (after : Kept) → after ≡ keepAll slot (postedFrom rows key r m) st → after .n ≤ st .n + (m - r)
-  keep-few m after e = rw e (omega (arith, pick-few (postedWith rows key) r (m - r)))
+-- the link behind a place: the bucket's word before the first row, and a row's own behind it
+pub link-first : (x : Tables) (b p : ℕ) → p ≡ 0 → linkAt x b p ≡ firstOf (x .buckets) b
+unfolding linkAt
+link-first x b zero e = refl
+link-first x b (suc p) e = absurd (omega arith)
 
-  -- none of four, where none has the key
-  pub keep-unkeyed : anyKeyed rows key r ≡ false → st ≡ keepAll slot (postedFrom rows key r (r + 4)) st
-  keep-unkeyed e = rw (none-picked (postedWith rows key) r (r + 4 - r) (λ q h k. rw (unkeyed rows key r e q h (omega arith), and-false)), add-zero)
+pub link-later : (x : Tables) (b p : ℕ) → p ≢ 0 → linkAt x b p ≡ laterOf (x .rows) (p - 1)
+unfolding linkAt
+link-later x b zero d = absurd (d refl)
+link-later x b (suc p) d = let e : suc p - 1 ≡ p = omega arith in rw e
 
-  -- none past the table
-  keep-past : (m n : ℕ) → r ≤ m → m ≤ n → length rows ≤ rowWords * m
-      → keepAll slot (postedFrom rows key r m) st ≡ keepAll slot (postedFrom rows key r n) st
-  keep-past m n h k l =
-      let none = none-picked (postedWith rows key) m (n - m) (λ q i j. posted-past rows key q (omega arith)) in
-      sym (sym (keep-on m n h k) ∙ rw (none, add-zero))
+-- the same, stored
+pub set-link-first : (x : Tables) (b p v : ℕ) → p ≡ 0 → setLink x b p v ≡ record { rows = x .rows; buckets = setFirst (x .buckets) b v }
+unfolding setLink
+set-link-first x b zero v e = refl
+set-link-first x b (suc p) v e = absurd (omega arith)
 
-  -- the row that the end of the table cuts, and none past it
-  pub keep-cut : (row n : ℕ) (before after : Kept) (posted : Bool) → r ≤ row → row < n → length rows ≤ rowWords * (row + 1)
-      → before ≡ keepAll slot (postedFrom rows key r row) st → posted ≡ postedWith rows key row
-      → after ≡ keepAll slot (cond posted (row ∷ []) []) before → after ≡ keepAll slot (postedFrom rows key r n) st
-  keep-cut row n before after posted h k l e p f =
-      keep-next row before after posted h e p f ∙ keep-past (row + 1) n (omega arith) (omega arith) l
+pub set-link-later : (x : Tables) (b p v : ℕ) → p ≢ 0 → setLink x b p v ≡ record { rows = setLater (x .rows) (p - 1) v; buckets = x .buckets }
+unfolding setLink
+set-link-later x b zero v d = absurd (d refl)
+set-link-later x b (suc p) v d = let e : suc p - 1 ≡ p = omega arith in rw e
 
--- all rows below a count, as the contract has them
-pub kept-all : (rows : List ℕ) (key slot most : ℕ) (lists : List ℕ) (st : Kept)
-    → st ≡ keepAll slot (postedFrom rows key 0 most) (record { n = 0; lists = lists })
-    → (st .n ≡ length (pick (postedWith rows key) 0 most)) × (st .lists ≡ keptIn lists slot (pick (postedWith rows key) 0 most))
-kept-all rows key slot most lists st e = let z : most - 0 ≡ most = omega arith in rw (e, z, zero-add) (refl, refl)
+-- a row that leaves its list: taken out, posted anew, put in again
+pub moved : (x : Tables) (bucketCount r keyed key : ℕ) (out : Tables) (rows : List ℕ) (after : Tables) → r < length (x .rows)
+    → staysListed (x .rows) bucketCount r keyed key ≡ false → out ≡ takenOut x bucketCount r
+    → rows ≡ setPostedKey (setPosted (out .rows) r keyed) r key
+    → after ≡ putIn (record { rows = rows; buckets = out .buckets }) bucketCount r keyed key → after ≡ reposted x bucketCount r keyed key
+unfolding reposted
+moved x bucketCount r keyed key out rows after h s t p a = rw (lt-ltb r (length (x .rows)) h, s) (a ∙ rw (p, t))
+
+-- the last place of what a link leads to, of the rows from a place up to most
+abbrev pub lastOf : List ℕ → ℕ → ℕ → ℕ → ℕ
+lastOf rows link place most = lastPlace place (follow rows link place (most - place))
+
+module _ (rows : List ℕ) (link place most : ℕ) where
+  -- a turn of the walk: the place of the row that the link names
+  pub last-turn : place < link → link ≤ most → lastOf rows link place most ≡ lastOf rows (laterOf rows (link - 1)) link most
+  unfolding lastPlace
+  last-turn h u =
+      let rest : place + (most - place) - link ≡ most - link = omega arith in
+      let at : suc (link - 1) ≡ link = omega arith in
+      rw (follow-next rows link place (most - place) h (omega arith), rest)
+      (ap (λ (p : ℕ). lastPlace p (follow rows (laterOf rows (link - 1)) link (most - link))) at)
+
+  pub last-back : link ≤ place → lastOf rows link place most ≡ place
+  unfolding lastPlace
+  last-back h = rw (follow-back rows link place (most - place) h)
+
+  pub last-past : place ≤ most → most < link → lastOf rows link place most ≡ place
+  unfolding lastPlace
+  last-past l h = rw (follow-past rows link place (most - place) (omega arith))
+
+-- a turn leaves fewer rows
+pub turn-less : (link place most : ℕ) → place < link → link ≤ most → most - link < most - place
+turn-less link place most h u = omega arith
+
+-- the place that the walk comes to, as the contract has it
+pub last-all : (rows : List ℕ) (first most place : ℕ) → lastOf rows first 0 most ≡ place → place ≡ lastPlace 0 (follow rows first 0 most)
+last-all rows first most place e = let whole : most - 0 ≡ most = omega arith in sym (rw (← e, whole))

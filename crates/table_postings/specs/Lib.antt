@@ -1,1 +1,3 @@
 pub mod Postings
+pub mod Links
+pub mod Keeping

@@ -8,6 +8,7 @@ use Rattle.base_limits.specs.Limits.{mostActive, mostIndexReads, mostWrites}
 use Rattle.model.specs.Store.{rank, phaseOpen, phaseHolding, phaseCollected, phasePrepared, phaseInstalled, phaseEnded, bucketIn, keyIn}
 use Rattle.model.specs.Refusals.{WrongPhase, NoRow, Taken, Marked, ManyReads, ManyWrites, Stale, refusalNumber}
 use Rattle.base_protocol.specs.declared.Answer.the-variants as tell
+use Rattle.base_protocol.specs.declared.Sizes.{Sizes}
 use Rattle.table.specs.Fields.{stampOf, holderOf, setHolder}
 use Rattle.table.specs.Lists.{reads, writes, stored}
 use Rattle.table.specs.declared.lists.Write.{Write}
@@ -15,7 +16,7 @@ use Rattle.table_scans.specs.Scans.{readPrefix}
 use Rattle.table_scans.specs.declared.Found.{Found}
 use Rattle.table_scans.specs.declared.Found.the-variants.{At, Nothing}
 use Rattle.table_buckets.specs.Buckets.{precedes}
-use Rattle.table_postings.specs.Postings.{postedUpTo, keptIn}
+use Rattle.table_postings.specs.Postings.{listedWith, keptIn}
 use Rattle.txn.specs.declared.Phase.{Phase}
 use Rattle.txn.specs.declared.Phase.the-variants as phase
 use Rattle.txn.specs.declared.Transaction.{Transaction}
@@ -224,8 +225,9 @@ collectedLeft t b k rs buckets lists =
     left (record { answer = tell.Count (length rs); txn = withCandidates (withPhase t (phase.Collected k)) (length rs) }) (setHolder buckets b 0)
     (keptIn lists (t .slot) rs)
 
--- wrong phase; else the posted rows are kept and the bucket is free
-unfoldable pub collectOf : Transaction → List ℕ → List ℕ → List ℕ → ℕ → Left
-collectOf t rows buckets lists n =
+-- wrong phase; else of the list of the key's bucket the rows posted with the key are kept, and the bucket that the phase carries is free
+unfoldable pub collectOf : Transaction → List ℕ → List ℕ → List ℕ → Sizes → Left
+collectOf t rows buckets lists z =
     cond (not (eqb (rank (phaseView (t .phase))) phaseHolding)) (left (refusedOf t (refusalNumber WrongPhase)) buckets lists)
-    (collectedLeft t (bucketIn (phaseView (t .phase))) (keyIn (phaseView (t .phase))) (postedUpTo rows (keyIn (phaseView (t .phase))) n) buckets lists)
+    (collectedLeft t (bucketIn (phaseView (t .phase))) (keyIn (phaseView (t .phase)))
+    (listedWith rows buckets (z .rows) (z .buckets) (keyIn (phaseView (t .phase)))) buckets lists)

@@ -8,6 +8,7 @@ use base_protocol::MANY_WRITES;
 use base_protocol::MARKED;
 use base_protocol::NO_ROW;
 use base_protocol::STALE;
+use base_protocol::Sizes;
 use base_protocol::TAKEN;
 use base_protocol::WRONG_PHASE;
 use table::holder_at;
@@ -17,6 +18,7 @@ use table::lists::put_read;
 use table::lists::put_write;
 use table::set_holder;
 use table::stamp_at;
+use table_buckets::bucket_of;
 use table_buckets::stamp_precedes_snapshot;
 use table_chain::Snapshot;
 use table_postings::keep_posted;
@@ -24,7 +26,6 @@ use table_scans::Found;
 use table_scans::find_read_prefix;
 ghost use mathlib.Core.Path.{_≡_};
 ghost use mathlib.Core.Bool.{false};
-ghost use Prim.Native.Nat.{_%_};
 ghost use Rattle.model.specs.Store.{rank, bucketIn, keyIn};
 ghost use Rattle.txn.specs.View.{phaseView};
 ghost use Rattle.txn.specs.Methods.{idleOf, phaseFrom, markWord, restOf, partsOf, wholeOf, withPhase, withMark};
@@ -153,16 +154,6 @@ pub fn idle(slot: u32) -> Transaction
         records_n: 0,
         candidates_n: 0,
     }
-}
-
-// The bucket of a key is the key modulo the bucket count.
-pub fn bucket_of(bucket_count: u64, key: u64) -> u64
-    ensures { λ r. ⌜ r ≡ key % «bucket_count» ⌝ }
-{
-    if bucket_count == 0 {
-        return key;
-    }
-    key % bucket_count
 }
 
 // Whether what carries this number is taken by another: neither free nor the own number's.
@@ -416,16 +407,17 @@ impl Transaction {
         self.write(lists, row_count, erasure)
     }
 
-    // Collect: the rows posted with exactly the key are kept ascending; the bucket is freed, whoever holds it.
+    // Collect: of the list of the key's bucket the rows posted with exactly the key are kept ascending. The bucket that the phase carries is freed,
+    // whoever holds it.
     pub fn collect(
         self,
         rows: &[u64],
         buckets: &mut [u64],
         lists: &mut [u64],
-        row_count: u64,
+        sizes: Sizes,
     ) -> Answered
         ensures { λ r. ⌜ record { reply = r; buckets = now (buckets .exit); lists = now (lists .exit) }
-            ≡ collectOf self (now (rows .entry)) (now (buckets .entry)) (now (lists .entry)) «row_count» ⌝ }
+            ≡ collectOf self (now (rows .entry)) (now (buckets .entry)) (now (lists .entry)) sizes ⌝ }
     {
         let phase = self.phase;
         if phase_rank(phase) != HOLDING {
@@ -433,7 +425,15 @@ impl Transaction {
         }
         let bucket = bucket_in(phase);
         let key = key_in(phase);
-        let n = keep_posted(rows, lists, self.slot, row_count, key);
+        let n = keep_posted(
+            rows,
+            buckets,
+            lists,
+            self.slot,
+            sizes.rows,
+            sizes.buckets,
+            key,
+        );
         set_holder(buckets, bucket as usize, 0);
         let mut txn = self.with_phase(Phase::Collected { key: key });
         txn.candidates_n = n;

@@ -9,23 +9,22 @@ use Rattle.finish_publish.proofs.post.Tie as tie
 new-key-requires : tie.Need-new-key-requires
 new-key-requires c κs = search needs
 
-set-posted-requires : tie.Need-set-posted-requires
-set-posted-requires c κs = search needs
-
-set-posted-key-requires : tie.Need-set-posted-key-requires
-set-posted-key-requires c κs = search needs
+repost-requires : tie.Need-repost-requires
+repost-requires c κs = search needs
 
 same-length : tie.Need-same-length
 same-length c = search needs
 
+same-length-2 : tie.Need-same-length-2
+same-length-2 c = search needs
+
 returns : tie.Need-returns
 unfolding postedOne
 returns c =
-    let keyed = c .before .before in
-    let posted = keyed .before .before .before .before in
-    rw (← posted .before .before .new-key .ensures, ← posted .set-posted .ensures) (keyed .set-posted-key .ensures)
+    let moved = c .before .before .before .before in
+    rw (← moved .before .before .before .new-key .ensures) (moved .repost .ensures)
 
 pub post-spec : {M : Type 1} → statement M
 post-spec =
     tie.close
-    (tie.spec new-key-requires set-posted-requires set-posted-key-requires same-length returns)
+    (tie.spec new-key-requires repost-requires same-length same-length-2 returns)

@@ -8,6 +8,16 @@ use Rattle.finish_publish.proofs.Laws.{freed-made}
 use Rattle.finish_publish.proofs.publish.Statement.{statement}
 use Rattle.finish_publish.proofs.publish.Tie as tie
 
+-- the places behind the calls, from the last one back
+abbrev posted : tie.After-unclaim-all → tie.After-post-all
+posted c = c .before .before .before .before .before .before
+
+abbrev freed : tie.After-post-all → tie.After-release-all
+freed c = c .before .before .before .before .before
+
+abbrev stamped : tie.After-push-held → tie.After-stamp-changes
+stamped c = c .before .before .before .before .before
+
 phase-rank-requires : tie.Need-phase-rank-requires
 phase-rank-requires c κs = search needs
 
@@ -46,23 +56,27 @@ same-length : tie.Need-same-length
 same-length c = search needs
 
 same-length-2 : tie.Need-same-length-2
-same-length-2 c = search needs
+same-length-2 c =
+    let unclaimed = c .before .before .before in
+    let moved = posted unclaimed in
+    let released = freed moved in
+    let listed = released .before .before .before .before in
+    moved .post-all .kept .1 .0 ∙ (released .release-all .kept .0 ∙ stamped listed .stamp-changes .kept .1 .1 .0)
 
 returns-2 : tie.Need-returns-2
 unfolding publishOf
 returns-2 c =
     let unclaimed = c .before .before .before in
-    let posted = unclaimed .before .before .before .before in
-    let freed = posted .before .before .before .before in
-    let listed = freed .before .before .before .before in
-    let stamped = listed .before .before .before .before .before in
-    let tested = stamped .before .before .before in
+    let moved = posted unclaimed in
+    let released = freed moved in
+    let listed = released .before .before .before .before in
+    let tested = stamped listed .before .before .before in
     rw (
       ← tested .before .phase-rank .ensures,
       eq-eqb _ _ (tested .if1 .left),
-      ← stamped .stamp-changes .ensures,
-      ← freed .release-all .ensures ∙ freed-made _ _ _ _ _ _ _ (listed .push-held .ensures),
-      ← posted .post-all .ensures,
+      ← stamped listed .stamp-changes .ensures,
+      ← released .release-all .ensures ∙ freed-made _ _ _ _ _ _ _ (listed .push-held .ensures),
+      ← moved .post-all .ensures,
       ← unclaimed .unclaim-all .ensures,
       c .idle .ensures,
     )

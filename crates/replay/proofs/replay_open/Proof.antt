@@ -249,9 +249,12 @@ returns-5 c =
     let n = answered l in
     let on = lent-on (tables n) (sizes (asked n)) (clock (asked n)) (log (read n)) (report (read n)) (some-bytes (read n)) (read n .decode-at .ensures)
     (opens (asked n)) (can l) (l .open-line .ensures) (line .before .line .given .1) in
-    on _ _ _ (call .replay-steps .ensures .0, call .replay-steps .ensures .1 ∙ ap (λ (b : Tables).
-    wordsFrom (roomIn (l .open-line .last .0)) (log (read n)) (read n .decode-at .result .next) (line .before .line .given .0 .0)
-    (freshIn b (sizes (asked n)) (clock (asked n))) .tables) (opened-tables n))
+    on _ _ _ (
+      call .replay-steps .ensures .0,
+      call .replay-steps .ensures .1 ∙ ap (λ (b : Tables).
+          wordsFrom (roomIn (l .open-line .last .0)) (log (read n)) (read n .decode-at .result .next) (line .before .line .given .0 .0)
+          (freshIn b (sizes (asked n)) (clock (asked n))) .tables) (opened-tables n),
+    )
 
 pub replay-open-spec : {M : Type 1} → statement M
 replay-open-spec =

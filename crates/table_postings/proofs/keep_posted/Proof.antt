@@ -1,62 +1,119 @@
 -- `table_postings::keep_posted` meets its contract.
 -- Assumes nothing.
-use mathlib.Core.Path.{_≡_, _∙_}
+use Prim.Native.Nat.{_≤_, _-_}
+use mathlib.Core.Path.{_≡_, refl, _∙_}
 use native.Mathlib.Omega.{arith}
 use borrow.Author.Needs.{needs}
-use Rattle.table_postings.proofs.Laws.{keep-few, keep-cut, kept-all}
+use borrow.Author.Tests.{leb-true, leb-false}
+use lib.ListN.{length}
+use Rattle.table_postings.specs.Postings.{listedWith}
+use Rattle.table_postings.specs.Keeping.{Kept, keepAll}
+use Rattle.table_postings.proofs.Laws.{leftOf, keep-turn, keep-back, keep-past, keep-few, kept-all, turn-less}
 use Rattle.table_postings.proofs.keep_posted.Statement.{statement}
 use Rattle.table_postings.proofs.keep_posted.Tie as tie
 
-lesser-u64-requires : tie.Need-lesser-u64-requires
+abbrev Inv-loop : tie.InvT-loop
+Inv-loop rows buckets lists₀ slot row-count bucket-count key whole most link₀ place₀ n₀ lists link place n =
+    (place ≤ most)
+    × (n ≤ place)
+    × (length lists ≡ length lists₀)
+    × (_≡_ {A = Kept} (keepAll slot (leftOf rows key link₀ 0 most) (record { n = 0; lists = lists₀ }))
+    (keepAll slot (leftOf rows key link place most) (record { n = n; lists = lists })))
+
+abbrev μ-loop : tie.MeasureT-loop
+μ-loop rows buckets lists₀ slot row-count bucket-count key whole most link₀ place₀ n₀ lists link place n = most - place
+
+-- the parameters
+abbrev entered : tie.After-lesser-u64 Inv-loop μ-loop → tie.Start Inv-loop μ-loop
+entered c = c .before .before .before .before
+
+lesser-u64-requires : tie.Need-lesser-u64-requires Inv-loop μ-loop
 lesser-u64-requires c κs = search needs
 
-lesser-usize-requires : tie.Need-lesser-usize-requires
-lesser-usize-requires c κs = search needs
+bucket-of-requires : tie.Need-bucket-of-requires Inv-loop μ-loop
+bucket-of-requires c κs = search needs
 
-keep-whole-requires : tie.Need-keep-whole-requires
-keep-whole-requires c κs = search needs
+first-at-requires : tie.Need-first-at-requires Inv-loop μ-loop
+first-at-requires c κs = search needs
 
-same-length : tie.Need-same-length
-same-length c = search needs
+loop-holds : tie.Need-loop-holds Inv-loop μ-loop
+loop-holds c = (omega arith, omega arith, refl, refl)
 
-returns : tie.Need-returns
+sub-row : tie.Need-sub-row Inv-loop μ-loop
+sub-row c = omega arith
+
+quick-posted-with-requires : tie.Need-quick-posted-with-requires Inv-loop μ-loop
+quick-posted-with-requires c κs = omega arith
+
+keep-one-requires : tie.Need-keep-one-requires Inv-loop μ-loop
+keep-one-requires c κs = omega arith
+
+quick-later-requires : tie.Need-quick-later-requires Inv-loop μ-loop
+quick-later-requires c κs = omega arith
+
+loop-less : tie.Need-loop-less Inv-loop μ-loop
+loop-less c =
+    let told = c .before .before .before .before .before in
+    turn-less _ _ _ (told .before .before .loop-test .taken) (leb-true _ _ (told .before .if1 .taken))
+
+loop-again : tie.Need-loop-again Inv-loop μ-loop
+loop-again c =
+    let kept = c .before .before .before in
+    let told = kept .before .before in
+    let tested = told .before in
+    let at = tested .before .before in
+    let low = leb-true _ _ (tested .if1 .taken) in
+    let old : Kept = record { n = at .loop .n; lists = at .loop .lists } in
+    let slot = entered (at .before .before .before) .args .slot in
+    let few = keep-few slot (at .loop .link - 1) (told .quick-posted-with .result) old _ (kept .keep-one .ensures) in (
+      low,
+      omega arith,
+      kept .keep-one .kept .1 .0 ∙ at .loop .inv .2,
+      at .loop .inv .3
+          ∙ (keep-turn _ _ _ _ _ _ _ _ _ (tested .before .loop-test .taken) low (told .quick-posted-with .ensures) (kept .keep-one .ensures)
+          ∙ rw (← c .quick-later .ensures)),
+    )
+
+same-length : tie.Need-same-length Inv-loop μ-loop
+same-length c = c .before .before .loop .inv .2
+
+returns : tie.Need-returns Inv-loop μ-loop
+unfolding listedWith
 returns c =
-    let done = c .before .before .before in
-    let limits = done .before .before in
-    let e : limits .lesser-usize .result ≡ limits .before .lesser-u64 .result = omega arith in
-    rw (← limits .before .lesser-u64 .ensures) (kept-all _ _ _ _ _ _ (done .keep-whole .ensures ∙ rw e))
+    let at = c .before .before in
+    let first = at .before in
+    let ended = keep-past _ _ _ _ _ _ _ (at .loop .inv .0) (leb-false _ _ (c .if1 .left)) in
+    rw (← first .before .before .lesser-u64 .ensures, ← first .before .bucket-of .ensures, ← first .first-at .ensures)
+    (kept-all _ _ _ _ _ _ _ (at .loop .inv .3 ∙ ended))
 
-posted-with-requires : tie.Need-posted-with-requires
-posted-with-requires c κs = search needs
+same-length-2 : tie.Need-same-length-2 Inv-loop μ-loop
+same-length-2 c = c .before .loop .inv .2
 
-keep-one-requires : tie.Need-keep-one-requires
-keep-one-requires c κs =
-    let done = c .before .before .before .before .before in
-    omega (arith, keep-few _ _ _ _ _ _ _ (done .keep-whole .ensures))
-
-same-length-2 : tie.Need-same-length-2
-same-length-2 c = search needs
-
-returns-2 : tie.Need-returns-2
+returns-2 : tie.Need-returns-2 Inv-loop μ-loop
+unfolding listedWith
 returns-2 c =
-    let one = c .before .before in
-    let posted = one .before .before in
-    let done = posted .before .before .before .before in
-    let limits = done .before .before in
-    let cut = keep-cut _ _ _ _ _ _ (limits .before .lesser-u64 .result) _ _ _ (omega arith) (omega arith) (omega arith) (done .keep-whole .ensures)
-    (posted .posted-with .ensures) (one .keep-one .ensures) in
-    rw (← limits .before .lesser-u64 .ensures) (kept-all _ _ _ _ _ _ cut)
+    let at = c .before in
+    let first = at .before in
+    rw (← first .before .before .lesser-u64 .ensures, ← first .before .bucket-of .ensures, ← first .first-at .ensures)
+    (kept-all _ _ _ _ _ _ _ (at .loop .inv .3 ∙ keep-back _ _ _ _ _ _ _ (c .loop-test .left)))
 
 pub keep-posted-spec : {M : Type 1} → statement M
 keep-posted-spec =
     tie.close
     (tie.spec
+    Inv-loop
+    μ-loop
     lesser-u64-requires
-    lesser-usize-requires
-    keep-whole-requires
+    bucket-of-requires
+    first-at-requires
+    loop-holds
+    sub-row
+    quick-posted-with-requires
+    keep-one-requires
+    quick-later-requires
+    loop-less
+    loop-again
     same-length
     returns
-    posted-with-requires
-    keep-one-requires
     same-length-2
     returns-2)
