@@ -2,6 +2,7 @@
 
 use std::fmt::Write;
 
+use crate::lent::{Words, AMPLE};
 use crate::limits::{PENDING_WRITES, READ_RECORDS};
 use crate::records::{read_record, Step};
 use crate::store::{Answer, Store, Values, Verdict};
@@ -61,8 +62,13 @@ fn put_line(line: &mut String, word: &str, answer: &Answer) -> std::fmt::Result 
 
 /// Replays `log` and answers status × 4,294,967,296 + bytes written to the front of `report`.
 pub fn replay(log: &[u8], report: &mut [u8]) -> u64 {
+    replay_lent(log, report, &AMPLE)
+}
+
+/// The same over tables of these lengths.
+pub fn replay_lent(log: &[u8], report: &mut [u8], lent: &Words) -> u64 {
     let mut report = Report { bytes: report, written: 0, line: String::new() };
-    let status = replay_into(log, &mut report).err().unwrap_or(0);
+    let status = replay_into(log, lent, &mut report).err().unwrap_or(0);
     status << 32 | report.written as u64
 }
 
@@ -77,14 +83,14 @@ pub fn whole_report(log: &[u8]) -> (u64, Vec<u8>) {
 }
 
 /// Ends well, or with the status that stops the replay.
-fn replay_into(log: &[u8], report: &mut Report) -> Result<(), u64> {
+fn replay_into(log: &[u8], lent: &Words, report: &mut Report) -> Result<(), u64> {
     let mut store = None;
     let mut rest = log;
     while !rest.is_empty() {
         let Some((step, next)) = read_record(rest) else { return malformed(report) };
         let answer = match (&mut store, step) {
             (None, Step::Open { rows, versions, buckets, clock }) => {
-                let opened = Store::open(rows, versions, buckets, clock);
+                let opened = Store::open_lent(rows, versions, buckets, clock, lent);
                 let answer = opened.as_ref().map(|_| Values::Nothing).map_err(|&refusal| refusal);
                 store = opened.ok();
                 answer
@@ -93,8 +99,8 @@ fn replay_into(log: &[u8], report: &mut Report) -> Result<(), u64> {
             (Some(store), step) => store.step(&step),
         };
         report.write(step.word(), &answer)?;
-        if store.is_none() {
-            return Err(1);
+        if let (None, Err(refusal)) = (&store, answer) {
+            return Err(refusal.into());
         }
         rest = next;
     }
