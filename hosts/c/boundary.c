@@ -1,4 +1,4 @@
-/* Tries the checked entry of the header with every buffer that it must tell from a right one.
+/* Tries the checked entries of the header with every buffer that they must tell from a right one.
  * Exit status 0 where each answer is right; else a line for each that is not. */
 #include <stdio.h>
 #include <stdlib.h>
@@ -95,6 +95,114 @@ static void try_right_buffers(void)
     expect_bytes("the report before the log", memory, report_of_open, ROOM - 1);
 }
 
+enum { TABLES = 4 };
+
+/* One table behind the other, of just the words that the store of the log needs, and one word after all of them. */
+static const size_t needed[TABLES] = { TORUXENG_ROWS_WORDS(1), TORUXENG_VERSIONS_WORDS(1), TORUXENG_BUCKETS_WORDS(1),
+                                       TORUXENG_LISTS_WORDS };
+static uint64_t words[TORUXENG_ROWS_WORDS(1) + TORUXENG_VERSIONS_WORDS(1) + TORUXENG_BUCKETS_WORDS(1) + TORUXENG_LISTS_WORDS + 1];
+enum { WORDS = sizeof words / sizeof *words };
+
+struct lent {
+    uint8_t *report;
+    uint64_t *starts[TABLES];
+    size_t lengths[TABLES];
+};
+
+static struct lent lay_out_tables(void)
+{
+    struct lent lent = { .report = memory + LOG };
+    uint64_t *start = words;
+    lay_out();
+    memset(words, MARK, sizeof words);
+    for (int i = 0; i < TABLES; i++) {
+        lent.starts[i] = start;
+        lent.lengths[i] = needed[i];
+        start += needed[i];
+    }
+    return lent;
+}
+
+static uint64_t replay_over(const struct lent *lent)
+{
+    return toruxeng_replay_lent_checked(memory, LOG, lent->report, ROOM, lent->starts[0], lent->lengths[0], lent->starts[1],
+                                        lent->lengths[1], lent->starts[2], lent->lengths[2], lent->starts[3], lent->lengths[3]);
+}
+
+static void expect_words_untouched(const char *what)
+{
+    uint64_t before[WORDS];
+    memset(before, MARK, sizeof before);
+    expect_bytes(what, (const uint8_t *)words, before, sizeof before);
+}
+
+static void expect_no_call(const char *what, const struct lent *lent, enum toruxeng_status status)
+{
+    expect_untouched(what, replay_over(lent), status);
+    expect_words_untouched(what);
+}
+
+static void try_what_is_no_table(void)
+{
+    for (int i = 0; i < TABLES; i++) {
+        struct lent lent = lay_out_tables();
+        uint64_t *const start = lent.starts[i];
+        lent.starts[i] = NULL;
+        expect_no_call("a table at null", &lent, TORUXENG_NO_BUFFER);
+        lent.starts[i] = (uint64_t *)((uintptr_t)start + 1);
+        lent.lengths[i] = 1;
+        expect_no_call("a table that is not aligned", &lent, TORUXENG_NO_BUFFER);
+        lent.starts[i] = start;
+        lent.lengths[i] = PTRDIFF_MAX / sizeof(uint64_t) + 1;
+        expect_no_call("a table too long", &lent, TORUXENG_NO_BUFFER);
+        lent.lengths[i] = SIZE_MAX;
+        expect_no_call("a table of every word", &lent, TORUXENG_NO_BUFFER);
+        lent.starts[i] = (uint64_t *)(UINTPTR_MAX - 7);
+        lent.lengths[i] = 1;
+        expect_no_call("a table past the addresses", &lent, TORUXENG_NO_BUFFER);
+    }
+}
+
+static void try_overlap_of_tables(void)
+{
+    for (int i = 0; i < TABLES; i++) {
+        struct lent lent = lay_out_tables();
+        lent.report = (uint8_t *)lent.starts[i];
+        expect_no_call("a report in a table", &lent, TORUXENG_BUFFERS_OVERLAP);
+        lent = lay_out_tables();
+        lent.starts[i] = lent.starts[(i + 1) % TABLES];
+        lent.lengths[i] = 1;
+        expect_no_call("a table in another", &lent, TORUXENG_BUFFERS_OVERLAP);
+    }
+    /* behind the last table stands a word that is nobody's */
+    for (int i = 0; i + 1 < TABLES; i++) {
+        struct lent lent = lay_out_tables();
+        lent.lengths[i]++;
+        expect_no_call("a table that reaches into the next", &lent, TORUXENG_BUFFERS_OVERLAP);
+    }
+}
+
+static void try_short_tables(void)
+{
+    for (int i = 0; i < TABLES; i++) {
+        struct lent lent = lay_out_tables();
+        lent.lengths[i]--;
+        expect("a table one word short", replay_over(&lent), TORUXENG_TABLE_SHORT, ROOM);
+        expect_bytes("the line of a short table", lent.report, "open 16\n", ROOM);
+        expect_words_untouched("the tables where one is short");
+    }
+}
+
+static void try_right_tables(void)
+{
+    struct lent lent = lay_out_tables();
+    const uint64_t last = words[WORDS - 1];
+    lent.lengths[TABLES - 1]++;
+    expect("tables one behind the other", replay_over(&lent), TORUXENG_DONE, ROOM - 1);
+    expect_bytes("the report over tables", lent.report, report_of_open, ROOM - 1);
+    expect_bytes("the word past a table's size", (const uint8_t *)&words[WORDS - 1], &last, sizeof last);
+}
+
 int main(void)
 {
     lay_out();
@@ -102,5 +210,9 @@ int main(void)
     try_what_is_no_buffer();
     try_overlap();
     try_right_buffers();
+    try_what_is_no_table();
+    try_overlap_of_tables();
+    try_short_tables();
+    try_right_tables();
     return wrong ? EXIT_FAILURE : EXIT_SUCCESS;
 }

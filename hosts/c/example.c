@@ -117,6 +117,7 @@ int main(void)
     case TORUXENG_LOG_MALFORMED:
         fputs("the log is malformed\n", stderr);
         break;
+    case TORUXENG_TABLE_SHORT: /* of a replay over lent tables alone */
     case TORUXENG_NO_BUFFER:
     case TORUXENG_BUFFERS_OVERLAP:
         fputs("the log and the report are not two buffers\n", stderr);

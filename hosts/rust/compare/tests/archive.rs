@@ -6,6 +6,7 @@ use std::process::Command;
 
 const TARGETS: [&str; 3] = ["x86_64-unknown-linux-gnu", "aarch64-unknown-linux-gnu", "aarch64-linux-android"];
 const SHARED: &str = "aarch64-linux-android/libtoruxeng.so";
+const EXPORTED: [&str; 2] = ["toruxeng_replay", "toruxeng_replay_lent"];
 
 fn dist(file: &str) -> PathBuf {
     Path::new(env!("CARGO_MANIFEST_DIR")).join("../../../dist").join(file)
@@ -34,11 +35,11 @@ fn count(bytes: &[u8], part: &str) -> usize {
 }
 
 #[test]
-fn exports_one_function() {
+fn exports_two_functions() {
     for archive in archives() {
-        assert_eq!(symbols(&["--defined-only", "--extern-only"], &archive), ["toruxeng_replay"]);
+        assert_eq!(symbols(&["--defined-only", "--extern-only"], &archive), EXPORTED);
     }
-    assert_eq!(symbols(&["--dynamic", "--defined-only"], &dist(SHARED)), ["toruxeng_replay"]);
+    assert_eq!(symbols(&["--dynamic", "--defined-only"], &dist(SHARED)), EXPORTED);
 }
 
 #[test]
