@@ -1,12 +1,13 @@
-/* driver STACK: replays logs from standard input and says what each call did to the memory round it.
+/* driver STACK [lent]: replays logs from standard input, over lent tables or not, and says what each call did to the memory round it.
  *
  * It stands between an archive and tests that may run on another machine than the archive is for. All numbers are 8 bytes, little-endian.
  * A request: how many calls (1 to 8, made at the same time, a thread each), whether to measure the stack (1 or 0) and, for each, the length
- * of its log and its room; then the logs. An answer for each call: the function's answer, a sum of faults, the bytes of stack that the call
- * touched below its caller's frame (0 where not measured); then the report.
+ * of its log and its room and, where tables are lent, a seed for what stands in them and of each table its length and how many of its first
+ * words the call may change; then the logs. An answer for each call: the function's answer, a sum of faults, the bytes of stack that the
+ * call touched below its caller's frame (0 where not measured); then the report.
  *
- * Each call runs in a thread that can touch STACK bytes of stack, to the next whole page. Log and report end at a page that cannot be
- * touched and have marked bytes before them.
+ * Each call runs in a thread that can touch STACK bytes of stack, to the next whole page. Log, report and tables end at a page that cannot
+ * be touched and have marked bytes before them.
  */
 #define _GNU_SOURCE
 #include <pthread.h>
@@ -19,12 +20,12 @@
 
 #include "toruxeng.h"
 
-enum { CALLS = 8, MARKED = 64, MARK = 0xA5 };
+enum { CALLS = 8, TABLES = 4, MARKED = 64, MARK = 0xA5 };
 enum { LARGEST = 256 << 20 };
 /* What a thread is told to be its stack: of a smaller one than the C library wants (128 KiB on aarch64), the rest cannot be touched. */
 enum { STACK_MAPPED = 1 << 20 };
 
-enum fault { AROUND_REPORT = 1, AFTER_LAST_LINE = 2, LOG_CHANGED = 4 };
+enum fault { AROUND_REPORT = 1, AFTER_LAST_LINE = 2, LOG_CHANGED = 4, TABLE_CHANGED = 8 };
 
 /* Bytes that end at a page that cannot be touched. */
 struct buffer {
@@ -34,10 +35,18 @@ struct buffer {
     size_t length;
 };
 
+/* A table that is lent: what stands in it before comes from the seed. */
+struct table {
+    struct buffer buffer;
+    uint64_t changeable;
+    uint64_t seed;
+};
+
 /* One of the calls of a request, with its thread, which waits between requests. */
 struct call {
     struct buffer log;
     struct buffer report;
+    struct table tables[TABLES];
     uint8_t *log_copy;
     uint64_t answer;
     uint8_t *stack;
@@ -50,6 +59,7 @@ struct call {
 
 static size_t page;
 static size_t stack_size;
+static int is_lent;
 
 static void fail(const char *what)
 {
@@ -131,6 +141,48 @@ static void prepare_buffer(struct buffer *buffer, uint64_t length)
     memset(buffer->bytes - MARKED, MARK, buffer->length + MARKED);
 }
 
+/* The next of the words that a seed gives, of every length in bits. */
+static uint64_t next_word(uint64_t *state)
+{
+    *state ^= *state << 13;
+    *state ^= *state >> 7;
+    *state ^= *state << 17;
+    return *state >> (*state % 64);
+}
+
+static uint64_t *words_of(const struct table *table)
+{
+    return (uint64_t *)(void *)table->buffer.bytes;
+}
+
+static size_t length_of(const struct table *table)
+{
+    return table->buffer.length / sizeof(uint64_t);
+}
+
+static void read_table(struct table *table, uint64_t seed)
+{
+    uint64_t length = read_number();
+    if (length > LARGEST / sizeof(uint64_t)) {
+        fail("a table is too large");
+    }
+    prepare_buffer(&table->buffer, length * sizeof(uint64_t));
+    table->changeable = read_number();
+    table->seed = seed;
+    for (size_t i = 0; i < length_of(table); i++) {
+        words_of(table)[i] = next_word(&seed);
+    }
+}
+
+static void read_tables(struct call *call)
+{
+    /* a seed of 0 would give 0 alone */
+    uint64_t seed = read_number() | 1;
+    for (int i = 0; i < TABLES; i++) {
+        read_table(&call->tables[i], seed);
+    }
+}
+
 static void read_log(struct call *call)
 {
     struct buffer *log = &call->log;
@@ -154,6 +206,35 @@ static int all_marked(const uint8_t *bytes, size_t length)
     return 1;
 }
 
+/* Whether the bytes before a table, and its words behind those that may be changed, are as they were. */
+static int is_kept(const struct table *table)
+{
+    uint64_t state = table->seed;
+    for (size_t i = 0; i < length_of(table); i++) {
+        uint64_t before = next_word(&state);
+        if (i >= table->changeable && words_of(table)[i] != before) {
+            return 0;
+        }
+    }
+    return all_marked(table->buffer.bytes - MARKED, MARKED);
+}
+
+static uint64_t answer_over_tables(const struct call *call)
+{
+    const struct table *tables = call->tables;
+    return toruxeng_replay_lent(call->log.bytes, call->log.length, call->report.bytes, call->report.length, words_of(&tables[0]),
+                                length_of(&tables[0]), words_of(&tables[1]), length_of(&tables[1]), words_of(&tables[2]),
+                                length_of(&tables[2]), words_of(&tables[3]), length_of(&tables[3]));
+}
+
+static uint64_t answer_of(const struct call *call)
+{
+    if (is_lent) {
+        return answer_over_tables(call);
+    }
+    return toruxeng_replay(call->log.bytes, call->log.length, call->report.bytes, call->report.length);
+}
+
 static void *replay(void *argument)
 {
     struct call *call = argument;
@@ -163,7 +244,7 @@ static void *replay(void *argument)
             return NULL;
         }
         call->frame = __builtin_frame_address(0);
-        call->answer = toruxeng_replay(call->log.bytes, call->log.length, call->report.bytes, call->report.length);
+        call->answer = answer_of(call);
         sem_post(&call->done);
     }
 }
@@ -226,6 +307,11 @@ static uint64_t faults(const struct call *call)
     if (!all_marked(log->bytes - MARKED, MARKED) || memcmp(log->bytes, call->log_copy, log->length) != 0) {
         found |= LOG_CHANGED;
     }
+    for (int i = 0; is_lent && i < TABLES; i++) {
+        if (!is_kept(&call->tables[i])) {
+            found |= TABLE_CHANGED;
+        }
+    }
     return found;
 }
 
@@ -239,12 +325,13 @@ static void finish(struct call *call, int measured)
     free(call->log_copy);
 }
 
-static void read_stack_size(int count, char **words)
+static void read_arguments(int count, char **words)
 {
     char *end = NULL;
-    stack_size = count == 2 ? whole_pages(strtoul(words[1], &end, 10)) : 0;
+    is_lent = count == 3 && strcmp(words[2], "lent") == 0;
+    stack_size = count == 2 || is_lent ? whole_pages(strtoul(words[1], &end, 10)) : 0;
     if (stack_size == 0 || stack_size >= STACK_MAPPED || *end != '\0') {
-        fail("its one argument is the bytes of stack that each call has");
+        fail("its arguments are the bytes of stack that each call has, and `lent` where tables are");
     }
 }
 
@@ -253,7 +340,7 @@ int main(int word_count, char **words)
     static struct call calls[CALLS];
     uint64_t count;
     page = (size_t)sysconf(_SC_PAGESIZE);
-    read_stack_size(word_count, words);
+    read_arguments(word_count, words);
     while (read_all(&count, sizeof count)) {
         if (count < 1 || count > CALLS) {
             fail("a request has 1 to 8 calls");
@@ -262,6 +349,9 @@ int main(int word_count, char **words)
         for (uint64_t i = 0; i < count; i++) {
             prepare_buffer(&calls[i].log, read_number());
             prepare_buffer(&calls[i].report, read_number());
+            if (is_lent) {
+                read_tables(&calls[i]);
+            }
         }
         for (uint64_t i = 0; i < count; i++) {
             read_log(&calls[i]);

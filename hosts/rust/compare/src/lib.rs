@@ -6,6 +6,7 @@ use engine::{Driver, Replayed};
 use twin::Step;
 
 pub mod in_turn;
+pub mod lent;
 mod program;
 pub mod read_back;
 mod run;
@@ -67,8 +68,13 @@ pub fn number(line: &str) -> u32 {
 
 /// What the twin answers and writes.
 pub fn twin_replay(log: &[u8], room: usize) -> (u64, Vec<u8>) {
+    written(room, |report| twin::replay(log, report))
+}
+
+/// The answer of a replay and what it writes to a report of so much room.
+fn written(room: usize, replay: impl FnOnce(&mut [u8]) -> u64) -> (u64, Vec<u8>) {
     let mut report = vec![0; room];
-    let answer = twin::replay(log, &mut report);
+    let answer = replay(&mut report);
     report.truncate(answer as u32 as usize);
     (answer, report)
 }
@@ -80,20 +86,23 @@ pub fn report_length(log: &[u8]) -> usize {
 
 /// Both replay the log; where they differ, the difference, on a log from which no record can be left out.
 pub fn compare(driver: &mut Driver, log: &[u8], room: usize) -> Result<Replayed, Box<Difference>> {
-    let (engine, twin) = both(driver, log, room);
+    compared(log, room, |log| (driver.replay(log, room), twin_replay(log, room)))
+}
+
+/// What the engine gives back and what the twin answers and writes.
+type Both = (Replayed, (u64, Vec<u8>));
+
+fn compared(log: &[u8], room: usize, mut both: impl FnMut(&[u8]) -> Both) -> Result<Replayed, Box<Difference>> {
+    let (engine, twin) = both(log);
     if agree(&engine, &twin) {
         return Ok(engine);
     }
     let log = shortened(log, |fewer| {
-        let (engine, twin) = both(driver, fewer, room);
+        let (engine, twin) = both(fewer);
         !agree(&engine, &twin)
     });
-    let (engine, twin) = both(driver, &log, room);
+    let (engine, twin) = both(&log);
     Err(Box::new(Difference { log, room, engine, twin }))
-}
-
-fn both(driver: &mut Driver, log: &[u8], room: usize) -> (Replayed, (u64, Vec<u8>)) {
-    (driver.replay(log, room), twin_replay(log, room))
 }
 
 fn agree(engine: &Replayed, twin: &(u64, Vec<u8>)) -> bool {

@@ -3,4 +3,4 @@
 
 mod driver;
 
-pub use driver::{Driver, Replayed, STACK};
+pub use driver::{Driver, LentDriver, Replayed, Tables, LENT_STACK, STACK};

@@ -1,20 +1,31 @@
-//! `soak STEPS [SEED]`: engine and twin side by side over so many reported steps; ends at the first difference.
+//! `soak STEPS [SEED]`: engine and twin side by side over so many reported steps, some of the logs once more over lent tables; ends at the
+//! first difference.
 
 use std::collections::BTreeMap;
 use std::process::ExitCode;
 use std::time::Instant;
 
+use compare::lent::{compare_lent, exact, some_lengths, tables};
 use compare::{asked, compare, lines, number, random_log, report_length, Difference, Progress};
-use engine::{Driver, Replayed};
+use engine::{Driver, LentDriver, Replayed};
 use generator::{longest_chain, room, Random};
 
 const USAGE: &str = "soak STEPS [SEED]: two whole numbers; without a seed it is the time";
+
+/// So many logs of a hundred are replayed over lent tables too.
+const LENT_PERCENT: u64 = 25;
+
+struct Engines {
+    driver: Driver,
+    lent: LentDriver,
+}
 
 /// What was replayed so far.
 #[derive(Default)]
 struct Tally {
     steps: u64,
     logs: u64,
+    lent: u64,
     by_number: BTreeMap<u32, u64>,
     by_status: BTreeMap<u64, u64>,
 }
@@ -30,16 +41,30 @@ impl Tally {
     }
 }
 
-fn replay_side_by_side(driver: &mut Driver, steps: u64, seed: u64, tally: &mut Tally) -> Result<(), Box<Difference>> {
+fn replay_side_by_side(engines: &mut Engines, steps: u64, seed: u64, tally: &mut Tally) -> Result<(), Box<Difference>> {
     let mut random = Random::of_seed(seed);
     let mut progress = Progress::start();
     while tally.steps < steps {
         let log = random_log(&mut random);
         let room = room(report_length(&log), &mut random);
-        tally.add(&compare(driver, &log, room)?);
+        tally.add(&compare(&mut engines.driver, &log, room)?);
+        if random.percent(LENT_PERCENT) {
+            compare_lent(&mut engines.lent, &log, room, some_lengths(&log, &mut random))?;
+            tally.lent += 1;
+        }
         progress.say(format_args!("soak: {} of {steps} steps", tally.steps));
     }
     Ok(())
+}
+
+/// Of both functions, for a log that asks for nothing and for the one with the longest walk.
+fn print_stack(engines: &mut Engines) {
+    for (what, log) in [("an empty log", vec![]), ("the longest chain", longest_chain(1))] {
+        let room = report_length(&log);
+        let touched = engines.driver.stack_touched(&log, room);
+        let lent = engines.lent.stack_touched(&log, room, &tables(&log, exact(&log), 1));
+        println!("stack that a call touches for {what}: {touched} bytes; over lent tables: {lent} bytes");
+    }
 }
 
 fn main() -> ExitCode {
@@ -49,18 +74,19 @@ fn main() -> ExitCode {
     };
     println!("soak: {steps} steps, seed {seed}");
     let start = Instant::now();
-    let mut driver = Driver::start();
+    let mut engines = Engines { driver: Driver::start(), lent: LentDriver::start() };
     let mut tally = Tally::default();
-    let ended = replay_side_by_side(&mut driver, steps, seed, &mut tally);
+    let ended = replay_side_by_side(&mut engines, steps, seed, &mut tally);
     let seconds = start.elapsed().as_secs();
     if let Err(difference) = ended {
         println!("after {} steps in {} logs:\n{difference}", tally.steps, tally.logs);
         return ExitCode::FAILURE;
     }
-    println!("no difference in {} steps of {} logs, {seconds} seconds", tally.steps, tally.logs);
+    println!(
+        "no difference in {} steps of {} logs, {} of them over lent tables too, {seconds} seconds",
+        tally.steps, tally.logs, tally.lent
+    );
     println!("logs by status: {:?}\nsteps by number: {:?}", tally.by_status, tally.by_number);
-    let chain = longest_chain(1);
-    let [empty, longest] = [&[][..], &chain].map(|log| driver.stack_touched(log, report_length(log)));
-    println!("stack that a call touches: an empty log {empty} bytes, the longest chain {longest} bytes");
+    print_stack(&mut engines);
     ExitCode::SUCCESS
 }
