@@ -1,4 +1,4 @@
-//! The exported function behind two safe ones.
+//! The exported function that has its tables on the stack, behind two safe ones.
 
 use std::fmt;
 
@@ -18,6 +18,8 @@ pub enum Status {
     ReportFull = 10,
     /// A record is cut, of an unknown kind or of a wrong length, or an open is misplaced or missing.
     LogMalformed = 15,
+    /// A lent table is shorter than the sizes of the open need; only [`replay_lent`](crate::replay_lent) has tables.
+    TableShort = 16,
 }
 
 impl Status {
@@ -26,7 +28,8 @@ impl Status {
     }
 
     fn of_number(number: u32) -> Option<Status> {
-        [Status::OpenRefused, Status::ReportFull, Status::LogMalformed].into_iter().find(|status| status.number() == number)
+        let all = [Status::OpenRefused, Status::ReportFull, Status::LogMalformed, Status::TableShort];
+        all.into_iter().find(|status| status.number() == number)
     }
 }
 
@@ -36,6 +39,7 @@ impl fmt::Display for Status {
             Status::OpenRefused => "the open was refused",
             Status::ReportFull => "the report has no room for the next line",
             Status::LogMalformed => "the log is malformed",
+            Status::TableShort => "a table is too short for the sizes of the open",
         })
     }
 }
@@ -81,7 +85,11 @@ pub fn replay<'a>(log: &[u8], report: &'a mut [u8]) -> Result<Report<'a>, Stoppe
 /// Each pointer is valid for its length during the call, or the length is 0; the two do not overlap.
 pub(crate) unsafe fn call(log: *const u8, log_length: usize, report: *mut u8, report_length: usize) -> Result<usize, Stopped> {
     // SAFETY: the caller's promise
-    let answer = unsafe { toruxeng_replay(log, log_length, report, report_length) };
+    parts(unsafe { toruxeng_replay(log, log_length, report, report_length) })
+}
+
+/// An answer in its two halves.
+pub(crate) fn parts(answer: u64) -> Result<usize, Stopped> {
     let written = answer as u32 as usize;
     match (answer >> 32) as u32 {
         0 => Ok(written),

@@ -293,7 +293,7 @@ pub enum Refusal {
     Conflict = 14,
     /// a record that is no step here
     Malformed = 15,
-    /// no step of a replay
+    /// open, over a table that is too short; no other step of a replay
     WrongShape = 16,
 }
 
@@ -363,7 +363,7 @@ impl Refusal {
             Refusal::VersionsUsedUp => "no versions are left for its rows",
             Refusal::Conflict => "a read no longer stands, or the transaction is marked",
             Refusal::Malformed => "the log's record is no step here",
-            Refusal::WrongShape => "the state is of wrong shape",
+            Refusal::WrongShape => "a table is too short, or the state is of wrong shape",
         }
     }
 

@@ -75,6 +75,7 @@ fn errors_have_the_numbers_of_the_header() {
         ("OPEN_REFUSED", stopped(Status::OpenRefused)),
         ("REPORT_FULL", stopped(Status::ReportFull)),
         ("LOG_MALFORMED", stopped(Status::LogMalformed)),
+        ("TABLE_SHORT", stopped(Status::TableShort)),
         ("NO_BUFFER", RawError::NoBuffer),
         ("BUFFERS_OVERLAP", RawError::BuffersOverlap),
     ];
@@ -82,5 +83,5 @@ fn errors_have_the_numbers_of_the_header() {
         let number = format!("TORUXENG_{name} = {}", error.number());
         assert!(HEADER.lines().any(|line| line.trim_start().split([',', ' ']).take(3).eq(number.split(' '))), "{number}");
     }
-    assert_eq!(RawError::BuffersOverlap.to_string(), "the log and the report overlap");
+    assert_eq!(RawError::BuffersOverlap.to_string(), "two of the buffers overlap");
 }
