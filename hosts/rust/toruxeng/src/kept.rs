@@ -7,8 +7,9 @@
 use std::collections::BTreeMap;
 
 use crate::error::Error;
+use crate::lent::{replay_lent, Sizes, Tables};
 use crate::log::longest_line;
-use crate::replay::{replay, Status, Stopped};
+use crate::replay::{Status, Stopped};
 use crate::report::{Kind, Line, Lines, Refusal, Report, Values};
 use crate::step::{can_begin_a_record, Step, Steps};
 
@@ -34,6 +35,7 @@ pub(crate) struct Kept {
     /// Behind the end stand the steps that were asked last and are not kept.
     log: Vec<u8>,
     report: Vec<u8>,
+    tables: Tables,
     end: Place,
     /// Of the live transactions, and of those that ended in abort since the last publish; in the order of their begins.
     traces: Vec<Trace>,
@@ -43,21 +45,28 @@ pub(crate) struct Kept {
 
 impl Kept {
     pub(crate) fn open(rows: u32, versions: u32, buckets: u32, clock: u64) -> Result<Kept, Error> {
-        let mut kept = Kept::empty(clock);
+        let mut kept = Kept::empty(Sizes { rows, versions, buckets }, clock);
         kept.accept(&[Step::open(rows, versions, buckets, clock)], |_| ())?;
         Ok(kept.published_here())
     }
 
-    fn empty(clock: u64) -> Kept {
-        Kept { log: Vec::new(), report: Vec::new(), end: Place { log: 0, report: 0, clock }, traces: Vec::new(), published: 0 }
+    fn empty(sizes: Sizes, clock: u64) -> Kept {
+        Kept {
+            log: Vec::new(),
+            report: Vec::new(),
+            tables: Tables::for_sizes(sizes),
+            end: Place { log: 0, report: 0, clock },
+            traces: Vec::new(),
+            published: 0,
+        }
     }
 
     /// From bytes that may end in the middle of a record; what is live in them is ended by steps behind them.
     pub(crate) fn restart(bytes: &[u8]) -> Result<Kept, Error> {
         let steps = whole_steps(bytes)?;
-        // an open's last field; the replay finds what is no open
-        let clock = *steps.first().and_then(|open| open.fields().last()).ok_or(MALFORMED)?;
-        let mut kept = Kept::empty(clock);
+        // the fields of an open; the replay finds what is none and has as many
+        let Some(&[rows, versions, buckets, clock]) = steps.first().map(Step::fields) else { return Err(MALFORMED) };
+        let mut kept = Kept::empty(Sizes { rows: rows as u32, versions: versions as u32, buckets: buckets as u32 }, clock);
         let endings = endings(&steps, kept.ask(&steps)?.lines());
         kept.keep(&steps);
         kept.accept(&endings, |_| ())?;
@@ -161,7 +170,7 @@ impl Kept {
         if self.report.len() < room {
             self.report.resize(room, 0);
         }
-        let written = replay(&self.log, &mut self.report[..room])?.bytes().len();
+        let written = replay_lent(&self.log, &mut self.report[..room], self.tables.lend())?.bytes().len();
         Ok(Report::of_engine(&self.report[self.end.report..written]))
     }
 
