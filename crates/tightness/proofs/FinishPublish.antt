@@ -10,13 +10,15 @@ use Rattle.model.specs.Store.{rank, phaseInstalled}
 use Rattle.model.specs.Refusals.{WrongPhase, refusalNumber}
 use Rattle.base_protocol.specs.declared.Answer.the-variants as tell
 use Rattle.base_protocol.specs.declared.Extent.{Extent}
+use Rattle.table.specs.Fields.{clearClaims}
 use Rattle.txn.specs.View.{phaseView}
 use Rattle.txn.specs.Methods.{withPhase, refusedOf}
 use Rattle.txn.specs.declared.Phase.{Phase}
 use Rattle.txn.specs.declared.Phase.the-variants as phase
 use Rattle.txn.specs.declared.Transaction.{Transaction}
 use Rattle.txn.specs.declared.Answered.{Answered}
-use Rattle.finish_publish.specs.Publish.{Left, freedIn, endOf, publishOf, abortOf}
+use Rattle.txn_needs.specs.Needs.{writtenBy}
+use Rattle.finish_publish.specs.Publish.{Left, stampedIn, freedIn, postedAll, endOf, publishOf, abortOf}
 use Rattle.tightness.specs.Wrong.{Excludes}
 use Rattle.tightness.proofs.Apart.{apart, numberIn}
 use Rattle.tightness.proofs.Computes.{computes}
@@ -33,17 +35,23 @@ pub end-stays-installed : Excludes endOf
 unfolding computes
 end-stays-installed = apart (live 1 phase.Installed) (λ (a : Answered). rank (phaseView (a .txn .phase))) refl
 
--- row 0 headed by version 1 and claimed by transaction 1
+-- row 0 headed by version 1 and claimed by transaction 1, with no posting
 abbrev claimed : List ℕ
-claimed = 1 ∷ 1 ∷ 0 ∷ 0 ∷ []
+claimed = 1 ∷ 1 ∷ 0 ∷ 0 ∷ 0 ∷ []
 
--- bucket 0 held by it
+-- bucket 0 held by it, with an empty list
 abbrev held : List ℕ
-held = 0 ∷ 1 ∷ []
+held = 0 ∷ 1 ∷ 0 ∷ []
 
--- the claim of row 0 afterwards, and the holder of bucket 0 and its stamp
+-- the claim of row 0 afterwards and its posting, and the holder of bucket 0, its stamp and the first row of its list
 abbrev claim : Left → ℕ
 claim l = getD (l .rows) 1 0
+
+abbrev posted : Left → ℕ
+posted l = getD (l .rows) 2 0
+
+abbrev first : Left → ℕ
+first l = getD (l .buckets) 2 0
 
 abbrev holder : Left → ℕ
 holder l = getD (l .buckets) 1 0
@@ -82,10 +90,29 @@ pub publish-unstamped : Excludes publishes (λ (rows, versions, buckets, lists, 
     publishes (rows, versions, buckets, lists, e, t) in record {
       reply = l .reply;
       rows = l .rows;
-      buckets = freedIn rows versions buckets lists (e .sizes .buckets) t;
+      buckets =
+          postedAll (record { rows = rows; buckets = freedIn rows versions buckets lists (e .sizes .buckets) t }) lists (e .sizes .buckets) t
+          (writtenBy lists t) .buckets;
     })
 unfolding computes
 publish-unstamped = apart (given phase.Ended) stamp refl
+
+-- `publish`: the postings move, and the lists of the buckets do not
+pub publish-lists-kept : Excludes publishes (λ (rows, versions, buckets, lists, e, t). let l =
+    publishes (rows, versions, buckets, lists, e, t) in record {
+      reply = l .reply;
+      rows = l .rows;
+      buckets = freedIn rows versions (stampedIn rows versions buckets lists e t) lists (e .sizes .buckets) t;
+    })
+unfolding computes
+publish-lists-kept = apart (given phase.Ended) first refl
+
+-- `publish`: the postings stay
+pub publish-postings-kept : Excludes publishes (λ (rows, versions, buckets, lists, e, t). let l =
+    publishes (rows, versions, buckets, lists, e, t) in
+    record { reply = l .reply; rows = clearClaims rows (t .number) (writtenBy lists t); buckets = l .buckets })
+unfolding computes
+publish-postings-kept = apart (given phase.Ended) posted refl
 
 -- `abort`: the place does not become free
 pub abort-record-kept : Excludes aborts (λ (rows, versions, buckets, lists, e, t). let l =

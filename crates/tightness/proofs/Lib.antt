@@ -11,6 +11,7 @@ pub mod TablePostings
 pub mod Txn
 pub mod TxnPlaces
 pub mod ShapeChains
+pub mod ShapePostings
 pub mod ShapeTxn
 pub mod TxnNeeds
 pub mod TxnNeedsVersions

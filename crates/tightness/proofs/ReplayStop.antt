@@ -4,7 +4,7 @@ use Prim.Native.Nat.{ℕ}
 use mathlib.Core.Path.{refl}
 use mathlib.Core.List.{List}
 use lib.ListN.{getD}
-use Rattle.model.specs.Refusals.{WrongSize, Malformed, refusalNumber}
+use Rattle.model.specs.Refusals.{WrongSize, Malformed, WrongShape, refusalNumber}
 use Rattle.report.specs.declared.Wrote.{Wrote}
 use Rattle.report.specs.declared.Wrote.the-variants.{Next, Full}
 use Rattle.report.specs.Written.{writtenAt}
@@ -16,12 +16,15 @@ use Rattle.tightness.proofs.Apart.{apart}
 use Rattle.tightness.proofs.Computes.{computes}
 use Rattle.tightness.proofs.Small.{blank}
 
--- what the contracts of `stop_after` and `stop_malformed` ask for
+-- what the contracts of `stop_after`, `stop_malformed` and `stop_unopened` ask for
 abbrev after : Wrote × ℕ × ℕ → Stopped
 after (line, status, at) = stopAfter line status at
 
 abbrev malformed : List ℕ × ℕ → Left
 malformed (report, at) = malformedAt report at
+
+abbrev unopened : List ℕ × ℕ → Left
+unopened (report, why) = unopenedAt report why
 
 -- the status, and the byte of the report at place i
 abbrev status : Left → ℕ
@@ -49,11 +52,16 @@ unfolding computes
 stop-malformed-nothing = apart (blank, 0) (byte 0) refl
 
 -- `stop_unopened`: the status of a malformed record
-pub stop-unopened-malformed : Excludes unopenedAt (λ report. stopWith (writtenAt report 0 (openLine (refusalNumber WrongSize))) (refusalNumber Malformed) 0)
+pub stop-unopened-malformed : Excludes unopened (λ (report, why). stopWith (writtenAt report 0 (openLine why)) (refusalNumber Malformed) 0)
 unfolding computes
-stop-unopened-malformed = apart blank status refl
+stop-unopened-malformed = apart (blank, refusalNumber WrongSize) status refl
 
 -- `stop_unopened`: `open 0`, as if the store were open
-pub stop-unopened-zero : Excludes unopenedAt (λ report. stopWith (writtenAt report 0 (openLine 0)) (refusalNumber WrongSize) 0)
+pub stop-unopened-zero : Excludes unopened (λ (report, why). stopWith (writtenAt report 0 (openLine 0)) why 0)
 unfolding computes
-stop-unopened-zero = apart blank (byte 5) refl
+stop-unopened-zero = apart (blank, refusalNumber WrongSize) (byte 5) refl
+
+-- `stop_unopened`: always as of a wrong size
+pub stop-unopened-size : Excludes unopened (λ (report, why). unopenedAt report (refusalNumber WrongSize))
+unfolding computes
+stop-unopened-size = apart (blank, refusalNumber WrongShape) status refl

@@ -3,7 +3,7 @@
 use Prim.Native.Nat.{suc, _*_}
 use mathlib.Core.Path.{refl}
 use mathlib.Core.Bool.{Bool, _&&_}
-use mathlib.Core.List.{[], map}
+use mathlib.Core.List.{[], _∷_, map}
 use lib.Dec.{leb}
 use lib.ListN.{length, getD, replicate, set}
 use Rattle.model.specs.Shape.{rightShape}
@@ -15,7 +15,7 @@ use Rattle.txn.specs.declared.Transaction.{Transaction}
 use Rattle.txn_places.specs.declared.Others.{Others}
 use Rattle.txn_places.specs.Places.{freePlaces}
 use Rattle.step.specs.Words.{view, othersIn}
-use Rattle.shape.specs.Shape.{tablesLent, tablesFit, shapeOf}
+use Rattle.shape.specs.Shape.{tablesLent, allInPlace, tablesFit, shapeOf}
 use Rattle.shape.specs.declared.Machine.{Machine}
 use Rattle.call.specs.Calls.{freshOf, closedOf}
 use Rattle.tightness.specs.Wrong.{Excludes}
@@ -55,6 +55,12 @@ others-of-writes-reserved = apart (set freePlaces 0 (writer phase.Open)) (λ (o 
 pub right-shape-words-only : Excludes right (λ (l, m). tablesFit (over l m))
 unfolding computes shapeOf
 right-shape-words-only = apart (lent, closedOf) bit refl
+
+-- `right_shape`: the lists of the buckets are not tested
+pub right-shape-lists-untested : Excludes right
+    (λ (l, m). tablesLent (l .0) (l .1) (l .2) (l .3) (m .sizes) && allInPlace (m .txns) && rightShape (view (over l m)))
+unfolding computes shapeOf
+right-shape-lists-untested = apart ((lent .0, lent .1, 0 ∷ 0 ∷ 1 ∷ [], lent .3), freshOf sizes 1) bit refl
 
 -- `right_shape`: the tables may be shorter than their sizes
 pub right-shape-tables-short : Excludes right (λ (l, m). rightShape (view (over l m)))

@@ -1,6 +1,6 @@
 -- Wrong bodies of the crate `table_buckets`.
 -- Assumes nothing.
-use Prim.Native.Nat.{ℕ, _+_}
+use Prim.Native.Nat.{ℕ, _+_, _%_, _/_}
 use mathlib.Core.Path.{refl}
 use mathlib.Core.List.{List, [], _∷_, reverse}
 use lib.Dec.{leb}
@@ -20,6 +20,14 @@ stamp-precedes-snapshot-equal = apart (5, 5) bit refl
 -- `stamp_precedes_snapshot`: the number before the stamp
 pub stamp-precedes-snapshot-reversed : Excludes {A = ℕ × ℕ} (λ (stamp, number). precedes stamp number) (λ (stamp, number). precedes number stamp)
 stamp-precedes-snapshot-reversed = apart (4, 5) bit refl
+
+-- `bucket_of`: the key itself
+pub bucket-of-key : Excludes {A = ℕ × ℕ} (λ (count, key). key % count) (λ (count, key). key)
+bucket-of-key = apart (4, 5) itself refl
+
+-- `bucket_of`: the quotient, not the rest
+pub bucket-of-quotient : Excludes {A = ℕ × ℕ} (λ (count, key). key % count) (λ (count, key). key / count)
+bucket-of-quotient = apart (4, 2) itself refl
 
 -- the number in an answer
 abbrev numberOf : Canonical → ℕ

@@ -1,14 +1,18 @@
 -- Wrong bodies of the crate `txn`.
 -- Assumes nothing.
-use Prim.Native.Nat.{ℕ, _+_, _-_, _%_, _/_, min}
+use Prim.Native.Nat.{ℕ, _+_, _-_, _%_, min}
 use mathlib.Core.Path.{refl}
 use mathlib.Core.Bool.{false, cond, not}
 use mathlib.Core.List.{List, [], _∷_}
 use lib.Dec.{eqb, leb}
 use lib.ListN.{getD}
+use Rattle.base_limits.specs.Limits.{mostRows}
 use Rattle.model.specs.Store.{rank, phaseHolding, phasePrepared, phaseInstalled, bucketIn, keyIn}
 use Rattle.model.specs.Refusals.{WrongPhase, Marked, ManyWrites, refusalNumber}
+use Rattle.base_protocol.specs.declared.Sizes.{Sizes}
+use Rattle.table.specs.Fields.{firstOf}
 use Rattle.table.specs.Lists.{writes}
+use Rattle.table_postings.specs.Postings.{follow, keyedOf, listedWith}
 use Rattle.txn.specs.declared.Phase.{Phase}
 use Rattle.txn.specs.declared.Phase.the-variants as phase
 use Rattle.txn.specs.declared.Transaction.{Transaction}
@@ -17,11 +21,11 @@ use Rattle.txn.specs.declared.Rest.{Rest}
 use Rattle.txn.specs.declared.Answered.{Answered}
 use Rattle.txn.specs.View.{phaseView}
 use Rattle.txn.specs.Methods.{idleOf, phaseFrom, restOf, partsOf, wholeOf, withPhase, withMark, withWrites, takenBy, refusedOf}
-use Rattle.txn.specs.Methods.{Left, LeftLists, left, captureAt, captureOf, writeOf, collectOf}
+use Rattle.txn.specs.Methods.{Left, LeftLists, left, captureAt, captureOf, writeOf, collectedLeft, collectOf}
 use Rattle.tightness.specs.Wrong.{Excludes}
 use Rattle.tightness.proofs.Apart.{apart, either-way, itself, bit, numberIn}
 use Rattle.tightness.proofs.Computes.{computes}
-use Rattle.tightness.proofs.Small.{live, writer, roomFor}
+use Rattle.tightness.proofs.Small.{live, writer, roomFor, sizes}
 
 -- the same transaction without its mark
 abbrev unmarked : Transaction → Transaction
@@ -68,14 +72,6 @@ idle-slot-0 = apart 1 (λ (t : Transaction). t .slot) refl
 -- `idle`: a free place is marked
 pub idle-marked : Excludes (λ slot. idleOf slot) (λ slot. withMark (idleOf slot))
 idle-marked = apart 0 (λ (t : Transaction). bit (t .marked)) refl
-
--- `bucket_of`: the key itself
-pub bucket-of-key : Excludes {A = ℕ × ℕ} (λ (count, key). key % count) (λ (count, key). key)
-bucket-of-key = apart (4, 5) itself refl
-
--- `bucket_of`: the quotient, not the rest
-pub bucket-of-quotient : Excludes {A = ℕ × ℕ} (λ (count, key). key % count) (λ (count, key). key / count)
-bucket-of-quotient = apart (4, 2) itself refl
 
 -- `by_another`: what is free is another's
 pub by-another-free : Excludes {A = ℕ × ℕ} (λ (carried, n). takenBy carried n) (λ (carried, n). not (eqb carried n))
@@ -152,12 +148,12 @@ put (t, lists, rows, row, key, payload) = writeOf t lists rows (record { row = r
 abbrev erase : Transaction × List ℕ × ℕ × ℕ → LeftLists
 erase (t, lists, rows, row) = writeOf t lists rows (record { row = row; keyed = 0; key = 0; payload = 0 })
 
-abbrev collect : Transaction × List ℕ × List ℕ × List ℕ × ℕ → Left
-collect (t, rows, buckets, lists, n) = collectOf t rows buckets lists n
+abbrev collect : Transaction × List ℕ × List ℕ × List ℕ × Sizes → Left
+collect (t, rows, buckets, lists, z) = collectOf t rows buckets lists z
 
 -- one bucket, of stamp 1 and free, and room for one index read
 abbrev capturing : Transaction × List ℕ × List ℕ × ℕ × ℕ
-capturing = (live 5 phase.Open, 1 ∷ 0 ∷ [], 0 ∷ 0 ∷ [], 1, 7)
+capturing = (live 5 phase.Open, 1 ∷ 0 ∷ 0 ∷ [], 0 ∷ 0 ∷ [], 1, 7)
 
 -- `capture`: the bucket is not taken
 pub capture-bucket-free : Excludes capture
@@ -224,17 +220,39 @@ pub erase-refuses : Excludes erase (λ (t, lists, rows, row). record { reply = r
 unfolding computes
 erase-refuses = apart (live 5 phase.Open, roomFor writes, 1, 0) (λ (l : LeftLists). numberIn (l .reply .answer)) refl
 
--- row 0 posted with key 7, whose bucket is held
-abbrev collecting : Transaction × List ℕ × List ℕ × List ℕ × ℕ
-collecting = (live 5 (phase.Holding 0 7), 0 ∷ 0 ∷ 1 ∷ 7 ∷ [], 0 ∷ 5 ∷ [], [], 1)
+-- row 0 posted with key 7 and in the list of that key's bucket, which is held
+abbrev collecting : Transaction × List ℕ × List ℕ × List ℕ × Sizes
+collecting = (live 5 (phase.Holding 0 7), 0 ∷ 0 ∷ 1 ∷ 7 ∷ 0 ∷ [], 0 ∷ 5 ∷ 1 ∷ [], [], sizes)
 
 -- `collect`: the bucket stays held
 pub collect-bucket-held : Excludes collect
-    (λ (t, rows, buckets, lists, n). left (collect (t, rows, buckets, lists, n) .reply) buckets (collect (t, rows, buckets, lists, n) .lists))
+    (λ (t, rows, buckets, lists, z). left (collect (t, rows, buckets, lists, z) .reply) buckets (collect (t, rows, buckets, lists, z) .lists))
 unfolding computes
 collect-bucket-held = apart collecting (λ (l : Left). getD (l .buckets) 1 0) refl
 
 -- `collect`: the last row is not looked at
-pub collect-last-row-missed : Excludes collect (λ (t, rows, buckets, lists, n). collect (t, rows, buckets, lists, n - 1))
+pub collect-last-row-missed : Excludes collect
+    (λ (t, rows, buckets, lists, z). collect (t, rows, buckets, lists, record { rows = z .rows - 1; versions = z .versions; buckets = z .buckets }))
 unfolding computes
 collect-last-row-missed = apart collecting (λ (l : Left). numberIn (l .reply .answer)) refl
+
+-- key 7 is of bucket 1 of two, in whose list row 0 is; the phase carries bucket 0
+abbrev carryingOther : Transaction × List ℕ × List ℕ × List ℕ × Sizes
+carryingOther =
+    (live 5 (phase.Holding 0 7), 0 ∷ 0 ∷ 1 ∷ 7 ∷ 0 ∷ [], 0 ∷ 5 ∷ 0 ∷ 0 ∷ 0 ∷ 1 ∷ [], [], record { rows = 1; versions = 1; buckets = 2 })
+
+-- `collect`: the list of the bucket that the phase carries is followed, not that of the key's
+pub collect-carried-list : Excludes collect (λ (t, rows, buckets, lists, z).
+    cond (not (eqb (rank (phaseView (t .phase))) phaseHolding)) (left (refusedOf t (refusalNumber WrongPhase)) buckets lists)
+    (collectedLeft t (bucketIn (phaseView (t .phase))) (keyIn (phaseView (t .phase)))
+    (keyedOf rows (keyIn (phaseView (t .phase))) (follow rows (firstOf buckets (bucketIn (phaseView (t .phase)))) 0 (min (z .rows) mostRows))) buckets lists))
+unfolding computes
+collect-carried-list = apart carryingOther (λ (l : Left). numberIn (l .reply .answer)) refl
+
+-- `collect`: the key's bucket is freed, not the one that the phase carries
+pub collect-key-bucket-freed : Excludes collect (λ (t, rows, buckets, lists, z).
+    cond (not (eqb (rank (phaseView (t .phase))) phaseHolding)) (left (refusedOf t (refusalNumber WrongPhase)) buckets lists)
+    (collectedLeft t (keyIn (phaseView (t .phase)) % z .buckets) (keyIn (phaseView (t .phase)))
+    (listedWith rows buckets (z .rows) (z .buckets) (keyIn (phaseView (t .phase)))) buckets lists))
+unfolding computes
+collect-key-bucket-freed = apart carryingOther (λ (l : Left). getD (l .buckets) 1 0) refl
