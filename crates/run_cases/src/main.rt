@@ -1,15 +1,22 @@
-// Replays the vectors of data/, and the worked example of document 01 cut anywhere and into any room, and compares every byte.
+// Replays the vectors of data/, over the replay's own tables and over lent ones, and the worked example of document 01 cut anywhere and into any room, and
+// compares every byte.
+use lent::agrees_lent;
 use replay::toruxeng_replay;
 ghost use Prim.Native.Nat.{_+_, _≤_, _<_};
 ghost use lib.ListN.{length};
 
+mod lent; // lent.rt: the same over lent tables
+
+// The bytes of the file of vectors, at the most.
+const MOST_FILE: usize = 524288;
+
 // The lent report, and the byte that fills it before a replay.
-const MOST_REPORT: usize = 4096;
+const MOST_REPORT: usize = 65536;
 
 const FILL: u8 = 170;
 
-// A vector begins with four numbers of two bytes.
-const HEAD: usize = 8;
+// A vector begins with four numbers of four bytes.
+const HEAD: usize = 16;
 
 // The status stands above this, the bytes written below it.
 const HALF: u64 = 4294967296;
@@ -32,6 +39,16 @@ fn number_at(bytes: &[u8], at: usize) -> usize
         return 0;
     }
     wide(bytes[at]) + 256 * wide(bytes[at + 1])
+}
+
+// The number of the four bytes from `at` on, in the same way.
+fn long_at(bytes: &[u8], at: usize) -> usize
+    ensures { λ r. ⌜ r < 4294967296 ⌝ }
+{
+    if at >= bytes.len() {
+        return 0;
+    }
+    number_at(bytes, at) + 65536 * number_at(bytes, at + 2)
 }
 
 // Whether two texts are the same.
@@ -79,6 +96,14 @@ fn says(report: &[u8], wrote: usize, first: &[u8], last: &[u8]) -> bool {
     untouched(&report[wrote..])
 }
 
+// Whether an answer has this status, and the report says the first text and then the last.
+fn answers(answer: u64, report: &[u8], status: u64, first: &[u8], last: &[u8]) -> bool {
+    if answer / HALF != status {
+        return false;
+    }
+    says(report, (answer % HALF) as usize, first, last)
+}
+
 // A replay into the first bytes of a report.
 fn replay_into(log: &[u8], report: &mut [u8], room: usize) -> u64
     requires { ⌜ room ≤ length (now report) ⌝ }
@@ -93,10 +118,7 @@ fn agrees(log: &[u8], room: usize, status: u64, first: &[u8], last: &[u8]) -> bo
     }
     let mut report = [FILL; MOST_REPORT];
     let answer = replay_into(log, &mut report, room);
-    if answer / HALF != status {
-        return false;
-    }
-    says(&report, (answer % HALF) as usize, first, last)
+    answers(answer, &report, status, first, last)
 }
 
 // Where a vector's log begins and ends, where its report ends, and what else it says.
@@ -124,8 +146,8 @@ fn vector_at(file: &[u8], at: usize) -> Vector
     if left < HEAD {
         return none;
     }
-    let log = number_at(file, at);
-    let report = number_at(file, at + 6);
+    let log = long_at(file, at);
+    let report = long_at(file, at + 12);
     if left - HEAD < log {
         return none;
     }
@@ -136,19 +158,22 @@ fn vector_at(file: &[u8], at: usize) -> Vector
         log: at + HEAD,
         report: at + HEAD + log,
         end: at + HEAD + log + report,
-        room: number_at(file, at + 2),
-        status: number_at(file, at + 4) as u64,
+        room: long_at(file, at + 4),
+        status: long_at(file, at + 8) as u64,
     }
 }
 
-// Whether the vector agrees.
-fn vector_agrees(file: &[u8], at: usize) -> bool
+// Whether the vector agrees: over lent tables, or over those of the replay itself.
+fn vector_agrees(file: &[u8], at: usize, over_lent: bool) -> bool
     requires { ⌜ at ≤ length (now file) ⌝ }
 {
     let v = vector_at(file, at);
     let log = v.log;
     let report = v.report;
     let end = v.end;
+    if over_lent {
+        return agrees_lent(&file[log..report], v.room, v.status, &file[report..end]);
+    }
     agrees(
         &file[log..report],
         v.room,
@@ -196,7 +221,7 @@ struct Cut {
 }
 
 fn cut_at(log: &[u8], report: &[u8], cut: usize) -> Cut
-    requires { ⌜ cut ≤ 65536 ⌝ }
+    requires { ⌜ cut ≤ length (now log) ⌝ }
     ensures { λ r. ⌜ r .said ≤ length (now (report .entry)) ⌝ }
 {
     let mut at = 0;
@@ -226,7 +251,7 @@ fn cut_at(log: &[u8], report: &[u8], cut: usize) -> Cut
 
 // Whether a cut log gives the lines of its whole records, and `bad 15` where the cut is in a record.
 fn cut_agrees(log: &[u8], report: &[u8], cut: usize) -> bool
-    requires { ⌜ (cut ≤ length (now log)) × (cut ≤ 65536) ⌝ }
+    requires { ⌜ cut ≤ length (now log) ⌝ }
 {
     let c = cut_at(log, report, cut);
     let said = c.said;
@@ -256,11 +281,11 @@ fn room_agrees(log: &[u8], report: &[u8], room: usize) -> bool
 }
 
 // How many vectors agree before the first that does not.
-fn vectors(file: &[u8]) -> usize {
+fn vectors(file: &[u8], over_lent: bool) -> usize {
     let mut at = 0;
     let mut n = 0;
     while at < file.len() {
-        if !vector_agrees(file, at) {
+        if !vector_agrees(file, at, over_lent) {
             return n;
         }
         let v = vector_at(file, at);
@@ -275,9 +300,7 @@ fn vectors(file: &[u8]) -> usize {
 }
 
 // How many cuts agree before the first that does not; and how many rooms.
-fn cuts(log: &[u8], report: &[u8]) -> usize
-    requires { ⌜ length (now log) ≤ 65536 ⌝ }
-{
+fn cuts(log: &[u8], report: &[u8]) -> usize {
     let mut cut = 0;
     while cut <= log.len() {
         if !cut_agrees(log, report, cut) {
@@ -288,9 +311,7 @@ fn cuts(log: &[u8], report: &[u8]) -> usize
     cut
 }
 
-fn rooms(log: &[u8], report: &[u8]) -> usize
-    requires { ⌜ length (now report) ≤ 65536 ⌝ }
-{
+fn rooms(log: &[u8], report: &[u8]) -> usize {
     let mut room = 0;
     while room <= report.len() {
         if !room_agrees(log, report, room) {
@@ -308,17 +329,8 @@ fn told(what: &[u8], n: usize) {
     io::write_all(1, b"\n");
 }
 
-fn main() {
-    let mut space = io::large_buffer();
-    let fd = os::open_read(b"vectors");
-    if fd < 0 {
-        os::fail(b"vectors");
-        return;
-    }
-    let n = io::read_full(fd, &mut space);
-    libc::close(fd);
-    let file = &space[..n];
-    told(b"vectors that agree: ", vectors(file));
+// The first vector, which is the worked example: its cuts and its rooms.
+fn told_example(file: &[u8]) {
     let v = vector_at(file, 0);
     let log = v.log;
     let report = v.report;
@@ -331,4 +343,22 @@ fn main() {
         b"rooms of its report that agree: ",
         rooms(&file[log..report], &file[report..end]),
     );
+}
+
+fn main() {
+    let mut space = [0u8; MOST_FILE];
+    let fd = os::open_read(b"vectors");
+    if fd < 0 {
+        os::fail(b"vectors");
+        return;
+    }
+    let n = io::read_full(fd, &mut space);
+    libc::close(fd);
+    let file = &space[..n];
+    told(b"vectors that agree: ", vectors(file, false));
+    told(
+        b"vectors that agree over lent tables: ",
+        vectors(file, true),
+    );
+    told_example(file);
 }

@@ -7,10 +7,10 @@ use Rattle.run_cases.proofs.vectors.Statement.{statement}
 use Rattle.run_cases.proofs.vectors.Tie as tie
 
 abbrev Inv-loop : tie.InvT-loop
-Inv-loop file at₀ n₀ at n = (n ≤ at) × (at ≤ length file)
+Inv-loop file over-lent at₀ n₀ at n = (n ≤ at) × (at ≤ length file)
 
 abbrev μ-loop : tie.MeasureT-loop
-μ-loop file at₀ n₀ at n = length file - at
+μ-loop file over-lent at₀ n₀ at n = length file - at
 
 loop-holds : tie.Need-loop-holds Inv-loop μ-loop
 loop-holds c = search needs

@@ -20,14 +20,16 @@ pub fn all() -> Vec<Vector> {
     let words = fs::read_to_string(folder.join("vectors.txt")).expect("the vectors in words");
     let packed = fs::read(folder.join("vectors")).expect("the vectors as bytes");
     let mut rest = &packed[..];
-    let vectors: Vec<Vector> = words.lines().filter_map(|line| line.strip_prefix("## ")).map(|name| next(name, &mut rest)).collect();
+    let vectors: Vec<Vector> =
+        words.lines().filter_map(|line| line.strip_prefix("## ")).map(|name| next(name, &mut rest)).collect();
     assert!(!vectors.is_empty() && rest.is_empty(), "each vector has its name, and there are some");
     vectors
 }
 
-/// Four numbers of two bytes, the lowest first: log bytes, room, status, report bytes; then the log and the report.
+/// Four numbers of four bytes, the lowest first: log bytes, room, status, report bytes; then the log and the report.
 fn next(name: &str, rest: &mut &[u8]) -> Vector {
-    let [log, room, status, report] = [(); 4].map(|()| usize::from(u16::from_le_bytes([taken(rest, 1)[0], taken(rest, 1)[0]])));
+    let mut number = || u32::from_le_bytes(taken(rest, 4).try_into().expect("four bytes")) as usize;
+    let [log, room, status, report] = [number(), number(), number(), number()];
     Vector {
         name: name.to_string(),
         log: taken(rest, log).to_vec(),
