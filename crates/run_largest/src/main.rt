@@ -1,5 +1,9 @@
 // A store of the largest sizes: every version is made, and then one transaction is validated many times, alone and beside seven with full lists.
 // How many times stands on standard input, a line for each; the cost of a public step is what a higher count costs more.
+use base_limits::MOST_ACTIVE;
+use base_limits::MOST_INDEX_READS;
+use base_limits::MOST_RECORDS;
+use base_limits::MOST_WRITES;
 use report_answers::numbers_of;
 use toruxeng::BUCKET_WORDS;
 use toruxeng::Called;
@@ -22,6 +26,7 @@ use toruxeng::prepare;
 use toruxeng::publish;
 use toruxeng::put;
 use toruxeng::validate;
+use txn::Transaction;
 
 // The words that the tables have; the version table has an entry 0 besides.
 const ROWS_LENT: usize = ROW_WORDS * MOST_ROWS;
@@ -32,22 +37,26 @@ const BUCKETS_LENT: usize = BUCKET_WORDS * MOST_BUCKETS;
 
 const LISTS_LENT: usize = SLOT_WORDS * MOST_LIVE;
 
-// The writes and the index reads of one transaction.
-const LISTED: u64 = 16;
+// The index reads, the read records and the writes of one transaction.
+const READS: u64 = MOST_INDEX_READS as u64;
 
-// Four rows that stand beside each other have one key, so that sixteen reads leave as many read records as there can be.
-const ROWS_OF_KEY: u64 = 4;
+const RECORDS: u64 = MOST_RECORDS as u64;
 
-// The buckets from one key to the next.
-const KEY_STEP: u64 = 16;
+const WRITES: u64 = MOST_WRITES as u64;
 
-// All writes are counted from 0, and from this one on each row gets its last.
+// The writes that fill the store, counted from 0; and the one from which on each row gets its last.
+const FILLED: u64 = MOST_VERSIONS as u64;
+
 const LAST_WRITES: u64 = (MOST_VERSIONS - MOST_ROWS) as u64;
 
-// From the first write of a reader to that of the next, and where seven readers end.
-const READER_STEP: u64 = 32;
+// The rows beside each other that have one key: so many that all reads together leave as many read records as there can be.
+const ROWS_OF_KEY: u64 = RECORDS / READS;
 
-const READERS_END: u64 = LAST_WRITES + 7 * READER_STEP;
+// The buckets from one key to the next: each key has its own.
+const KEY_STEP: u64 = MOST_BUCKETS as u64 / (FILLED / ROWS_OF_KEY);
+
+// All but the validated transaction read, each the rows behind those of the one before it.
+const READERS: u64 = MOST_ACTIVE as u64;
 
 // No count is higher than ten times this.
 const MOST_COUNT: u64 = 100000;
@@ -94,10 +103,10 @@ fn row_of(i: u64) -> u64 {
 
 // The key of the i-th write of all.
 fn key_of(i: u64) -> u64 {
-    i % MOST_VERSIONS as u64 / ROWS_OF_KEY * KEY_STEP
+    i % FILLED / ROWS_OF_KEY * KEY_STEP
 }
 
-// Sixteen puts, from the write `first` on.
+// As many puts as a transaction may have, from the write `first` on.
 fn put_all(
     rows: &mut [u64; ROWS_LENT],
     versions: &mut [u64; VERSIONS_LENT],
@@ -109,7 +118,7 @@ fn put_all(
 ) -> Played {
     let mut p = before;
     let mut i: u64 = 0;
-    while i < LISTED {
+    while i < WRITES {
         let write = std::num::wrapping_add_u64(first, i);
         let called = put(
             rows,
@@ -155,7 +164,7 @@ fn finish(
     )
 }
 
-// One transaction writes sixteen rows and is published.
+// One transaction writes as many rows as it may and is published.
 fn publish_one(
     rows: &mut [u64; ROWS_LENT],
     versions: &mut [u64; VERSIONS_LENT],
@@ -172,7 +181,7 @@ fn publish_one(
     finish(rows, versions, buckets, lists, written, begun.value)
 }
 
-// Every version is made, sixteen by each transaction.
+// Every version is made, by transactions with full lists of writes.
 fn fill(
     rows: &mut [u64; ROWS_LENT],
     versions: &mut [u64; VERSIONS_LENT],
@@ -182,9 +191,9 @@ fn fill(
 ) -> Played {
     let mut p = before;
     let mut first: u64 = 0;
-    while first < MOST_VERSIONS as u64 {
+    while first < FILLED {
         p = publish_one(rows, versions, buckets, lists, p, first);
-        first += LISTED;
+        first += WRITES;
     }
     p
 }
@@ -222,7 +231,7 @@ fn look_up(
     )
 }
 
-// Sixteen keys are looked up, from that of the write `first` on.
+// As many keys as a transaction may are looked up, from that of the write `first` on.
 fn look_up_all(
     rows: &mut [u64; ROWS_LENT],
     versions: &mut [u64; VERSIONS_LENT],
@@ -234,7 +243,7 @@ fn look_up_all(
 ) -> Played {
     let mut p = before;
     let mut i: u64 = 0;
-    while i < LISTED {
+    while i < READS {
         let key = key_of(std::num::wrapping_add_u64(first, i * ROWS_OF_KEY));
         p = look_up(rows, versions, buckets, lists, p, number, key);
         i += 1;
@@ -259,7 +268,7 @@ fn begin_reader(
     put_all(rows, versions, buckets, lists, read, begun.value, first)
 }
 
-// Seven transactions begin, each with full lists.
+// The readers begin, each with full lists.
 fn crowd(
     rows: &mut [u64; ROWS_LENT],
     versions: &mut [u64; VERSIONS_LENT],
@@ -268,10 +277,11 @@ fn crowd(
     before: Played,
 ) -> Played {
     let mut p = before;
-    let mut first = LAST_WRITES;
-    while first < READERS_END {
+    let mut i: u64 = 0;
+    while i < READERS {
+        let first = LAST_WRITES + i * RECORDS;
         p = begin_reader(rows, versions, buckets, lists, p, first);
-        first += READER_STEP;
+        i += 1;
     }
     p
 }
@@ -296,6 +306,31 @@ fn validate_all(
     p
 }
 
+// Whether no list of a transaction takes another entry.
+fn lists_full(t: Transaction) -> bool {
+    if t.reads_n != MOST_INDEX_READS {
+        return false;
+    }
+    if t.records_n != MOST_RECORDS {
+        return false;
+    }
+    t.writes_n == MOST_WRITES
+}
+
+// How many transactions have full lists.
+fn full_count(m: Machine) -> u64 {
+    let txns = m.txns;
+    let mut full: u64 = 0;
+    let mut i = 0;
+    while i < MOST_LIVE {
+        if lists_full(txns[i]) {
+            full = std::num::wrapping_add_u64(full, 1);
+        }
+        i += 1;
+    }
+    full
+}
+
 // Words and a number.
 fn say(words: &[u8], number: u64) {
     io::write_all(1, words);
@@ -313,7 +348,7 @@ fn tell(words: &[u8], p: Played) {
     io::write_all(1, b"\n");
 }
 
-// The whole: filled, validated alone, validated in a crowd; and no ninth transaction begins.
+// The whole: filled, validated alone, validated in a crowd with full lists; and no ninth transaction begins.
 fn play(
     rows: &mut [u64; ROWS_LENT],
     versions: &mut [u64; VERSIONS_LENT],
@@ -333,6 +368,8 @@ fn play(
     tell(b"one live, the last validate: ", alone);
     let crowded = crowd(rows, versions, buckets, lists, alone);
     tell(b"eight live, the last put: ", crowded);
+    say(b"with full lists: ", full_count(crowded.machine));
+    io::write_all(1, b"\n");
     let beside = validate_all(
         rows,
         versions,

@@ -2,6 +2,7 @@
 -- Assumes nothing.
 use borrow.Author.Needs.{needs}
 use Prim.Native.Nat.{_-_}
+use Rattle.base_limits.specs.Limits.{mostVersions}
 use Rattle.run_largest.proofs.fill.Statement.{statement}
 use Rattle.run_largest.proofs.fill.Tie as tie
 
@@ -9,7 +10,7 @@ abbrev Inv-loop : tie.InvT-loop
 Inv-loop rows₀ versions₀ buckets₀ lists₀ p₀ first₀ rows versions buckets lists p first = Unit
 
 abbrev μ-loop : tie.MeasureT-loop
-μ-loop rows₀ versions₀ buckets₀ lists₀ p₀ first₀ rows versions buckets lists p first = 4096 - first
+μ-loop rows₀ versions₀ buckets₀ lists₀ p₀ first₀ rows versions buckets lists p first = mostVersions - first
 
 loop-holds : tie.Need-loop-holds Inv-loop μ-loop
 loop-holds c = tt

@@ -2,6 +2,7 @@
 -- Assumes nothing.
 use borrow.Author.Needs.{needs}
 use Prim.Native.Nat.{_-_}
+use Rattle.base_limits.specs.Limits.{mostIndexReads}
 use Rattle.run_largest.proofs.look_up_all.Statement.{statement}
 use Rattle.run_largest.proofs.look_up_all.Tie as tie
 
@@ -9,7 +10,7 @@ abbrev Inv-loop : tie.InvT-loop
 Inv-loop rows₀ versions₀ buckets₀ lists₀ number first p₀ i₀ rows versions buckets lists p i = Unit
 
 abbrev μ-loop : tie.MeasureT-loop
-μ-loop rows₀ versions₀ buckets₀ lists₀ number first p₀ i₀ rows versions buckets lists p i = 16 - i
+μ-loop rows₀ versions₀ buckets₀ lists₀ number first p₀ i₀ rows versions buckets lists p i = mostIndexReads - i
 
 loop-holds : tie.Need-loop-holds Inv-loop μ-loop
 loop-holds c = tt
