@@ -23,6 +23,19 @@ pub record State : Type 0 where
   pub lists : List ℕ
   pub machine : Machine
 
+-- the first name of a version's words, of a bucket's, of the lists' and of a record's
+abbrev pub versionNames : ℕ
+versionNames = rowWords
+
+abbrev pub bucketNames : ℕ
+bucketNames = versionNames + versionWords
+
+abbrev pub listNames : ℕ
+listNames = bucketNames + bucketWords
+
+abbrev pub recordNames : ℕ
+recordNames = listNames + (reads .w + writes .w + records .w + candidates .w)
+
 -- ---- where a word stands
 
 -- no word stands here
@@ -62,11 +75,11 @@ machineSeen m k place i =
 
 unfoldable pub wordSeen : State → ℕ → ℕ → ℕ → Seen
 wordSeen s k a b =
-    cond (ltb k 4) (seenAt (s .rows) (entryPlace (length (s .rows)) rowWords k a))
-    (cond (ltb k 10) (seenAt (s .versions) (entryPlace (length (s .versions)) versionWords (k - 4) a))
-    (cond (ltb k 12) (seenAt (s .buckets) (entryPlace (length (s .buckets)) bucketWords (k - 10) a))
-    (cond (ltb k 22) (seenAt (s .lists) (listsPlace (k - 12) a b))
-    (machineSeen (s .machine) (k - 22) a b))))
+    cond (ltb k versionNames) (seenAt (s .rows) (entryPlace (length (s .rows)) rowWords k a))
+    (cond (ltb k bucketNames) (seenAt (s .versions) (entryPlace (length (s .versions)) versionWords (k - versionNames) a))
+    (cond (ltb k listNames) (seenAt (s .buckets) (entryPlace (length (s .buckets)) bucketWords (k - bucketNames) a))
+    (cond (ltb k recordNames) (seenAt (s .lists) (listsPlace (k - listNames) a b))
+    (machineSeen (s .machine) (k - recordNames) a b))))
 
 -- the word of this name
 abbrev pub lookOf : State → WordName → Seen
@@ -102,11 +115,11 @@ withMachine s m = record { rows = s .rows; versions = s .versions; buckets = s .
 
 unfoldable pub wordChanged : State → ℕ → ℕ → ℕ → ℕ → State
 wordChanged s k a b x =
-    cond (ltb k 4) (withRows s (set (s .rows) (entryPlace (length (s .rows)) rowWords k a) x))
-    (cond (ltb k 10) (withVersions s (set (s .versions) (entryPlace (length (s .versions)) versionWords (k - 4) a) x))
-    (cond (ltb k 12) (withBuckets s (set (s .buckets) (entryPlace (length (s .buckets)) bucketWords (k - 10) a) x))
-    (cond (ltb k 22) (withLists s (set (s .lists) (listsPlace (k - 12) a b) x))
-    (withMachine s (machineChanged (s .machine) (k - 22) a b x)))))
+    cond (ltb k versionNames) (withRows s (set (s .rows) (entryPlace (length (s .rows)) rowWords k a) x))
+    (cond (ltb k bucketNames) (withVersions s (set (s .versions) (entryPlace (length (s .versions)) versionWords (k - versionNames) a) x))
+    (cond (ltb k listNames) (withBuckets s (set (s .buckets) (entryPlace (length (s .buckets)) bucketWords (k - bucketNames) a) x))
+    (cond (ltb k recordNames) (withLists s (set (s .lists) (listsPlace (k - listNames) a b) x))
+    (withMachine s (machineChanged (s .machine) (k - recordNames) a b x)))))
 
 -- the state with another word of this name
 abbrev pub changeOf : State → WordName → ℕ → State

@@ -5,16 +5,17 @@ use mathlib.Core.List.{List, [], _∷_}
 use lib.Dec.{eqb}
 use Rattle.run_script.specs.Names.{named}
 
--- words 0 to 3, of a row; 4 to 9, of a version; 10 and 11, of a bucket
--- 12 to 21, of the lists of a record: its index reads (i), its writes (w), its read records (r) and its candidates (c)
--- 22 to 34, of a record; 35, its active numbers (a)
--- 36 to 40, the machine's own
+-- words 0 to 4, of a row; 5 to 10, of a version; 11 to 13, of a bucket
+-- 14 to 23, of the lists of a record: its index reads (i), its writes (w), its read records (r) and its candidates (c)
+-- 24 to 36, of a record; 37, its active numbers (a)
+-- 38 to 42, the machine's own
 unfoldable pub names : List ℕ
 names =
     named "head"
     ∷ named "claim"
     ∷ named "posted"
     ∷ named "postkey"
+    ∷ named "later"
     ∷ named "xmin"
     ∷ named "xmax"
     ∷ named "next"
@@ -23,6 +24,7 @@ names =
     ∷ named "payload"
     ∷ named "stamp"
     ∷ named "holder"
+    ∷ named "first"
     ∷ named "ibucket"
     ∷ named "istamp"
     ∷ named "wrow"

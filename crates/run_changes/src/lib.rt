@@ -47,17 +47,19 @@ pub enum Seen {
 }
 
 // The first name of a version's words, of a bucket's, of the lists', of a record's and of the machine's own.
-const VERSION_NAMES: usize = 4;
+const VERSION_NAMES: usize = ROW_WORDS;
 
-const BUCKET_NAMES: usize = 10;
+const BUCKET_NAMES: usize = VERSION_NAMES + VERSION_WORDS;
 
-const LIST_NAMES: usize = 12;
+const LIST_NAMES: usize = BUCKET_NAMES + BUCKET_WORDS;
 
-const RECORD_NAMES: usize = 22;
+const RECORD_NAMES: usize = LIST_NAMES + LIST_WORDS;
 
-const OWN_NAMES: usize = 36;
+const OWN_NAMES: usize = RECORD_NAMES + RECORD_PARTS + 1;
 
-// Parts of a record that are no active number.
+// Words of an entry of every list together, and parts of a record that are no active number.
+const LIST_WORDS: usize = READ_WORDS + WRITE_WORDS + RECORD_WORDS + CANDIDATE_WORDS;
+
 const RECORD_PARTS: usize = 13;
 
 // No word stands here.

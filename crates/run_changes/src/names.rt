@@ -2,7 +2,7 @@
 ghost use mathlib.Core.Path.{_≡_};
 ghost use Rattle.run_changes.specs.WordNames.{wordNamed};
 
-const NAMES: usize = 41;
+const NAMES: usize = 43;
 
 // The word that a name names: the name's place among all, by its letters.
 pub fn word_named(name: u64) -> usize
@@ -13,6 +13,7 @@ pub fn word_named(name: u64) -> usize
         0x636c61696d, // claim
         0x706f73746564, // posted
         0x706f73746b6579, // postkey
+        0x6c61746572, // later
         0x786d696e, // xmin
         0x786d6178, // xmax
         0x6e657874, // next
@@ -21,6 +22,7 @@ pub fn word_named(name: u64) -> usize
         0x7061796c6f6164, // payload
         0x7374616d70, // stamp
         0x686f6c646572, // holder
+        0x6669727374, // first
         0x696275636b6574, // ibucket
         0x697374616d70, // istamp
         0x77726f77, // wrow
