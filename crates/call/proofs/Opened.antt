@@ -1,4 +1,4 @@
--- An accepted open leaves words that stand for the fresh store.
+-- An accepted open leaves words that stand for the fresh store, and every word past the sizes as it was.
 -- Assumes nothing.
 use Prim.Native.Nat.{ℕ, zero, suc, _*_, _≤_}
 use mathlib.Core.Path.{_≡_, refl}
@@ -6,6 +6,7 @@ use mathlib.Core.Bool.{Bool, true, false, cond, not}
 use mathlib.Core.List.{List, [], _++_}
 use native.Mathlib.Omega.{arith}
 use lib.ListN.{length, take, drop, getD, replicate, length-append, length-replicate}
+use lib.Seq.{drop-at}
 use Rattle.base_limits.specs.Limits.{lastNumber}
 use Rattle.model.specs.Store.{fresh}
 use Rattle.model.specs.Machine.{canOpen}
@@ -14,6 +15,7 @@ use Rattle.base_protocol.specs.declared.Sizes.{Sizes}
 use Rattle.base_protocol.specs.View.{sizesView}
 use Rattle.table.specs.Fields.{rowWords, versionWords, bucketWords}
 use Rattle.step.specs.Words.{Words, view}
+use Rattle.step.specs.Past.{PastKept}
 use Rattle.step_bridge.proofs.Running.{Stands}
 use Rattle.step_bridge.proofs.Opening.{Opened, opened-view, opened-stands}
 use Rattle.shape.specs.Shape.{tablesLent, wordsOf}
@@ -34,11 +36,26 @@ pub cleared-long : (n : ℕ) (xs : List ℕ) → n ≤ length (cleared n xs)
 unfolding cleared
 cleared-long n xs = omega (arith, length-append (replicate n 0) (drop n xs), length-replicate {A = ℕ} n 0)
 
+-- and no other
+cleared-past : (n : ℕ) (xs : List ℕ) → drop n (cleared n xs) ≡ drop n xs
+unfolding cleared
+cleared-past n xs = drop-at (replicate n 0) (drop n xs) n (length-replicate n 0)
+
 module _ (rows versions buckets lists : List ℕ) (z : Sizes) (clock : ℕ) where
   -- the words of a fresh machine over cleared tables, and a list lent for the rows of a read
   abbrev pub freshWords : List ℕ → Words
   freshWords found = wordsOf (cleared (rowWords * z .rows) rows) (cleared (versionWords * suc (z .versions)) versions)
       (cleared (bucketWords * z .buckets) buckets) lists found (freshOf z clock)
+
+  -- words past what the sizes name are as they were
+  pub fresh-past : (before found : List ℕ)
+      → PastKept z (record { rows = rows; versions = versions; buckets = buckets; lists = lists; found = before }) (freshWords found .tables)
+  fresh-past before found = record {
+    rows = cleared-past (rowWords * z .rows) rows;
+    versions = cleared-past (versionWords * suc (z .versions)) versions;
+    buckets = cleared-past (bucketWords * z .buckets) buckets;
+    lists = refl;
+  }
 
   done-by : (a b : Bool)
       → cond (not a) (refusedOpen 1 rows versions buckets lists)

@@ -134,7 +134,7 @@ sized-txn i t n e =
       candidates = leb-true _ mostRows (and-r (reads && writes && records) candidates four);
     }
 
-fit-sized : (w : Words) → Typed w → tablesFit w ≡ true → Sized w
+pub fit-sized : (w : Words) → Typed w → tablesFit w ≡ true → Sized w
 unfolding tablesFit
 fit-sized w t e =
     let all-lent = tablesLent (w .tables .rows) (w .tables .versions) (w .tables .buckets) (w .tables .lists) (w .sizes) in
@@ -180,7 +180,7 @@ sized-fit w z =
 -- ---- one call
 
 -- the shape is the model's, with what only the words can get wrong
-shape-is : (w : Words) → shapeOf w ≡ (tablesFit w && rightShape (view w))
+pub shape-is : (w : Words) → shapeOf w ≡ (tablesFit w && rightShape (view w))
 unfolding shapeOf
 shape-is w = refl
 
@@ -190,11 +190,11 @@ module _ (w : Words) (found : List ℕ) where
   unfolding tablesFit
   lent-fit = refl
 
-  lent-shape : shapeOf (lending w found) ≡ shapeOf w
+  pub lent-shape : shapeOf (lending w found) ≡ shapeOf w
   unfolding shapeOf
   lent-shape = ap (λ (b : Bool). b && rightShape (view w)) lent-fit
 
-  lent-sized : Sized w → Sized (lending w found)
+  pub lent-sized : Sized w → Sized (lending w found)
   lent-sized z = record { eight = z .eight; rows = z .rows; versions = z .versions; buckets = z .buckets; lists = z .lists; txns = z .txns; told = z .told }
 
 -- a store of wrong shape gets 16 in the model too

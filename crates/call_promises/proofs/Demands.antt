@@ -1,4 +1,4 @@
--- The page of statements: demands 1 to 3 and request (xiii), of the public functions. Assumes nothing.
+-- The page of statements: demands 1 to 3, words past the sizes and request (xiii), of the public functions. Assumes nothing.
 -- All that a statement says is defined in specs/; each proof is one line. Calls that meet the premises stand in Runs.
 use Prim.Native.Nat.{ℕ}
 use mathlib.Core.Path.{_≡_}
@@ -18,11 +18,12 @@ use Rattle.report_answers.specs.Answers.{numberOf}
 use Rattle.step.specs.Words.{Words, view}
 use Rattle.call_promises.specs.Calls.{Call, called, Typed, AnyCall}
 use Rattle.call_promises.specs.Demands.{ExactCall, Opening, openNumber, ExactOpen, after, storeAfter, Follows, reading, validating, preparing}
-use Rattle.call_promises.specs.Demands.{MarkedCalls, JudgedCall, ReadCall}
+use Rattle.call_promises.specs.Demands.{PastCall, PastCalls, MarkedCalls, JudgedCall, ReadCall}
 use Rattle.call_promises.specs.InTurn.{CallsInTurn}
 use Rattle.call_promises.proofs.Calls.{any-call}
 use Rattle.call_promises.proofs.Answered.{exactly, judges, opens-exactly}
 use Rattle.call_promises.proofs.Sequences.{follows, least-xmins, heads, costless, marked-open, stops, reads, stands}
+use Rattle.call_promises.proofs.Past.{calls-kept, past-calls}
 use Rattle.call_promises.proofs.InTurn.{turns}
 
 -- DEMAND 1, of a call on any words that the code's types allow: its number exactly when, in order; its values; what it leaves. And of open.
@@ -84,6 +85,14 @@ pub validated-call : (o : Opening) (e : openNumber o ≡ 0) (cs : List Call) (t 
     (read-call o e cs t lent n q .found)
 unfolding read-call
 validated-call = stands
+
+-- Of a call on any words: every word past what the sizes name is as it was.
+pub past-call : (w : Words) (c : Call) → Typed w → PastCall w c
+past-call = calls-kept
+
+-- After an accepted open and any calls every word past what the sizes name is as it was lent to open.
+pub calls-past : (o : Opening) → openNumber o ≡ 0 → (cs : List Call) → PastCalls o cs
+calls-past = past-calls
 
 -- REQUEST (xiii): the calls were as if made in turn.
 pub calls-in-turn : (o : Opening) → openNumber o ≡ 0 → (cs : List Call) → CallsInTurn o cs

@@ -4,6 +4,7 @@ pub mod Called
 pub mod Calls
 pub mod Answered
 pub mod Sequences
+pub mod Past
 pub mod InTurn
 pub mod Demands
 pub mod Runs

@@ -22,7 +22,9 @@ use Rattle.base_protocol.specs.declared.Verdict.the-variants as verdict
 use Rattle.base_protocol.specs.declared.Sizes.{Sizes}
 use Rattle.base_protocol.specs.View.{verdictTold, sizesView}
 use Rattle.report_answers.specs.Answers.{numberOf, valuesOf}
+use Rattle.step.specs.Steps.{Tables}
 use Rattle.step.specs.Words.{Words, view}
+use Rattle.step.specs.Past.{PastKept}
 use Rattle.shape.specs.Shape.{tablesLent, tablesFit, wordsOf}
 use Rattle.call.specs.Calls.{closedOf, openOf}
 use Rattle.call_promises.specs.Calls.{Call, asking, lending, called, calls, stepsOf, Typed}
@@ -84,6 +86,23 @@ pub record Follows (o : Opening) (cs : List Call) : Type 0 where
   pub typed : Typed (after o cs)
   pub fits : tablesFit (after o cs) ≡ true
   pub stands-for : view (after o cs) ≡ storeAfter o cs
+
+-- WORDS PAST THE SIZES
+
+-- a call keeps every word past what the sizes of its machine name
+abbrev pub PastCall : Words → Call → Type 0
+PastCall w c = PastKept (w .sizes) (w .tables) (called w c .words .tables)
+
+-- the tables as they were lent to open
+abbrev pub lentTo : Opening → Tables
+lentTo o = record { rows = o .rows; versions = o .versions; buckets = o .buckets; lists = o .lists; found = [] }
+
+-- after an open and these calls, the sizes are those that were opened, and every word past them is as it was lent to open
+pub record PastCalls (o : Opening) (cs : List Call) : Type 0 where
+  pub sizes : after o cs .sizes ≡ o .sizes
+  pub past : PastKept (o .sizes) (lentTo o) (after o cs .tables)
+
+-- THE READ, THE VERDICT AND THE MARK
 
 -- a read into a list, a validation, and a prepare
 abbrev pub reading : ℕ → List ℕ → Call

@@ -8,6 +8,7 @@ pub mod Beside
 pub mod Turning
 pub mod First
 pub mod Lending
+pub mod Past
 pub mod Greatest
 pub mod Statuses
 pub mod Samples

@@ -110,7 +110,7 @@ module _ (w : Words) (z : Sized w) (g : Shaped w) where
       )
       (posted-test (postedOf (w .tables .rows) r) (postedKeyOf (w .tables .rows) r) k))
 
-  posted-few : (k : ℕ) → length (postedRows (view w) k) ≤ mostRows
+  pub posted-few : (k : ℕ) → length (postedRows (view w) k) ≤ mostRows
   unfolding postedRows
   posted-few k = omega (arith, pick-few (λ r. sameKey (view w .index .posted r) (some k)) 0 (w .sizes .rows), good-sized (view w .sizes) (g .sizes) .rows-most)
 

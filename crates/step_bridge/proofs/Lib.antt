@@ -28,3 +28,6 @@ pub mod Reposting
 pub mod Changing
 pub mod Publishing
 pub mod Stepping
+pub mod Beyond
+pub mod Slotted
+pub mod Past

@@ -68,7 +68,7 @@ phase-open x e =
     lt-leb phaseInstalled (rank x) (omega arith)
 
 -- the buckets that the words list for a prepare
-abbrev neededFor : Words → ℕ → Listed
+abbrev pub neededFor : Words → ℕ → Listed
 neededFor w p = neededInto (w .tables .rows) (w .tables .versions) (w .tables .lists) (w .sizes .buckets) (txnAt w p) (replicate mostNeeded 0)
 
 -- the model's tests of a prepare in phase Open, and the refusal that they give
@@ -121,7 +121,7 @@ module _ (w : Words) (z : Sized w) (g : Shaped w) where
   own-same p l = versions-counted (view w .sizes) (w .tables .rows) (w .tables .versions) (w .used) (headed w z g) (rows-most w z g) (w .tables .lists)
       (txnAt w p) (writes-in w z g p l)
 
-  needed-front : (p : ℕ) → front (neededFor w p) ≡ listedNeeds w p
+  pub needed-front : (p : ℕ) → front (neededFor w p) ≡ listedNeeds w p
   unfolding neededInto
   needed-front p = listed-all 48 (listedNeeds w p) (listed-few w p z)
 

@@ -104,7 +104,7 @@ module _ (xs : List ℕ) (t : Transaction) where
   all-rows-other m k h d (r ∷ rs) c = all-rows-other m k h d rs (pushedRow c xs t r) ∙ one-row-other m k h d c r
 
 -- what one has reserved is among what all have
-reserved-has : (z : model.Sizes) (c : model.Chains) (ts : ℕ → model.Txn) (n i : ℕ) → i < n → reservedBy z c (ts i) ≤ reserved z c ts n
+pub reserved-has : (z : model.Sizes) (c : model.Chains) (ts : ℕ → model.Txn) (n i : ℕ) → i < n → reservedBy z c (ts i) ≤ reserved z c ts n
 unfolding reserved
 reserved-has z c ts zero i h = absurd (omega arith)
 reserved-has z c ts (suc n) i h = elim (ℕ-discrete i n) [ yes e ↦ rw e (omega arith) | no d ↦ omega (arith, reserved-has z c ts n i (omega arith)) ]
@@ -131,7 +131,7 @@ module _ (z : model.Sizes) (small : z .versions ≤ mostVersions) (xs : List ℕ
       (stored-keys m (c .versions) p (t .number) h x hp hh (f .versions) ∙ ap (λ (k : Option ℕ). update (chainsOf z c .key) p k) (last-key xs t few r))
       (stored-payload m (c .versions) p (t .number) h x hp hh (f .versions) ∙ ap (λ (k : ℕ). update (chainsOf z c .payload) p k) (last-payload xs t few r)))
 
-  push-fit : (c : install.Chains) (r : ℕ) → r < z .rows → c .used < z .versions → Fit z c → Fit z (pushedRow c xs t r)
+  pub push-fit : (c : install.Chains) (r : ℕ) → r < z .rows → c .used < z .versions → Fit z c → Fit z (pushedRow c xs t r)
   push-fit c r hr hu f = let e = push-view c r hr hu f in record {
     rows = rw rows-length (f .rows);
     versions = rw versions-length (f .versions);
@@ -158,7 +158,7 @@ module _ (z : model.Sizes) (small : z .versions ≤ mostVersions) (xs : List ℕ
       ∙ ap (λ (d : model.Chains). pushAll (txnView xs t) rs d) e
 
 -- the chains that a step finds
-abbrev chainsIn : Words → install.Chains
+abbrev pub chainsIn : Words → install.Chains
 chainsIn w = record { rows = w .tables .rows; versions = w .tables .versions; used = w .used }
 
 -- all that install leaves, by its rows
