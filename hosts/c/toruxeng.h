@@ -9,10 +9,10 @@
 #include <stddef.h>
 #include <stdint.h>
 
-#define TORUXENG_VERSION "0.4.5"
+#define TORUXENG_VERSION "0.5.0"
 #define TORUXENG_VERSION_MAJOR 0
-#define TORUXENG_VERSION_MINOR 4
-#define TORUXENG_VERSION_PATCH 5
+#define TORUXENG_VERSION_MINOR 5
+#define TORUXENG_VERSION_PATCH 0
 
 /* What a store can be opened with at most; room for more rows than it can have is room for all of them. */
 #define TORUXENG_MOST_ROWS 1024
@@ -84,7 +84,7 @@ enum toruxeng_kind {
  *     a pointer not valid for its length    undefined          undefined: this cannot be tested
  *
  * The call keeps nothing, allocates nothing and never unwinds, so any number of threads may call at once, each with a
- * report of its own. It takes about 423,000 bytes of the calling thread's stack, whatever the log: 432 KiB is enough for
+ * report of its own. It takes about 460,000 bytes of the calling thread's stack, whatever the log: 456 KiB is enough for
  * the call itself, on x86-64 and on aarch64 (docs/HOSTS.md has the figures).
  */
 uint64_t toruxeng_replay(const uint8_t *log, size_t log_length, uint8_t *report, size_t report_length);
