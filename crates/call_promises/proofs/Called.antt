@@ -38,7 +38,7 @@ use Rattle.step.specs.Words.{Words, view, txnAt, placeFor, Sized}
 use Rattle.step_bridge.proofs.Places.{standing, live-at}
 use Rattle.step_bridge.proofs.Placed.{unmoved}
 use Rattle.step_bridge.proofs.Same.{two-held, SameAt, SameAs, Same, refused-same, by-place-as}
-use Rattle.step_bridge.proofs.Shaped.{Shaped, shaped, count-pos}
+use Rattle.step_bridge.proofs.Shaped.{Shaped, shaped}
 use Rattle.step_bridge.proofs.Tabled.{part}
 use Rattle.step_bridge.proofs.Freeing.{freedAt, clear-all, clear-length}
 use Rattle.step_bridge.proofs.Needing.{row-in}
@@ -100,17 +100,17 @@ module _ (w : Words) (z : Sized w) (p : ℕ) (l : p < mostLive) (a : 1 ≤ txnAt
       → clock ≡ clock′ → chainsView (rowsPart (sizesView (w .sizes)) rows) (versionsPart (sizesView (w .sizes)) (w .tables .versions)) (w .used) ≡ c
       → indexView (rowsPart (sizesView (w .sizes)) rows) (bucketsPart (sizesView (w .sizes)) buckets) ≡ x
       → freed (heldView (rowsPart (sizesView (w .sizes)) rows) (bucketsPart (sizesView (w .sizes)) buckets)) (txnAt w p .number) ≡ h
-      → length rows ≡ length (w .tables .rows) → length buckets ≡ length (w .tables .buckets) → 1 ≤ w .sizes .buckets → Tells w rows buckets
+      → length rows ≡ length (w .tables .rows) → length buckets ≡ length (w .tables .buckets) → Tells w rows
       → t ≡ told o → w .tables .found ≡ lentAfter o (w .tables .found)
       → SameAt w p (sweptMoved (w .sizes) (txnAt w p .number) (ended rows buckets t clock))
       (gives (record { sizes = view w .sizes; clock = clock′; chains = c; index = x; held = h; txns = update (view w .txns) p model.noTxn }) o)
-  swept-at rows buckets t o clock clock′ c x h e₁ e₂ e₃ e₄ r b pos tells f g =
+  swept-at rows buckets t o clock clock′ c x h e₁ e₂ e₃ e₄ r b tells f g =
       let v = txnAt w p .number in
       rw (swept-ended rows buckets t clock)
       (ended-at w z p l _ _ t o clock clock′ c x h e₁ (swept-chains (view w .sizes) v a rows buckets _ _ ∙ e₂)
       (swept-index (view w .sizes) v a rows buckets ∙ e₃) (swept-held (view w .sizes) v a rows buckets (rw r (z .rows)) (rw b (z .buckets)) ∙ e₄)
       (swept-rows-long (view w .sizes) v a rows buckets ∙ r) (swept-buckets-long (view w .sizes) v a rows buckets ∙ b)
-      (swept-told (view w .sizes) v a rows buckets pos tells) f g)
+      (swept-told (view w .sizes) v a rows buckets tells) f g)
 
   -- freed in part, and then swept, is freed
   swept-freed : (rows buckets rs bs : List ℕ)
@@ -148,7 +148,7 @@ module _ (w : Words) (z : Sized w) (g : Shaped w) (n : ℕ) where
       (clear-all bucketWords 1 (omega arith) (w .sizes .buckets) v (w .tables .buckets) (freedList w q) (freed-in w z g q a) (z .buckets))
       (clear-all rowWords 1 (omega arith) (w .sizes .rows) v (w .tables .rows) rs (λ r m. row-in w z g q a r m) (z .rows)))
       (clear-length rowWords 1 v (w .tables .rows) rs) (clear-length bucketWords 1 v (w .tables .buckets) (freedList w q))
-      (count-pos w g) (abort-told w z g v rs (freedList w q)) refl refl
+      (abort-told w z v rs) refl refl
 
   abort-called : SameAs w (ask.Abort n) (calledBy w (ask.Abort n))
   unfolding refusal abortOf
@@ -183,7 +183,7 @@ module _ (w : Words) (z : Sized w) (g : Shaped w) (n : ℕ) where
       (one-up (w .clock) (clock-below w g q l a)) (publish-chains w z q)
       (publish-index w z g q a (le-leb phaseInstalled _ (phase-ended (phaseView (txnAt w q .phase)) e)))
       (swept-freed w z q l a _ _ _ _ (holders-freed w z g q a) (claims-freed w z g q a)) (rows-long w z q) (buckets-long w z q)
-      (count-pos w g) (publish-told w z g q a) refl refl
+      (publish-told w z g q a) refl refl
 
   publish-called : SameAs w (ask.Publish n) (calledBy w (ask.Publish n))
   unfolding refusal publishStep publishOf

@@ -104,10 +104,7 @@ module _ (z : model.Sizes) (v : ℕ) (l : 1 ≤ v) (rows buckets : List ℕ) whe
   swept-buckets-long = rw (release-all v (z .buckets) buckets) (clear-length bucketWords 1 v buckets (below (z .buckets)))
 
   -- the lists tell as before
-  pub swept-told : 1 ≤ z .buckets → listsTell (record { rows = rows; buckets = buckets }) (z .rows) (z .buckets) ≡ true
-      → listsTell (record { rows = unclaimEvery rows (z .rows) v; buckets = releaseEvery buckets (z .buckets) v }) (z .rows) (z .buckets) ≡ true
-  swept-told some told =
-      rw (release-all v (z .buckets) buckets, unclaim-all-below v (z .rows) rows)
-      (tells-kept _ _ (z .rows) (z .buckets) some
-      (λ k lo hi. clear-other rowWords 1 (omega arith) (z .rows) v rows (below (z .rows)) k hi (λ e. omega arith))
-      (clear-other bucketWords 1 (omega arith) (z .buckets) v buckets (below (z .buckets)) 2 (omega arith) (omega arith)) told)
+  pub swept-told : listsTell rows (z .rows) ≡ true → listsTell (unclaimEvery rows (z .rows) v) (z .rows) ≡ true
+  swept-told told =
+      rw (unclaim-all-below v (z .rows) rows)
+      (tells-kept _ _ (z .rows) (λ k lo hi. clear-other rowWords 1 (omega arith) (z .rows) v rows (below (z .rows)) k hi (λ e. omega arith)) told)

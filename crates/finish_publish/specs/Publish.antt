@@ -17,7 +17,7 @@ use Rattle.txn.specs.declared.Answered.{Answered}
 use Rattle.txn_needs.specs.Keys.{newKeyOf}
 use Rattle.txn_needs.specs.Needs.{Listed, pushAll, listedIn, front, readsNeed, writtenBy, writesNeed, writesChange}
 use Rattle.table.specs.Fields.{setStamps, clearHolders, clearClaims}
-use Rattle.table_postings.specs.Links.{Tables, reposted}
+use Rattle.table_postings.specs.Links.{reposted}
 
 -- end: wrong phase; else Ended
 unfoldable pub endOf : Transaction → Answered
@@ -25,14 +25,14 @@ endOf t = cond (not (eqb (rank (phaseView (t .phase))) phaseInstalled)) (refused
     (record { answer = tell.Done; txn = withPhase t phase.Ended })
 
 -- the posting of one row, and of every pending one, follows its new key, from list to list
-unfoldable pub postedOne : Tables → List ℕ → ℕ → Transaction → ℕ → Tables
-postedOne x lists bucketCount t r =
+unfoldable pub postedOne : List ℕ → List ℕ → ℕ → Transaction → ℕ → List ℕ
+postedOne rows lists rowCount t r =
     let k = newKeyOf lists (t .slot) (t .«writes_n») r in
-    reposted x bucketCount r (k .keyed) (k .key)
+    reposted rows rowCount r (k .keyed) (k .key)
 
-unfoldable pub postedAll : Tables → List ℕ → ℕ → Transaction → List ℕ → Tables
-postedAll x lists bucketCount t [] = x
-postedAll x lists bucketCount t (r ∷ rs) = postedAll (postedOne x lists bucketCount t r) lists bucketCount t rs
+unfoldable pub postedAll : List ℕ → List ℕ → ℕ → Transaction → List ℕ → List ℕ
+postedAll rows lists rowCount t [] = rows
+postedAll rows lists rowCount t (r ∷ rs) = postedAll (postedOne rows lists rowCount t r) lists rowCount t rs
 
 -- words for the buckets that a transaction needs, and for the one that Holding carries
 abbrev pub mostHeld : ℕ
@@ -58,20 +58,14 @@ pub record Left : Type 0 where
   pub rows : List ℕ
   pub buckets : List ℕ
 
--- changed buckets are stamped, buckets freed, and then the postings moved
-abbrev pub movedIn : List ℕ → List ℕ → List ℕ → List ℕ → Extent → Transaction → Tables
-movedIn rows versions buckets lists e t =
-    postedAll (record { rows = rows; buckets = freedIn rows versions (stampedIn rows versions buckets lists e t) lists (e .sizes .buckets) t })
-    lists (e .sizes .buckets) t (writtenBy lists t)
-
 -- publish: wrong phase; else changed buckets are stamped, buckets freed, postings moved, claims freed, and the record ends
 unfoldable pub publishOf : List ℕ → List ℕ → List ℕ → List ℕ → Extent → Transaction → Left
 publishOf rows versions buckets lists e t =
     cond (not (eqb (rank (phaseView (t .phase))) phaseEnded)) (record { reply = refusedOf t (refusalNumber WrongPhase); rows = rows; buckets = buckets })
     (record {
       reply = record { answer = tell.Stamp (e .clock); txn = idleOf (t .slot) };
-      rows = clearClaims (movedIn rows versions buckets lists e t .rows) (t .number) (writtenBy lists t);
-      buckets = movedIn rows versions buckets lists e t .buckets;
+      rows = clearClaims (postedAll rows lists (e .sizes .rows) t (writtenBy lists t)) (t .number) (writtenBy lists t);
+      buckets = freedIn rows versions (stampedIn rows versions buckets lists e t) lists (e .sizes .buckets) t;
     })
 
 -- abort: wrong phase; else buckets and claims are freed, and the record ends

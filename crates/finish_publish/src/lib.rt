@@ -44,38 +44,21 @@ pub fn end(t: Transaction) -> Answered
     }
 }
 
-// The posting of one row follows its new key, and the row goes to the list of that key's bucket.
-fn post(
-    rows: &mut [u64],
-    buckets: &mut [u64],
-    lists: &[u64],
-    bucket_count: u64,
-    t: Transaction,
-    row: u64,
-)
-    ensures { λ _. ⌜ record { rows = now (rows .exit); buckets = now (buckets .exit) }
-        ≡ postedOne (record { rows = now (rows .entry); buckets = now (buckets .entry) }) (now (lists .entry)) «bucket_count» t row ⌝ }
+// The posting of one row follows its new key, and the row goes to the list of that key.
+fn post(rows: &mut [u64], lists: &[u64], row_count: u64, t: Transaction, row: u64)
+    ensures { λ _. ⌜ now (rows .exit) ≡ postedOne (now (rows .entry)) (now (lists .entry)) «row_count» t row ⌝ }
 {
     let key = new_key(lists, t.slot, t.writes_n, row);
-    repost(rows, buckets, bucket_count, row, key.keyed, key.key);
+    repost(rows, row_count, row, key.keyed, key.key);
 }
 
-// Postings and the lists of the buckets follow the new keys.
-fn post_all(rows: &mut [u64], buckets: &mut [u64], lists: &[u64], bucket_count: u64, t: Transaction)
-    ensures { λ _. ⌜ record { rows = now (rows .exit); buckets = now (buckets .exit) }
-        ≡ postedAll (record { rows = now (rows .entry); buckets = now (buckets .entry) }) (now (lists .entry)) «bucket_count» t
-        (writtenBy (now (lists .entry)) t) ⌝ }
+// Postings and their lists follow the new keys.
+fn post_all(rows: &mut [u64], lists: &[u64], row_count: u64, t: Transaction)
+    ensures { λ _. ⌜ now (rows .exit) ≡ postedAll (now (rows .entry)) (now (lists .entry)) «row_count» t (writtenBy (now (lists .entry)) t) ⌝ }
 {
     let mut i: u32 = 0;
     while i < t.writes_n {
-        post(
-            rows,
-            buckets,
-            lists,
-            bucket_count,
-            t,
-            write_row_at(lists, t.slot, i),
-        );
+        post(rows, lists, row_count, t, write_row_at(lists, t.slot, i));
         i += 1;
     }
 }
@@ -137,7 +120,7 @@ pub fn publish(
     let mut list = [0u64; MOST_HELD];
     let n = push_held(rows, versions, lists, sizes.buckets, t, &mut list);
     release_all(buckets, &list, n, t.number);
-    post_all(rows, buckets, lists, sizes.buckets, t);
+    post_all(rows, lists, sizes.rows, t);
     unclaim_all(rows, lists, t);
     Answered {
         answer: Answer::Stamp(extent.clock),

@@ -33,8 +33,8 @@ use Rattle.log.specs.Layout.{fieldsIn, Fit, none-left, one-fits, Bytes}
 use Rattle.log.proofs.Reading.{reads, read-open}
 use Rattle.log.proofs.Exact.{read-exact}
 use Rattle.report.specs.Lines.{openLine}
-use Rattle.replay.specs.Lent.{Lent, lineAfter, whereAsked, wordsFor, wordsOpened, lentLeft}
-use Rattle.replay.specs.Past.{fourOf, opensOver, LentPast}
+use Rattle.replay.specs.Lent.{Lent, lineAfter, whereAsked, wordsFor, wordsOpened, lentLeft, opensOver}
+use Rattle.replay.specs.Past.{fourOf, LentPast}
 use Rattle.replay.proofs.Zeroes.{begins, opened-is, is-opened}
 
 -- ---- the records behind an open

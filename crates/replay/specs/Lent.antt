@@ -95,10 +95,14 @@ wordsFrom room log at wrote w = wordsFor room log (length log) at wrote w
 abbrev pub wordsOpened : ℕ → List ℕ → ℕ → Words → Words
 wordsOpened room log at w = cond (leb (length (openLine 0)) room) (wordsFrom room log at (length (openLine 0)) w) w
 
+-- the two tests of an open over these tables
+abbrev pub opensOver : Lent → Sizes → ℕ → Bool
+opensOver t z clock = canOpen (sizesView z) clock && tablesLent (t .rows) (t .versions) (t .buckets) (t .lists) z
+
 -- the tables behind a whole log: as found where nothing was opened
 abbrev pub lentAfter : Command → ℕ → List ℕ → ℕ → Lent → Lent
 lentAfter (Open z clock) room log at t =
-    cond (canOpen (sizesView z) clock && tablesLent (t .rows) (t .versions) (t .buckets) (t .lists) z) (lentIn (wordsOpened room log at (openedIn t z clock))) t
+    cond (opensOver t z clock) (lentIn (wordsOpened room log at (openedIn t z clock))) t
 lentAfter (Ask s) room log at t = t
 lentAfter Malformed room log at t = t
 

@@ -1,25 +1,18 @@
 -- What a replay over lent tables leaves past the sizes that its log opens.
 use Prim.Native.Nat.{ℕ}
 use mathlib.Core.Path.{_≡_}
-use mathlib.Core.Bool.{Bool, true, false, _&&_}
+use mathlib.Core.Bool.{true, false}
 use mathlib.Core.List.{List, []}
-use Rattle.model.specs.Machine.{canOpen}
 use Rattle.base_protocol.specs.declared.Sizes.{Sizes}
-use Rattle.base_protocol.specs.View.{sizesView}
 use Rattle.step.specs.Steps.{Tables}
 use Rattle.step.specs.Past.{PastKept}
-use Rattle.shape.specs.Shape.{tablesLent}
 use Rattle.log.specs.declared.Command.the-variants.{Open}
 use Rattle.log.specs.Records.{decodedOf}
-use Rattle.replay.specs.Lent.{Lent, lentLeft}
+use Rattle.replay.specs.Lent.{Lent, opensOver, lentLeft}
 
 -- the four tables, with no row list
 abbrev pub fourOf : Lent → Tables
 fourOf t = record { rows = t .rows; versions = t .versions; buckets = t .buckets; lists = t .lists; found = [] }
-
--- the two tests of an open over these tables
-abbrev pub opensOver : Lent → Sizes → ℕ → Bool
-opensOver t z clock = canOpen (sizesView z) clock && tablesLent (t .rows) (t .versions) (t .buckets) (t .lists) z
 
 -- where the log's first record is an open that is accepted, every word past the sizes that it names is as it was lent; else every word of all four tables
 pub record LentPast (log : List ℕ) (room : ℕ) (t : Lent) : Type 0 where

@@ -9,8 +9,8 @@ use borrow.Author.Tests.{lt-ltb}
 use lib.ListN.{length}
 use Rattle.run_script.specs.Names.{named}
 use Rattle.table.specs.Words.{field}
-use Rattle.table.specs.Fields.{rowWords, versionWords, bucketWords, headOf, claimOf, postedOf, postedKeyOf, laterOf, xminOf, xmaxOf, nextOf, keyedOf, keyOf}
-use Rattle.table.specs.Fields.{payloadOf, stampOf, holderOf, firstOf}
+use Rattle.table.specs.Fields.{rowWords, versionWords, bucketWords, headOf, claimOf, postedOf, postedKeyOf, laterOf, firstOf, xminOf, xmaxOf, nextOf, keyedOf}
+use Rattle.table.specs.Fields.{keyOf, payloadOf, stampOf, holderOf}
 use Rattle.run_changes.specs.WordNames.{names, nameFrom}
 use Rattle.run_changes.specs.Changes.{State, entryPlace, seenAt, wordSeen, lookOf}
 use Rattle.run_changes.specs.declared.Seen.the-variants.{Word}
@@ -41,6 +41,10 @@ module _ (s : State) (i b : ℕ) where
   pub later-named : rowWords * i + 4 < length (s .rows) → lookOf s (record { name = named "later"; a = i; b = b }) ≡ Word (laterOf (s .rows) i)
   unfolding names nameFrom wordSeen
   later-named h = field-seen (s .rows) rowWords 4 i (omega arith) h
+
+  pub first-named : rowWords * i + 5 < length (s .rows) → lookOf s (record { name = named "first"; a = i; b = b }) ≡ Word (firstOf (s .rows) i)
+  unfolding names nameFrom wordSeen
+  first-named h = field-seen (s .rows) rowWords 5 i (omega arith) h
 
   pub xmin-named : versionWords * i + 0 < length (s .versions) → lookOf s (record { name = named "xmin"; a = i; b = b }) ≡ Word (xminOf (s .versions) i)
   unfolding names nameFrom wordSeen
@@ -74,7 +78,3 @@ module _ (s : State) (i b : ℕ) where
   pub holder-named : bucketWords * i + 1 < length (s .buckets) → lookOf s (record { name = named "holder"; a = i; b = b }) ≡ Word (holderOf (s .buckets) i)
   unfolding names nameFrom wordSeen
   holder-named h = field-seen (s .buckets) bucketWords 1 i (omega arith) h
-
-  pub first-named : bucketWords * i + 2 < length (s .buckets) → lookOf s (record { name = named "first"; a = i; b = b }) ≡ Word (firstOf (s .buckets) i)
-  unfolding names nameFrom wordSeen
-  first-named h = field-seen (s .buckets) bucketWords 2 i (omega arith) h

@@ -5,7 +5,7 @@ use mathlib.Core.List.{List, [], _∷_}
 use lib.Dec.{eqb}
 use Rattle.run_script.specs.Names.{named}
 
--- words 0 to 4, of a row; 5 to 10, of a version; 11 to 13, of a bucket
+-- words 0 to 5, of a row; 6 to 11, of a version; 12 and 13, of a bucket
 -- 14 to 23, of the lists of a record: its index reads (i), its writes (w), its read records (r) and its candidates (c)
 -- 24 to 36, of a record; 37, its active numbers (a)
 -- 38 to 42, the machine's own
@@ -16,6 +16,7 @@ names =
     ∷ named "posted"
     ∷ named "postkey"
     ∷ named "later"
+    ∷ named "first"
     ∷ named "xmin"
     ∷ named "xmax"
     ∷ named "next"
@@ -24,7 +25,6 @@ names =
     ∷ named "payload"
     ∷ named "stamp"
     ∷ named "holder"
-    ∷ named "first"
     ∷ named "ibucket"
     ∷ named "istamp"
     ∷ named "wrow"

@@ -14,6 +14,7 @@ pub fn word_named(name: u64) -> usize
         0x706f73746564, // posted
         0x706f73746b6579, // postkey
         0x6c61746572, // later
+        0x6669727374, // first
         0x786d696e, // xmin
         0x786d6178, // xmax
         0x6e657874, // next
@@ -22,7 +23,6 @@ pub fn word_named(name: u64) -> usize
         0x7061796c6f6164, // payload
         0x7374616d70, // stamp
         0x686f6c646572, // holder
-        0x6669727374, // first
         0x696275636b6574, // ibucket
         0x697374616d70, // istamp
         0x77726f77, // wrow

@@ -7,20 +7,20 @@ use mathlib.Core.Bool.{true, _&&_}
 use mathlib.Core.List.{List}
 use lib.Dec.{leb}
 use lib.ListN.{length}
-use Rattle.base_limits.specs.Limits.{mostRows, mostBuckets}
-use Rattle.base_lists.proofs.ListLaws.{and-l, and-r}
+use Rattle.base_limits.specs.Limits.{mostRows}
+use Rattle.base_lists.proofs.ListLaws.{and-l}
 use Rattle.model.specs.Shape.{goodSizes}
 use Rattle.model.proofs.Ranges.{good-sized}
 use Rattle.base_protocol.specs.declared.Sizes.{Sizes}
 use Rattle.base_protocol.specs.View.{sizesView}
 use Rattle.table.specs.Fields.{rowWords, versionWords, bucketWords}
 use Rattle.table.specs.Lists.{listsWords}
-use Rattle.table_postings.specs.Links.{Tables, listsTell}
+use Rattle.table_postings.specs.Links.{listsTell}
 use Rattle.shape_postings.specs.Told.{toldWithin}
 use Rattle.shape.specs.Shape.{tablesLent}
 
 pub told-is : (rows versions buckets lists : List ℕ) (z : Sizes) → goodSizes (sizesView z) ≡ true → tablesLent rows versions buckets lists z ≡ true
-    → let x : Tables = record { rows = rows; buckets = buckets } in toldWithin x (z .rows) (z .buckets) ≡ listsTell x (z .rows) (z .buckets)
+    → toldWithin rows (z .rows) ≡ listsTell rows (z .rows)
 unfolding toldWithin
 told-is rows versions buckets lists z good lent =
     let n = good-sized (sizesView z) good in
@@ -28,10 +28,4 @@ told-is rows versions buckets lists z good lent =
     let deep = leb (versionWords * suc (z .versions)) (length versions) in
     let wide = leb (bucketWords * z .buckets) (length buckets) in
     let three = and-l (long && deep && wide) (leb listsWords (length lists)) lent in
-    rw (
-      le-leb (z .rows) mostRows (n .rows-most),
-      le-leb 1 (z .buckets) (n .buckets-pos),
-      le-leb (z .buckets) mostBuckets (n .buckets-most),
-      and-l long deep (and-l (long && deep) wide three),
-      and-r (long && deep) wide three,
-    )
+    rw (le-leb (z .rows) mostRows (n .rows-most), and-l long deep (and-l (long && deep) wide three))

@@ -32,11 +32,11 @@ inPlace i t = eqb (t .slot) i && leb (t .snapshot .«active_n») mostActive && c
 abbrev pub allInPlace : List Transaction → Bool
 allInPlace ts = every mostLive (λ i. inPlace i (getD ts i (idleOf i)))
 
--- the lists of the buckets tell the postings
+-- the lists of postings tell them
 abbrev pub listsIn : Words → Bool
-listsIn w = listsTell (record { rows = w .tables .rows; buckets = w .tables .buckets }) (w .sizes .rows) (w .sizes .buckets)
+listsIn w = listsTell (w .tables .rows) (w .sizes .rows)
 
--- a table shorter than its size, a record in a wrong slot, one with a count above its limit and lists that do not tell the postings get 16 too
+-- a table shorter than its size, a record in a wrong slot, one with a count above its limit and lists of postings that do not tell them get 16 too
 unfoldable pub tablesFit : Words → Bool
 tablesFit w = tablesLent (w .tables .rows) (w .tables .versions) (w .tables .buckets) (w .tables .lists) (w .sizes) && allInPlace (w .txns) && listsIn w
 

@@ -1,4 +1,4 @@
-// The shape that public steps test first: the model's test, and that the lent tables, the records' slots and the lists of the buckets fit.
+// The shape that public steps test first: the model's test, and that the lent tables, the records' slots and the lists of postings fit.
 use base_limits::LAST_NUMBER;
 use base_limits::MOST_ACTIVE;
 use base_limits::MOST_LIVE;
@@ -192,7 +192,7 @@ pub fn right_shape(
     if !good_sizes(sizes) {
         return false;
     }
-    if !lists_tell(rows, buckets, sizes.rows, sizes.buckets) {
+    if !lists_tell(rows, sizes.rows) {
         return false;
     }
     if m.clock < 1 {

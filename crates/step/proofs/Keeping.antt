@@ -85,7 +85,7 @@ module _ (b : Tables) (p : Place) where
   done-kept : (s : Step) → keepsOf s ≡ true → keeps (doneBy b p s)
   done-kept ask.Begin q = absurd (unkept (sym q))
   done-kept (ask.Capture n k) q = by-rest (doneBy b p (ask.Capture n k)) (capture-stays (p .txn) (b .buckets) (b .lists) (p .extent .sizes .buckets) k) refl
-  done-kept (ask.Collect n) q = by-rest (doneBy b p (ask.Collect n)) (collect-stays (p .txn) (b .rows) (b .buckets) (b .lists) (p .extent .sizes)) refl
+  done-kept (ask.Collect n) q = by-rest (doneBy b p (ask.Collect n)) (collect-stays (p .txn) (b .rows) (b .buckets) (b .lists) (p .extent .sizes .rows)) refl
   done-kept (ask.Rows n room) q =
       by-rest (doneBy b p (ask.Rows n room)) (rows-stays (p .txn) (b .rows) (b .versions) (b .lists) (b .found) (p .extent) room) refl
   done-kept (ask.Put n r k payload) q = by-rest (doneBy b p (ask.Put n r k payload)) (write-stays (p .txn) (b .lists) (p .extent .sizes .rows) _) refl

@@ -132,7 +132,7 @@ doneBy b p ask.Begin = stays (withBegun (beginOf (p .others .active) (liveIn (p 
 doneBy b p (ask.Capture n k) =
     inBuckets (methods.captureOf (p .txn) (b .buckets) (b .lists) (p .extent .sizes .buckets) k) (p .extent .clock) (p .extent .used) b
 doneBy b p (ask.Collect n) =
-    inBuckets (methods.collectOf (p .txn) (b .rows) (b .buckets) (b .lists) (p .extent .sizes)) (p .extent .clock) (p .extent .used) b
+    inBuckets (methods.collectOf (p .txn) (b .rows) (b .buckets) (b .lists) (p .extent .sizes .rows)) (p .extent .clock) (p .extent .used) b
 doneBy b p (ask.Rows n room) =
     inFound (reads.rowsOf (b .rows) (b .versions) (b .lists) (b .found) (p .extent) (p .txn) room) (p .extent .clock)
     (p .extent .used) b

@@ -98,5 +98,5 @@ pub record Sized (w : Words) : Type 0 where
   pub buckets : bucketWords * w .sizes .buckets ≤ length (w .tables .buckets)
   pub lists : listsWords ≤ length (w .tables .lists)
   pub txns : (i : ℕ) → i < mostLive → SizedTxn i (txnAt w i)
-  -- the lists of the buckets tell the postings
-  pub told : listsTell (record { rows = w .tables .rows; buckets = w .tables .buckets }) (w .sizes .rows) (w .sizes .buckets) ≡ true
+  -- the lists of postings tell them
+  pub told : listsTell (w .tables .rows) (w .sizes .rows) ≡ true

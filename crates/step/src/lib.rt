@@ -233,7 +233,7 @@ pub fn step_keeping(
             used,
         ),
         Step::Collect { number: _ } => keep(
-            whole(parts).collect(rows, buckets, lists, sizes),
+            whole(parts).collect(rows, buckets, lists, sizes.rows),
             used,
         ),
         Step::Rows { number: _, room } => keep(

@@ -192,12 +192,10 @@ module _ (w : Words) where
   )
 
 -- the lists tell as before
-pub abort-told : (w : Words) → Sized w → Shaped w → (n : ℕ) (rs bs : List ℕ)
-    → Tells w (clearClaims (w .tables .rows) n rs) (clearHolders (w .tables .buckets) n bs)
-abort-told w z g n rs bs =
-    tells-kept _ _ (w .sizes .rows) (w .sizes .buckets) (count-pos w g)
-    (λ k lo hi. clear-other rowWords 1 (omega arith) (w .sizes .rows) n (w .tables .rows) rs k hi (λ e. omega arith))
-    (clear-other bucketWords 1 (omega arith) (w .sizes .buckets) n (w .tables .buckets) bs 2 (omega arith) (omega arith)) (z .told)
+pub abort-told : (w : Words) → Sized w → (n : ℕ) (rs : List ℕ) → Tells w (clearClaims (w .tables .rows) n rs)
+abort-told w z n rs =
+    tells-kept _ _ (w .sizes .rows)
+    (λ k lo hi. clear-other rowWords 1 (omega arith) (w .sizes .rows) n (w .tables .rows) rs k hi (λ e. omega arith)) (z .told)
 
 pub sized-idle : (p : ℕ) (t : Transaction) → SizedTxn p t → SizedTxn p (idleOf (t .slot))
 sized-idle p t s = record {
@@ -216,7 +214,7 @@ pub ended-at : (w : Words) → Sized w → (p : ℕ) → p < mostLive
     → clock ≡ clock′ → chainsView (rowsPart (sizesView (w .sizes)) rows) (versionsPart (sizesView (w .sizes)) (w .tables .versions)) (w .used) ≡ c
     → indexView (rowsPart (sizesView (w .sizes)) rows) (bucketsPart (sizesView (w .sizes)) buckets) ≡ x
     → heldView (rowsPart (sizesView (w .sizes)) rows) (bucketsPart (sizesView (w .sizes)) buckets) ≡ h
-    → length rows ≡ length (w .tables .rows) → length buckets ≡ length (w .tables .buckets) → Tells w rows buckets → a ≡ told o
+    → length rows ≡ length (w .tables .rows) → length buckets ≡ length (w .tables .buckets) → Tells w rows → a ≡ told o
     → w .tables .found ≡ lentAfter o (w .tables .found)
     → SameAt w p (record {
       stepped = record { answer = a; txn = idleOf (txnAt w p .slot); clock = clock; used = w .used };
@@ -260,7 +258,7 @@ module _ (w : Words) (z : Sized w) (g : Good (view w)) (n : ℕ) where
       ended-at w z q l _ _ tell.Done machine.Done (w .clock) (w .clock) _ _ _ refl (abort-chains w (t .number) rs)
       (abort-index w (t .number) rs (freedList w q)) (abort-held w z g q a (leb-false 5 (rank (phaseView (t .phase))) e))
       (clear-length rowWords 1 (t .number) (w .tables .rows) rs) (clear-length bucketWords 1 (t .number) (w .tables .buckets) (freedList w q))
-      (abort-told w z (shaped w z (right-shape (view w) g)) (t .number) rs (freedList w q)) refl refl
+      (abort-told w z (t .number) rs) refl refl
 
   -- buckets and claims are freed, and the record ends
   pub abort-same : Same w (ask.Abort n)

@@ -1,11 +1,11 @@
 -- Stores below a place leave every word from that place on: of one entry, of all that a list names, of a slot, of a posting that is moved, of a new version.
 -- Assumes nothing.
-use Prim.Native.Nat.{ℕ, zero, suc, _+_, _*_, _%_, _≤_, _<_}
+use Prim.Native.Nat.{ℕ, zero, suc, _+_, _*_, _≤_, _<_}
 use mathlib.Core.Path.{_≡_, refl, _∙_}
 use mathlib.Core.Bool.{Bool, true, false, cond, not}
 use mathlib.Core.Logic.{inl, inr}
 use mathlib.Core.List.{List, [], _∷_}
-use native.Mathlib.Nat.{mod-lt, mul-le-mul-left, mul-suc}
+use native.Mathlib.Nat.{mul-le-mul-left, mul-suc}
 use native.Mathlib.Omega.{arith}
 use lib.Dec.{eqb, ltb}
 use lib.ListN.{length, drop}
@@ -15,14 +15,15 @@ use Rattle.base_lists.specs.Table.{cond-elim}
 use Rattle.base_numbers.proofs.Laws.{one-up}
 use Rattle.model.specs.Store as model
 use Rattle.table.specs.Words.{field, setField, setFields, clearField, clearFields, clearEvery}
-use Rattle.table.specs.Fields.{rowWords, versionWords, bucketWords, headOf, postedOf, setPosted, postedKeyOf, laterOf, setLater, firstOf}
+use Rattle.table.specs.Fields.{rowWords, versionWords, headOf, postedOf, setPosted, postedKeyOf, laterOf, setLater, firstOf}
 use Rattle.table.specs.Lists.{Kind, listsWords, placeOf, records, stored}
 use Rattle.table.specs.declared.lists.ReadRecord.{ReadRecord}
 use Rattle.table.proofs.Laws.{below}
 use Rattle.table.proofs.Parts.{part-field}
 use Rattle.table.proofs.Stored.{Within}
-use Rattle.table_postings.specs.Postings.{follow}
-use Rattle.table_postings.specs.Links.{Tables, linkAt, setLink, lastPlace, placeBefore, unlinked, linked, postedTo, staysListed, takenOut, putIn, reposted}
+use Rattle.table_postings.specs.Postings.{listFor, follow}
+use Rattle.table_postings.specs.Links.{linkAt, setLink, lastPlace, placeBefore, unlinked, linked, postedTo, staysListed, takenOut, putIn, reposted}
+use Rattle.table_postings.proofs.Spreading.{list-low}
 use Rattle.txn.specs.declared.Transaction.{Transaction}
 use Rattle.txn_needs.specs.Keys.{newKeyOf}
 use Rattle.read_record.specs.Recording.{putRecords}
@@ -84,24 +85,6 @@ put-beyond xs s n (r ∷ rs) hs h =
 
 -- ---- postings
 
--- the words of rows and buckets past m rows and n buckets are the same
-module _ (m n : ℕ) where
-  pub record BothBeyond (x y : Tables) : Type 0 where
-    pub rows : Beyond (rowWords * m) (x .rows) (y .rows)
-    pub buckets : Beyond (bucketWords * n) (x .buckets) (y .buckets)
-
-  both-same : (x : Tables) → BothBeyond x x
-  both-same x = record { rows = refl; buckets = refl }
-
-  both-then : (x y z : Tables) → BothBeyond x y → BothBeyond y z → BothBeyond x z
-  both-then x y z a b = record { rows = b .rows ∙ a .rows; buckets = b .buckets ∙ a .buckets }
-
-  -- the link behind a place that is no further than the rows
-  link-beyond : (x : Tables) (b p v : ℕ) → p ≤ m → b < n → BothBeyond x (setLink x b p v)
-  unfolding setLink
-  link-beyond x b zero v hp hb = record { rows = refl; buckets = set-beyond bucketWords 2 n (omega arith) (x .buckets) b v hb }
-  link-beyond x b (suc p) v hp hb = record { rows = set-beyond rowWords 4 m (omega arith) (x .rows) p v (omega arith); buckets = refl }
-
 -- the place before a row is no further than the row
 last-low : (rows : List ℕ) (link k n p : ℕ) → p ≤ k + n → lastPlace p (follow rows link k n) ≤ k + n
 unfolding follow lastPlace
@@ -114,53 +97,53 @@ last-low rows link k (suc n) p h =
     by true a b = omega arith
     by false a b = omega arith
 
-before-low : (x : Tables) (b r : ℕ) → placeBefore x b r ≤ r
-before-low x b r = omega (arith, last-low (x .rows) (firstOf (x .buckets) b) 0 r 0 (omega arith))
+before-low : (rows : List ℕ) (i r : ℕ) → placeBefore rows i r ≤ r
+before-low rows i r = omega (arith, last-low rows (firstOf rows i) 0 r 0 (omega arith))
 
-module _ (m n : ℕ) (some : 1 ≤ n) (r : ℕ) (h : r < m) where
-  taken-beyond : (x : Tables) → BothBeyond m n x (takenOut x n r)
+-- the link behind a place that is no further than the rows
+link-beyond : (m : ℕ) (rows : List ℕ) (i p v : ℕ) → p ≤ m → i < m → Beyond (rowWords * m) rows (setLink rows i p v)
+unfolding setLink
+link-beyond m rows i zero v hp hi = set-beyond rowWords 5 m (omega arith) rows i v hi
+link-beyond m rows i (suc p) v hp hi = set-beyond rowWords 4 m (omega arith) rows p v (omega arith)
+
+module _ (m r : ℕ) (h : r < m) where
+  taken-beyond : (rows : List ℕ) → Beyond (rowWords * m) rows (takenOut rows m r)
   unfolding unlinked
-  taken-beyond x =
-      let b = postedKeyOf (x .rows) r % n in
-      cond-elim (λ (y : Tables). BothBeyond m n x y) (eqb (postedOf (x .rows) r) 0) x (unlinked x b r) (λ t. both-same m n x)
-      (λ t. link-beyond m n x b (placeBefore x b r) (laterOf (x .rows) r) (omega (arith, before-low x b r)) (mod-lt (postedKeyOf (x .rows) r) some))
+  taken-beyond rows =
+      let i = listFor m (postedKeyOf rows r) in
+      cond-elim (λ (y : List ℕ). Beyond (rowWords * m) rows y) (eqb (postedOf rows r) 0) rows (unlinked rows i r) (λ t. refl)
+      (λ t. link-beyond m rows i (placeBefore rows i r) (laterOf rows r) (omega (arith, before-low rows i r)) (list-low m (postedKeyOf rows r) (omega arith)))
 
-  put-in-beyond : (x : Tables) (keyed key : ℕ) → BothBeyond m n x (putIn x n r keyed key)
+  put-in-beyond : (rows : List ℕ) (keyed key : ℕ) → Beyond (rowWords * m) rows (putIn rows m r keyed key)
   unfolding linked
-  put-in-beyond x keyed key =
-      let b = key % n in
-      let p = placeBefore x b r in
-      let y : Tables = record { rows = setLater (x .rows) r (linkAt x b p); buckets = x .buckets } in
-      cond-elim (λ (u : Tables). BothBeyond m n x u) (eqb keyed 0) x (linked x b r) (λ t. both-same m n x)
-      (λ t. both-then m n x y (setLink y b p (suc r))
-      (record { rows = set-beyond rowWords 4 m (omega arith) (x .rows) r (linkAt x b p) h; buckets = refl })
-      (link-beyond m n y b p (suc r) (omega (arith, before-low x b r)) (mod-lt key some)))
+  put-in-beyond rows keyed key =
+      let i = listFor m key in
+      let p = placeBefore rows i r in
+      let y = setLater rows r (linkAt rows i p) in
+      cond-elim (λ (u : List ℕ). Beyond (rowWords * m) rows u) (eqb keyed 0) rows (linked rows i r) (λ t. refl)
+      (λ t. link-beyond m y i p (suc r) (omega (arith, before-low rows i r)) (list-low m key (omega arith))
+      ∙ set-beyond rowWords 4 m (omega arith) rows r (linkAt rows i p) h)
 
-  posted-beyond : (x : Tables) (keyed key : ℕ) → BothBeyond m n x (postedTo x r keyed key)
-  posted-beyond x keyed key = record {
-    rows = set-beyond rowWords 3 m (omega arith) (setPosted (x .rows) r keyed) r key h ∙ set-beyond rowWords 2 m (omega arith) (x .rows) r keyed h;
-    buckets = refl;
-  }
+  posted-beyond : (rows : List ℕ) (keyed key : ℕ) → Beyond (rowWords * m) rows (postedTo rows r keyed key)
+  posted-beyond rows keyed key =
+      set-beyond rowWords 3 m (omega arith) (setPosted rows r keyed) r key h ∙ set-beyond rowWords 2 m (omega arith) rows r keyed h
 
-  reposted-beyond : (x : Tables) (keyed key : ℕ) → BothBeyond m n x (reposted x n r keyed key)
+  reposted-beyond : (rows : List ℕ) (keyed key : ℕ) → Beyond (rowWords * m) rows (reposted rows m r keyed key)
   unfolding reposted
-  reposted-beyond x keyed key =
-      let y = takenOut x n r in
+  reposted-beyond rows keyed key =
+      let y = takenOut rows m r in
       let u = postedTo y r keyed key in
-      cond-elim (λ (v : Tables). BothBeyond m n x v) (not (ltb r (length (x .rows)))) x _ (λ t. both-same m n x)
-      (λ t. cond-elim (λ (v : Tables). BothBeyond m n x v) (staysListed (x .rows) n r keyed key) (postedTo x r keyed key) (putIn u n r keyed key)
-      (λ t. posted-beyond x keyed key)
-      (λ t. both-then m n x u (putIn u n r keyed key) (both-then m n x y u (taken-beyond x) (posted-beyond y keyed key)) (put-in-beyond u keyed key)))
+      cond-elim (λ (v : List ℕ). Beyond (rowWords * m) rows v) (not (ltb r (length rows))) rows _ (λ t. refl)
+      (λ t. cond-elim (λ (v : List ℕ). Beyond (rowWords * m) rows v) (staysListed rows m r keyed key) (postedTo rows r keyed key) (putIn u m r keyed key)
+      (λ t. posted-beyond rows keyed key) (λ t. put-in-beyond u keyed key ∙ (posted-beyond y keyed key ∙ taken-beyond rows)))
 
 -- every posting of a transaction
-pub posted-all-beyond : (m n : ℕ) → 1 ≤ n → (xs : List ℕ) (t : Transaction) (rs : List ℕ) (x : Tables) → InRange m rs
-    → BothBeyond m n x (postedAll x xs n t rs)
+pub posted-all-beyond : (m : ℕ) (xs : List ℕ) (t : Transaction) (rs rows : List ℕ) → InRange m rs → Beyond (rowWords * m) rows (postedAll rows xs m t rs)
 unfolding postedAll postedOne
-posted-all-beyond m n some xs t [] x h = both-same m n x
-posted-all-beyond m n some xs t (r ∷ rs) x h =
+posted-all-beyond m xs t [] rows h = refl
+posted-all-beyond m xs t (r ∷ rs) rows h =
     let k = newKeyOf xs (t .slot) (t .«writes_n») r in
-    both-then m n x (reposted x n r (k .keyed) (k .key)) _ (reposted-beyond m n some r (h r (inl refl)) x (k .keyed) (k .key))
-    (posted-all-beyond m n some xs t rs (postedOne x xs n t r) (λ i a. h i (inr a)))
+    posted-all-beyond m xs t rs (postedOne rows xs m t r) (λ i a. h i (inr a)) ∙ reposted-beyond m r (h r (inl refl)) rows (k .keyed) (k .key)
 
 -- ---- install: one row's new version, and one row after another
 

@@ -47,7 +47,6 @@ use Rattle.step_bridge.proofs.Places.{standing, sized-at}
 use Rattle.step_bridge.proofs.Placed.{slot-view, txns-set, sized-set}
 use Rattle.step_bridge.proofs.Same.{same-store, SameAt, Same, refused-same, later-tests, by-place}
 use Rattle.step_bridge.proofs.Tabled.{part-update, part-other}
-use Rattle.step_bridge.proofs.Telling.{Tells, tells-kept}
 use Rattle.step_bridge.proofs.Judging.{reads-length, taken-same}
 
 -- the words' first index read of a bucket is there exactly where the model has one
@@ -108,11 +107,6 @@ module _ (w : Words) (z : Sized w) (b v : ℕ) (h : b < w .sizes .buckets) where
   pub stamps-kept : _≡_ {A = model.Index}
       (record { stamp = stampOf (bucketsPart (sizesView (w .sizes)) (setHolder (w .tables .buckets) b v)); posted = view w .index .posted }) (view w .index)
   stamps-kept = rw (part-other bucketWords 1 (w .sizes .buckets) (w .tables .buckets) b v 0 (omega arith) (omega arith) (omega arith))
-
-  -- the lists tell as before
-  pub holder-told : Tells w (w .tables .rows) (setHolder (w .tables .buckets) b v)
-  holder-told = tells-kept _ _ (w .sizes .rows) (w .sizes .buckets) (omega arith) (λ k lo hi. refl)
-      (part-other bucketWords 1 (w .sizes .buckets) (w .tables .buckets) b v 2 (omega arith) (omega arith) (omega arith)) (z .told)
 
 module _ (w : Words) (z : Sized w) (g : Shaped w) (n k : ℕ) (l : standing w n < mostLive) where
   pub key-in : bucketOf (view w .sizes) k < w .sizes .buckets
@@ -177,7 +171,7 @@ module _ (w : Words) (z : Sized w) (g : Shaped w) (n k : ℕ) (l : standing w n 
               writes = s .writes;
               records = s .records;
               candidates = s .candidates;
-            }) refl refl (field-length bucketWords 1 (w .tables .buckets) b (txnAt w q .number)) refl (holder-told w z b (txnAt w q .number) key-in);
+            }) refl refl (field-length bucketWords 1 (w .tables .buckets) b (txnAt w q .number)) refl (z .told);
       }
   held-at Nothing st e r m =
       let q = standing w n in
@@ -213,7 +207,7 @@ module _ (w : Words) (z : Sized w) (g : Shaped w) (n k : ℕ) (l : standing w n 
               records = s .records;
               candidates = s .candidates;
             }) refl refl (field-length bucketWords 1 (w .tables .buckets) b (txnAt w q .number)) (length-sets (w .tables .lists) _ (b ∷ st ∷ []))
-            (holder-told w z b (txnAt w q .number) key-in);
+            (z .told);
       }
 
   captured-at : (f : Found) (st : ℕ) → st ≡ view w .index .stamp (bucketOf (view w .sizes) k)

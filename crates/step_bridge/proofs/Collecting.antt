@@ -30,18 +30,17 @@ use Rattle.table.proofs.Parts.{part-field}
 use Rattle.table.proofs.Spans.{sets-other, words-at, list-length, list-at, list-kept}
 use Rattle.txn.specs.View.{phaseView, txnView, keyView}
 use Rattle.table_postings.specs.Postings.{listedWith, keptIn}
-use Rattle.table_postings.specs.Links.{Tables}
 use Rattle.table_postings.proofs.Told.{tells-told, listed-posted}
 use Rattle.txn.specs.Methods.{withPhase, withCandidates, refusedOf, left, collectedLeft, collectOf}
 use Rattle.txn.specs.declared.Phase.the-variants as phase
 use Rattle.txn.specs.declared.Transaction.{Transaction}
 use Rattle.step.specs.Steps.{inBuckets}
 use Rattle.step.specs.Words.{Words, view, txnAt, SizedTxn, Sized}
-use Rattle.step_bridge.proofs.Shaped.{Shaped, count-pos}
+use Rattle.step_bridge.proofs.Shaped.{Shaped}
 use Rattle.step_bridge.proofs.Places.{standing, live-at, sized-at}
 use Rattle.step_bridge.proofs.Placed.{slot-view, txns-set, sized-set}
 use Rattle.step_bridge.proofs.Same.{same-store, SameAt, Same, refused-same, by-place}
-use Rattle.step_bridge.proofs.Capturing.{holder-set, stamps-kept, holder-told}
+use Rattle.step_bridge.proofs.Capturing.{holder-set, stamps-kept}
 
 -- a run of stores reads as what was stored
 pub sets-at : (xs : List ℕ) (at : ℕ) (vs : List ℕ) (i : ℕ) → i < length vs → at + length vs ≤ length xs → getD (sets xs at vs) (at + i) 0 ≡ getD vs i 0
@@ -96,12 +95,11 @@ posted-test posted key k = by (eqb posted 0)
     by false = refl
 
 module _ (w : Words) (z : Sized w) (g : Shaped w) where
-  pub posted-same : (k : ℕ) → listedWith (w .tables .rows) (w .tables .buckets) (w .sizes .rows) (w .sizes .buckets) k ≡ postedRows (view w) k
+  pub posted-same : (k : ℕ) → listedWith (w .tables .rows) (w .sizes .rows) k ≡ postedRows (view w) k
   unfolding postedRows
   posted-same k =
-      let most = good-sized (view w .sizes) (g .sizes) .rows-most in
-      let x : Tables = record { rows = w .tables .rows; buckets = w .tables .buckets } in
-      listed-posted x (w .sizes .rows) (w .sizes .buckets) (tells-told x (w .sizes .rows) (w .sizes .buckets) (z .told)) (count-pos w g) most k
+      let good = good-sized (view w .sizes) (g .sizes) in
+      listed-posted (w .tables .rows) (w .sizes .rows) (tells-told (w .tables .rows) (w .sizes .rows) (z .told)) (good .rows-pos) (good .rows-most) k
       ∙ pick-same _ _ 0 (w .sizes .rows) (λ r lo hi.
       let h : r < w .sizes .rows = omega arith in
       rw (
@@ -148,7 +146,7 @@ module _ (w : Words) (z : Sized w) (g : Shaped w) where
               records = s .records;
               candidates = few;
             }) refl refl (field-length bucketWords 1 (w .tables .buckets) (bucketIn ph) 0) (length-sets (w .tables .lists) _ rs)
-            (holder-told w z (bucketIn ph) 0 (g .in-store q a .bucket-in));
+            (z .told);
       }
 
   -- the posted rows are kept, and the bucket is free

@@ -1,6 +1,6 @@
 -- Words in which nothing stands are the fresh store.
 -- Assumes nothing.
-use Prim.Native.Nat.{ℕ, zero, suc, _+_, _*_, _≤_}
+use Prim.Native.Nat.{ℕ, zero, suc, _+_, _*_, _≤_, _<_}
 use mathlib.Core.Path.{_≡_, refl, sym, ap, subst, _∙_, fun-ext}
 use mathlib.Core.Bool.{true}
 use mathlib.Core.List.{List, []}
@@ -67,6 +67,10 @@ module _ (w : Words) (o : Opened w) where
   place-idle : (i : ℕ) → txnAt w i ≡ idleOf i
   place-idle i = rw (o .free) (rw (zero-add i) at (free-idle 0 mostLive i))
 
+  row-zero : (k : ℕ) → k < rowWords → (r : ℕ) → r < w .sizes .rows → field rowWords k (w .tables .rows) r ≡ 0
+  row-zero k hk r h =
+      sym (part-field rowWords k (w .sizes .rows) (w .tables .rows) r hk h) ∙ ap (λ (f : ℕ → ℕ). f r) (zero-field rowWords k rowsOf (o .rows-zero))
+
   opened-sized : Sized w
   opened-sized = record {
     eight = rw (o .free);
@@ -84,11 +88,8 @@ module _ (w : Words) (o : Opened w) where
           records = omega arith;
           candidates = omega arith;
         });
-    told = told-tells _ (w .sizes .rows) (w .sizes .buckets) (told-fresh _ (w .sizes .rows) (w .sizes .buckets)
-        (λ r h. sym (part-field rowWords 2 (w .sizes .rows) (w .tables .rows) r (omega arith) h)
-        ∙ ap (λ (f : ℕ → ℕ). f r) (zero-field rowWords 2 rowsOf (o .rows-zero)))
-        (λ b h. sym (part-field bucketWords 2 (w .sizes .buckets) (w .tables .buckets) b (omega arith) h)
-        ∙ ap (λ (f : ℕ → ℕ). f b) (zero-field bucketWords 2 bucketsOf (o .buckets-zero))));
+    told = told-tells _ (w .sizes .rows) (told-fresh _ (w .sizes .rows)
+        (λ r h. (row-zero 2 (omega arith) r h, row-zero 5 (omega arith) r h)));
   }
 
   -- what they stand for

@@ -36,7 +36,7 @@ use Rattle.finish_publish.specs.Publish.{publishOf, abortOf}
 use Rattle.step.specs.Steps.{Tables, inPrepared, inInstalled, publishedFrom, publishStep, inPublished, inAborted, doneBy, stepOf}
 use Rattle.step.specs.Words.{Words, view, txnAt, placeFor, othersIn, extentIn, beside, movedBy, tablesAfter, Sized}
 use Rattle.step.specs.Past.{PastKept}
-use Rattle.step_bridge.proofs.Shaped.{Shaped, shaped, count-pos}
+use Rattle.step_bridge.proofs.Shaped.{Shaped, shaped}
 use Rattle.step_bridge.proofs.Places.{place-in, sized-at}
 use Rattle.step_bridge.proofs.Tabled.{InRange}
 use Rattle.step_bridge.proofs.Needing.{headed, rows-most, writes-in, row-in, pending-row}
@@ -116,13 +116,12 @@ module _ (w : Words) (z : Sized w) (g : Shaped w) (p : ℕ) (l : p < mostLive) (
       let rs = writtenBy (w .tables .lists) t in
       past-test (KeepsPublished w) (not (eqb (rank (phaseView (t .phase))) phaseEnded)) (still w) (λ e.
       rw (stamped-is w z p, freed-buckets w p z (stamped w p))
-      (let on = posted-all-beyond (w .sizes .rows) (w .sizes .buckets) (count-pos w g) (w .tables .lists) t rs _ rows-in in
-      record {
-        rows = clears-beyond rowWords 1 _ (omega arith) (t .number) _ rs rows-in ∙ on .rows;
+      (record {
+        rows = clears-beyond rowWords 1 _ (omega arith) (t .number) _ rs rows-in
+            ∙ posted-all-beyond (w .sizes .rows) (w .tables .lists) t rs (w .tables .rows) rows-in;
         versions = refl;
-        buckets = on .buckets
-            ∙ (clears-beyond bucketWords 1 _ (omega arith) (t .number) (stamped w p) (freedList w p) (freed-in w z g p a)
-            ∙ sets-all-beyond bucketWords 0 _ (omega arith) (w .clock) (w .tables .buckets) _ (changes-in w p g));
+        buckets = clears-beyond bucketWords 1 _ (omega arith) (t .number) (stamped w p) (freedList w p) (freed-in w z g p a)
+            ∙ sets-all-beyond bucketWords 0 _ (omega arith) (w .clock) (w .tables .buckets) _ (changes-in w p g);
         lists = refl;
       }))
 

@@ -79,7 +79,7 @@ module _ (w : Words) (z : Sized w) (p : ℕ) (l : p < mostLive) where
   pub sized-set : (t : Transaction) (b : Tables) (clock used : ℕ) → SizedTxn p t → length (b .rows) ≡ length (w .tables .rows)
       → length (b .versions) ≡ length (w .tables .versions)
       → length (b .buckets) ≡ length (w .tables .buckets) → length (b .lists) ≡ length (w .tables .lists)
-      → listsTell (record { rows = b .rows; buckets = b .buckets }) (w .sizes .rows) (w .sizes .buckets) ≡ true
+      → listsTell (b .rows) (w .sizes .rows) ≡ true
       → Sized (record { tables = b; txns = set (w .txns) p t; sizes = w .sizes; clock = clock; used = used })
   sized-set t b clock used h r v c d e = record {
     eight = length-set (w .txns) p t ∙ z .eight;

@@ -34,7 +34,7 @@ use Rattle.txn_needs.specs.Versions.{versionsIn, reservedIn}
 use Rattle.write_prepare.specs.Prepare.{isClear, lacks, mostNeeded, neededInto, left, prepareWith, prepareOf}
 use Rattle.step.specs.Steps.{inPrepared}
 use Rattle.step.specs.Words.{Words, view, txnAt, othersIn, extentIn, Sized}
-use Rattle.step_bridge.proofs.Shaped.{Shaped, count-pos}
+use Rattle.step_bridge.proofs.Shaped.{Shaped}
 use Rattle.step_bridge.proofs.Places.{standing, live-at, sized-at}
 use Rattle.step_bridge.proofs.Placed.{txns-set, sized-set}
 use Rattle.step_bridge.proofs.Same.{same-store, SameAt, Same, refused-same, later-tests, by-place}
@@ -158,11 +158,10 @@ module _ (w : Words) (z : Sized w) (g : Shaped w) where
   )
 
   -- the lists tell as before
-  prepare-told : (n : ℕ) (rs bs : List ℕ) → Tells w (setClaims (w .tables .rows) n rs) (setHolders (w .tables .buckets) n bs)
-  prepare-told n rs bs =
-      tells-kept _ _ (w .sizes .rows) (w .sizes .buckets) (count-pos w g)
-      (λ k lo hi. set-other rowWords 1 (omega arith) (w .sizes .rows) n (w .tables .rows) rs k hi (λ e. omega arith))
-      (set-other bucketWords 1 (omega arith) (w .sizes .buckets) n (w .tables .buckets) bs 2 (omega arith) (omega arith)) (z .told)
+  prepare-told : (n : ℕ) (rs : List ℕ) → Tells w (setClaims (w .tables .rows) n rs)
+  prepare-told n rs =
+      tells-kept _ _ (w .sizes .rows)
+      (λ k lo hi. set-other rowWords 1 (omega arith) (w .sizes .rows) n (w .tables .rows) rs k hi (λ e. omega arith)) (z .told)
 
   -- all tests but the phase
   prepared-at : (n : ℕ) → standing w n < mostLive → 1 ≤ txnAt w (standing w n) .number → isInstalled (txnAt w (standing w n) .phase) ≡ false → (b c d e : Bool)
@@ -192,7 +191,7 @@ module _ (w : Words) (z : Sized w) (g : Shaped w) where
         answer = refl;
         lent = refl;
         sized = sized-set w z q l _ _ _ _ (sized-phase q t phase.Prepared (sized-at w z q)) (set-length rowWords 1 (t .number) (w .tables .rows) rs) refl
-            (set-length bucketWords 1 (t .number) (w .tables .buckets) (listedNeeds w q)) refl (prepare-told (t .number) rs (listedNeeds w q));
+            (set-length bucketWords 1 (t .number) (w .tables .buckets) (listedNeeds w q)) refl (prepare-told (t .number) rs);
       }
 
   -- the tests after the phase

@@ -31,46 +31,38 @@ use Rattle.txn.specs.Methods.{idleOf, refusedOf}
 use Rattle.base_numbers.specs.Numbers.{oneMore}
 use Rattle.base_numbers.proofs.Laws.{one-up}
 use Rattle.table.specs.Fields.{rowWords, bucketWords, setStamps, clearHolders, clearClaims}
-use Rattle.table_postings.specs.Links.{Tables}
 use Rattle.txn_needs.specs.Keys.{isInstalled}
 use Rattle.finish_publish.specs.Publish.{postedAll, stampedIn, publishOf}
 use Rattle.step.specs.Steps.{publishStep, publishedFrom, inPublished}
 use Rattle.step.specs.Words.{Words, view, txnAt, extentIn, Sized}
-use Rattle.step_bridge.proofs.Shaped.{Shaped, shaped, count-pos}
+use Rattle.step_bridge.proofs.Shaped.{Shaped, shaped}
 use Rattle.step_bridge.proofs.Places.{standing, sized-at, live-at}
 use Rattle.step_bridge.proofs.Same.{two-held, SameAt, Same, refused-same, later-tests, by-place}
 use Rattle.step_bridge.proofs.Listing.{listed-all}
-use Rattle.step_bridge.proofs.Tabled.{part, part-same, set-all, set-other, set-length}
+use Rattle.step_bridge.proofs.Tabled.{part, set-all, set-other, set-length}
 use Rattle.step_bridge.proofs.Telling.{Tells, tells-kept}
 use Rattle.step_bridge.proofs.Freeing.{freedAt, freed-release, clear-all, clear-other, clear-length}
 use Rattle.step_bridge.proofs.Keyed.{new-key-same}
 use Rattle.step_bridge.proofs.Needing.{all-same, row-in, row-pending, pending-row}
 use Rattle.step_bridge.proofs.Aborting.{freedList, freed-buckets, freed-in, own-rows, ended-at}
-use Rattle.step_bridge.proofs.Reposting.{keys-by, postings, posted-all, posted-length, posted-buckets-length}
-use Rattle.step_bridge.proofs.Reposting.{posted-other, posted-buckets, posted-told}
+use Rattle.step_bridge.proofs.Reposting.{keys-by, postings, posted-all, posted-length, posted-other, posted-told}
 use Rattle.step_bridge.proofs.Changing.{rowChanges, rowsOf, changed-to, changed-back, held-listed, changes-few, changes-in}
 
--- the buckets stamped, and then freed; rows and buckets with the postings moved; and what publish leaves of both
+-- the buckets stamped, and then freed; the rows with the postings moved; and what publish leaves of both
 abbrev changesOf : Words → ℕ → List ℕ
 changesOf w p = join (rowChanges w p) (rowsOf w p)
 
 abbrev pub stamped : Words → ℕ → List ℕ
 stamped w p = setStamps (w .tables .buckets) (w .clock) (changesOf w p)
 
-abbrev bucketsFreed : Words → ℕ → List ℕ
-bucketsFreed w p = clearHolders (stamped w p) (txnAt w p .number) (freedList w p)
-
-abbrev freedTables : Words → ℕ → Tables
-freedTables w p = record { rows = w .tables .rows; buckets = bucketsFreed w p }
-
-abbrev posted : Words → ℕ → Tables
-posted w p = postedAll (freedTables w p) (w .tables .lists) (w .sizes .buckets) (txnAt w p) (rowsOf w p)
+abbrev posted : Words → ℕ → List ℕ
+posted w p = postedAll (w .tables .rows) (w .tables .lists) (w .sizes .rows) (txnAt w p) (rowsOf w p)
 
 abbrev pub rowsAfter : Words → ℕ → List ℕ
-rowsAfter w p = clearClaims (posted w p .rows) (txnAt w p .number) (rowsOf w p)
+rowsAfter w p = clearClaims (posted w p) (txnAt w p .number) (rowsOf w p)
 
 abbrev pub bucketsAfter : Words → ℕ → List ℕ
-bucketsAfter w p = posted w p .buckets
+bucketsAfter w p = clearHolders (stamped w p) (txnAt w p .number) (freedList w p)
 
 module _ (w : Words) (z : Sized w) (p : ℕ) where
   -- the words list what they stamp
@@ -78,35 +70,25 @@ module _ (w : Words) (z : Sized w) (p : ℕ) where
   unfolding stampedIn
   stamped-is = ap (λ (bs : List ℕ). setStamps (w .tables .buckets) (w .clock) bs) (listed-all 49 (changesOf w p) (omega (arith, changes-few w p z)))
 
-  posted-room : rowWords * w .sizes .rows ≤ length (posted w p .rows)
-  posted-room = rw (posted-length (w .tables .lists) (txnAt w p) (w .sizes .rows) (w .sizes .buckets) (rowsOf w p) (freedTables w p)) (z .rows)
+  posted-room : rowWords * w .sizes .rows ≤ length (posted w p)
+  posted-room = rw (posted-length (w .tables .lists) (txnAt w p) (w .sizes .rows) (rowsOf w p) (w .tables .rows)) (z .rows)
 
   stamped-room : bucketWords * w .sizes .buckets ≤ length (stamped w p)
   stamped-room = rw (set-length bucketWords 0 (w .clock) (w .tables .buckets) (changesOf w p)) (z .buckets)
 
   pub rows-long : length (rowsAfter w p) ≡ length (w .tables .rows)
-  rows-long = clear-length rowWords 1 (txnAt w p .number) (posted w p .rows) (rowsOf w p)
-      ∙ posted-length (w .tables .lists) (txnAt w p) (w .sizes .rows) (w .sizes .buckets) (rowsOf w p) (freedTables w p)
-
-  -- no table grows or shrinks
-  freed-long : length (bucketsFreed w p) ≡ length (w .tables .buckets)
-  freed-long = clear-length bucketWords 1 (txnAt w p .number) (stamped w p) (freedList w p)
-      ∙ set-length bucketWords 0 (w .clock) (w .tables .buckets) (changesOf w p)
+  rows-long = clear-length rowWords 1 (txnAt w p .number) (posted w p) (rowsOf w p)
+      ∙ posted-length (w .tables .lists) (txnAt w p) (w .sizes .rows) (rowsOf w p) (w .tables .rows)
 
   pub buckets-long : length (bucketsAfter w p) ≡ length (w .tables .buckets)
-  buckets-long = posted-buckets-length (w .tables .lists) (txnAt w p) (w .sizes .rows) (w .sizes .buckets) (rowsOf w p) (freedTables w p) ∙ freed-long
-
-  -- of the buckets' words a posting moves the lists alone
-  moved-buckets : (k : ℕ) → k < 2 → field bucketWords k (part bucketWords (w .sizes .buckets) (bucketsAfter w p))
-      ≡ field bucketWords k (part bucketWords (w .sizes .buckets) (bucketsFreed w p))
-  moved-buckets k h = part-same bucketWords k (w .sizes .buckets) _ _ (omega arith)
-      (posted-buckets (w .tables .lists) (txnAt w p) (w .sizes .rows) (w .sizes .buckets) (rowsOf w p) (freedTables w p) k h)
+  buckets-long = clear-length bucketWords 1 (txnAt w p .number) (stamped w p) (freedList w p)
+      ∙ set-length bucketWords 0 (w .clock) (w .tables .buckets) (changesOf w p)
 
   pub publish-chains : chainsView (rowsPart (sizesView (w .sizes)) (rowsAfter w p)) (versionsPart (sizesView (w .sizes)) (w .tables .versions)) (w .used)
       ≡ view w .chains
   publish-chains = rw (
-    clear-other rowWords 1 (omega arith) (w .sizes .rows) (txnAt w p .number) (posted w p .rows) (rowsOf w p) 0 (omega arith) (omega arith),
-    posted-other (w .tables .lists) (txnAt w p) (w .sizes .rows) (w .sizes .buckets) (rowsOf w p) (freedTables w p) 0 (omega arith),
+    clear-other rowWords 1 (omega arith) (w .sizes .rows) (txnAt w p .number) (posted w p) (rowsOf w p) 0 (omega arith) (omega arith),
+    posted-other (w .tables .lists) (txnAt w p) (w .sizes .rows) (rowsOf w p) (w .tables .rows) 0 (omega arith),
   )
 
 module _ (w : Words) (z : Sized w) (g : Shaped w) (p : ℕ) (l : 1 ≤ txnAt w p .number) where
@@ -117,9 +99,9 @@ module _ (w : Words) (z : Sized w) (g : Shaped w) (p : ℕ) (l : 1 ≤ txnAt w p
   publish-posted =
       let n = txnAt w p .number in
       let ps = pendingRows (view w .sizes) (view w .txns p .writes) in
-      keys-by _ _ _ _ (clear-other rowWords 1 (omega arith) (w .sizes .rows) n (posted w p .rows) (rowsOf w p) 2 (omega arith) (omega arith))
-      (clear-other rowWords 1 (omega arith) (w .sizes .rows) n (posted w p .rows) (rowsOf w p) 3 (omega arith) (omega arith))
-      ∙ (fun-ext λ q. posted-all (w .tables .lists) (txnAt w p) (w .sizes .rows) (w .sizes .buckets) (rowsOf w p) (freedTables w p)
+      keys-by _ _ _ _ (clear-other rowWords 1 (omega arith) (w .sizes .rows) n (posted w p) (rowsOf w p) 2 (omega arith) (omega arith))
+      (clear-other rowWords 1 (omega arith) (w .sizes .rows) n (posted w p) (rowsOf w p) 3 (omega arith) (omega arith))
+      ∙ (fun-ext λ q. posted-all (w .tables .lists) (txnAt w p) (w .sizes .rows) (rowsOf w p) (w .tables .rows)
       (λ r m. row-in w z g p l r m) (z .rows) q
       ∙ rw (
         new-key-same (w .tables .lists) (txnAt w p) (sized-at w z p .writes) q,
@@ -131,11 +113,11 @@ module _ (w : Words) (z : Sized w) (g : Shaped w) (p : ℕ) (l : 1 ≤ txnAt w p
       → field bucketWords 0 (part bucketWords (w .sizes .buckets) (bucketsAfter w p))
       ≡ updateAll (view w .index .stamp) (changedBuckets (view w) (view w .txns p))
       (w .clock)
-  publish-stamps k = moved-buckets w z p 0 (omega arith)
-      ∙ (clear-other bucketWords 1 (omega arith) (w .sizes .buckets) (txnAt w p .number) (stamped w p) (freedList w p) 0 (omega arith) (omega arith)
+  publish-stamps k =
+      clear-other bucketWords 1 (omega arith) (w .sizes .buckets) (txnAt w p .number) (stamped w p) (freedList w p) 0 (omega arith) (omega arith)
       ∙ (set-all bucketWords 0 (omega arith) (w .sizes .buckets) (w .clock) (w .tables .buckets) (changesOf w p) (changes-in w p g) (z .buckets)
       ∙ all-same (view w .index .stamp) (changesOf w p) (changedBuckets (view w) (view w .txns p)) (w .clock) (λ b m. changed-to w z g p l k b m)
-      (λ b m. changed-back w z g p l k b m)))
+      (λ b m. changed-back w z g p l k b m))
 
   pub publish-index : isInstalled (txnAt w p .phase) ≡ true
       → indexView (rowsPart (sizesView (w .sizes)) (rowsAfter w p)) (bucketsPart (sizesView (w .sizes)) (bucketsAfter w p))
@@ -150,29 +132,21 @@ module _ (w : Words) (z : Sized w) (g : Shaped w) (p : ℕ) (l : 1 ≤ txnAt w p
   pub holders-freed : field bucketWords 1 (part bucketWords (w .sizes .buckets) (bucketsAfter w p))
       ≡ freedAt (txnAt w p .number) (view w .held .holder) (freedList w p)
   holders-freed =
-      moved-buckets w z p 1 (omega arith)
-      ∙ (clear-all bucketWords 1 (omega arith) (w .sizes .buckets) (txnAt w p .number) (stamped w p) (freedList w p) (freed-in w z g p l) (stamped-room w z p)
+      clear-all bucketWords 1 (omega arith) (w .sizes .buckets) (txnAt w p .number) (stamped w p) (freedList w p) (freed-in w z g p l) (stamped-room w z p)
       ∙ ap (λ (f : ℕ → ℕ). freedAt (txnAt w p .number) f (freedList w p))
-      (set-other bucketWords 0 (omega arith) (w .sizes .buckets) (w .clock) (w .tables .buckets) (changesOf w p) 1 (omega arith) (omega arith)))
+      (set-other bucketWords 0 (omega arith) (w .sizes .buckets) (w .clock) (w .tables .buckets) (changesOf w p) 1 (omega arith) (omega arith))
 
   pub claims-freed : field rowWords 1 (part rowWords (w .sizes .rows) (rowsAfter w p)) ≡ freedAt (txnAt w p .number) (view w .held .claim) (rowsOf w p)
   claims-freed =
-      clear-all rowWords 1 (omega arith) (w .sizes .rows) (txnAt w p .number) (posted w p .rows) (rowsOf w p) (λ r m. row-in w z g p l r m) (posted-room w z p)
+      clear-all rowWords 1 (omega arith) (w .sizes .rows) (txnAt w p .number) (posted w p) (rowsOf w p) (λ r m. row-in w z g p l r m) (posted-room w z p)
       ∙ ap (λ (f : ℕ → ℕ). freedAt (txnAt w p .number) f (rowsOf w p))
-      (posted-other (w .tables .lists) (txnAt w p) (w .sizes .rows) (w .sizes .buckets) (rowsOf w p) (freedTables w p) 1 (omega arith))
+      (posted-other (w .tables .lists) (txnAt w p) (w .sizes .rows) (rowsOf w p) (w .tables .rows) 1 (omega arith))
 
-  -- stamped and freed, the lists tell as before; then they move with the postings, and claims are no part of them
-  freed-told : Tells w (w .tables .rows) (bucketsFreed w p)
-  freed-told = tells-kept _ _ (w .sizes .rows) (w .sizes .buckets) (count-pos w g) (λ k lo hi. refl)
-      (clear-other bucketWords 1 (omega arith) (w .sizes .buckets) (txnAt w p .number) (stamped w p) (freedList w p) 2 (omega arith) (omega arith)
-      ∙ set-other bucketWords 0 (omega arith) (w .sizes .buckets) (w .clock) (w .tables .buckets) (changesOf w p) 2 (omega arith) (omega arith)) (z .told)
-
-  -- publish leaves the lists telling the postings
-  pub publish-told : Tells w (rowsAfter w p) (bucketsAfter w p)
-  publish-told = tells-kept (posted w p) _ (w .sizes .rows) (w .sizes .buckets) (count-pos w g)
-      (λ k lo hi. clear-other rowWords 1 (omega arith) (w .sizes .rows) (txnAt w p .number) (posted w p .rows) (rowsOf w p) k hi (λ e. omega arith)) refl
-      (posted-told (w .tables .lists) (txnAt w p) (w .sizes .rows) (w .sizes .buckets) (rowsOf w p) (freedTables w p) (λ r m. row-in w z g p l r m) (z .rows)
-      (rw (freed-long w z p) (z .buckets)) (count-pos w g) freed-told)
+  -- publish leaves the lists telling the postings: they move with them, and claims are no part of them
+  pub publish-told : Tells w (rowsAfter w p)
+  publish-told = tells-kept (posted w p) _ (w .sizes .rows)
+      (λ k lo hi. clear-other rowWords 1 (omega arith) (w .sizes .rows) (txnAt w p .number) (posted w p) (rowsOf w p) k hi (λ e. omega arith))
+      (posted-told (w .tables .lists) (txnAt w p) (w .sizes .rows) (rowsOf w p) (w .tables .rows) (λ r m. row-in w z g p l r m) (z .rows) (z .told))
 
 -- who is live keeps the clock below the last number
 some-long : (xs : List ℕ) (x : ℕ) → Among x xs → 1 ≤ length xs

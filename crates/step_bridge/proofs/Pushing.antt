@@ -39,7 +39,7 @@ use Rattle.finish_install.specs.Install as install
 use Rattle.finish_install.specs.Install.{lastWriteOf, versionStored, pushedRow, pushedRows, toInstall, installOf}
 use Rattle.step.specs.Steps.{inInstalled}
 use Rattle.step.specs.Words.{Words, view, txnAt, Sized}
-use Rattle.step_bridge.proofs.Shaped.{Shaped, count-pos}
+use Rattle.step_bridge.proofs.Shaped.{Shaped}
 use Rattle.step_bridge.proofs.Places.{standing, sized-at, live-at}
 use Rattle.step_bridge.proofs.Placed.{txns-set, sized-set}
 use Rattle.step_bridge.proofs.Same.{same-store, SameAt, Same, refused-same, later-tests, by-place}
@@ -200,12 +200,12 @@ module _ (w : Words) (z : Sized w) (g : Shaped w) (n : ℕ) (l : standing w n < 
       (versionRows (view w .sizes) (view w .chains) (view w .txns (standing w n) .writes)) (chainsIn w))
 
   -- the lists tell as before
-  install-told : Tells w (after-rows w (standing w n) .rows) (w .tables .buckets)
+  install-told : Tells w (after-rows w (standing w n) .rows)
   install-told =
       let t = txnAt w (standing w n) in
       let ps = versionRows (view w .sizes) (view w .chains) (view w .txns (standing w n) .writes) in
-      tells-kept _ _ (w .sizes .rows) (w .sizes .buckets) (count-pos w g)
-      (λ k lo hi. all-rows-other (w .tables .lists) t (w .sizes .rows) k hi (λ e. omega arith) ps (chainsIn w)) refl (z .told)
+      tells-kept _ _ (w .sizes .rows)
+      (λ k lo hi. all-rows-other (w .tables .lists) t (w .sizes .rows) k hi (λ e. omega arith) ps (chainsIn w)) (z .told)
 
   installed-at : (b : Bool) → not (eqb (rank (phaseView (txnAt w (standing w n) .phase))) phasePrepared) ≡ b
       → SameAt w (standing w n)

@@ -130,11 +130,11 @@ module _ (w : Words) (z : Sized w) (g : Shaped w) (p : ℕ) (l : p < mostLive) w
       })))
 
   -- the kept rows are the slot's, and the bucket that the phase of one that is live carries is below the count
-  pub collected : 1 ≤ t .number → KeepsHeld w (collectOf t (w .tables .rows) (w .tables .buckets) (w .tables .lists) (w .sizes))
+  pub collected : 1 ≤ t .number → KeepsHeld w (collectOf t (w .tables .rows) (w .tables .buckets) (w .tables .lists) (w .sizes .rows))
   unfolding collectOf
   collected a =
       let k = keyIn (phaseView (t .phase)) in
-      let rs = listedWith (w .tables .rows) (w .tables .buckets) (w .sizes .rows) (w .sizes .buckets) k in
+      let rs = listedWith (w .tables .rows) (w .sizes .rows) k in
       let few = ap length (posted-same w z g k) in
       past-test (KeepsHeld w) (not (eqb (rank (phaseView (t .phase))) phaseHolding)) (still w) (λ e. record {
         rows = refl;

@@ -5,7 +5,7 @@ use Rattle.table.specs.Words.{field, setField, setFields, clearField, cl
 
 -- a row, from 0 up
 abbrev pub rowWords : ℕ
-rowWords = 5
+rowWords = 6
 
 -- the newest version's pointer, 0 for none
 abbrev pub headOf : List ℕ → ℕ → ℕ
@@ -49,12 +49,19 @@ postedKeyOf = field rowWords 3
 abbrev pub setPostedKey : List ℕ → ℕ → ℕ → List ℕ
 setPostedKey = setField rowWords 3
 
--- the row behind it in the list of its posting's bucket, by its number and 1; 0 for none
+-- the row behind it in the list of its posting's key, by its number and 1; 0 for none
 abbrev pub laterOf : List ℕ → ℕ → ℕ
 laterOf = field rowWords 4
 
 abbrev pub setLater : List ℕ → ℕ → ℕ → List ℕ
 setLater = setField rowWords 4
+
+-- the first row of the list of this row's number, by its number and 1; 0 for none
+abbrev pub firstOf : List ℕ → ℕ → ℕ
+firstOf = field rowWords 5
+
+abbrev pub setFirst : List ℕ → ℕ → ℕ → List ℕ
+setFirst = setField rowWords 5
 
 -- a version, at its pointer: entry 0 is not used
 abbrev pub versionWords : ℕ
@@ -104,7 +111,7 @@ setPayload = setField versionWords 5
 
 -- a bucket, from 0 up
 abbrev pub bucketWords : ℕ
-bucketWords = 3
+bucketWords = 2
 
 -- the stamp of the last change to the bucket's postings
 abbrev pub stampOf : List ℕ → ℕ → ℕ
@@ -137,10 +144,3 @@ clearHolders = clearFields bucketWords 1
 
 abbrev pub releaseEvery : List ℕ → ℕ → ℕ → List ℕ
 releaseEvery = clearEvery bucketWords 1
-
--- the first row of the bucket's list, by its number and 1; 0 for none
-abbrev pub firstOf : List ℕ → ℕ → ℕ
-firstOf = field bucketWords 2
-
-abbrev pub setFirst : List ℕ → ℕ → ℕ → List ℕ
-setFirst = setField bucketWords 2

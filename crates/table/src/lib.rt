@@ -5,17 +5,17 @@ ghost use lib.ListN.{getD, set, take};
 ghost use Rattle.table.specs.Words.{field, setField, setFields, clearField, clearEvery};
 ghost use Rattle.table.specs.Fields.{xminOf, setXmin, xmaxOf, setXmax, nextOf, setNext, keyedOf, setKeyed, keyOf, setKey, payloadOf, setPayload};
 ghost use Rattle.table.specs.Fields.{headOf, setHead, claimOf, setClaim, unclaimed, unclaimEvery, postedOf, setPosted, postedKeyOf, setPostedKey};
-ghost use Rattle.table.specs.Fields.{laterOf, setLater};
-ghost use Rattle.table.specs.Fields.{stampOf, setStamp, setStamps, holderOf, setHolder, setHolders, released, releaseEvery, firstOf, setFirst};
+ghost use Rattle.table.specs.Fields.{laterOf, setLater, firstOf, setFirst};
+ghost use Rattle.table.specs.Fields.{stampOf, setStamp, setStamps, holderOf, setHolder, setHolders, released, releaseEvery};
 
 pub mod lists; // lists.rt: the lists of a transaction, in its slot
 
 // How many words a row's entry has, a version's and a bucket's.
-pub const ROW_WORDS: usize = 5;
+pub const ROW_WORDS: usize = 6;
 
 pub const VERSION_WORDS: usize = 6;
 
-pub const BUCKET_WORDS: usize = 3;
+pub const BUCKET_WORDS: usize = 2;
 
 // Where the words of a row's entry stand in it.
 pub const HEAD: usize = 0;
@@ -27,6 +27,8 @@ pub const POSTED: usize = 2;
 pub const POSTED_KEY: usize = 3;
 
 pub const LATER: usize = 4;
+
+pub const FIRST: usize = 5;
 
 // Of a version's.
 pub const XMIN: usize = 0;
@@ -45,8 +47,6 @@ pub const PAYLOAD: usize = 5;
 pub const STAMP: usize = 0;
 
 pub const HOLDER: usize = 1;
-
-pub const FIRST: usize = 2;
 
 // The word at `at`, or 0.
 pub fn word(xs: &[u64], at: usize) -> u64
@@ -124,7 +124,7 @@ fn clear_every(xs: &mut [u64], w: usize, k: usize, n: u64, v: u64)
     }
 }
 
-// Rows: head, claim, posted, posted key, later.
+// Rows: head, claim, posted, posted key, later, first.
 pub fn head_at(rows: &[u64], r: usize) -> u64
     ensures { λ x. ⌜ x ≡ headOf (now (rows .entry)) r ⌝ }
 {
@@ -197,6 +197,18 @@ pub fn set_later(rows: &mut [u64], r: usize, x: u64)
     ensures { λ _. ⌜ now (rows .exit) ≡ setLater (now (rows .entry)) r x ⌝ }
 {
     set_field(rows, ROW_WORDS, LATER, r, x);
+}
+
+pub fn first_at(rows: &[u64], r: usize) -> u64
+    ensures { λ x. ⌜ x ≡ firstOf (now (rows .entry)) r ⌝ }
+{
+    field_at(rows, ROW_WORDS, FIRST, r)
+}
+
+pub fn set_first(rows: &mut [u64], r: usize, x: u64)
+    ensures { λ _. ⌜ now (rows .exit) ≡ setFirst (now (rows .entry)) r x ⌝ }
+{
+    set_field(rows, ROW_WORDS, FIRST, r, x);
 }
 
 // Versions: xmin, xmax, next, keyed, key, payload.
@@ -272,7 +284,7 @@ pub fn set_payload(versions: &mut [u64], p: usize, x: u64)
     set_field(versions, VERSION_WORDS, PAYLOAD, p, x);
 }
 
-// Buckets: stamp, holder, first.
+// Buckets: stamp, holder.
 pub fn stamp_at(buckets: &[u64], b: usize) -> u64
     ensures { λ x. ⌜ x ≡ stampOf (now (buckets .entry)) b ⌝ }
 {
@@ -323,16 +335,4 @@ pub fn release_every(buckets: &mut [u64], bucket_count: u64, number: u64)
     ensures { λ _. ⌜ now (buckets .exit) ≡ releaseEvery (now (buckets .entry)) «bucket_count» number ⌝ }
 {
     clear_every(buckets, BUCKET_WORDS, HOLDER, bucket_count, number);
-}
-
-pub fn first_at(buckets: &[u64], b: usize) -> u64
-    ensures { λ x. ⌜ x ≡ firstOf (now (buckets .entry)) b ⌝ }
-{
-    field_at(buckets, BUCKET_WORDS, FIRST, b)
-}
-
-pub fn set_first(buckets: &mut [u64], b: usize, x: u64)
-    ensures { λ _. ⌜ now (buckets .exit) ≡ setFirst (now (buckets .entry)) b x ⌝ }
-{
-    set_field(buckets, BUCKET_WORDS, FIRST, b, x);
 }

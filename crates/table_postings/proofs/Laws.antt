@@ -10,10 +10,10 @@ use native.Mathlib.Omega.{arith}
 use borrow.Author.Tests.{lt-ltb}
 use lib.ListN.{length, set, length-append}
 use lib.Seq.{sets}
-use Rattle.table.specs.Fields.{setPosted, setPostedKey, laterOf, setLater, firstOf, setFirst}
+use Rattle.table.specs.Fields.{laterOf, setLater, firstOf, setFirst}
 use Rattle.table.specs.Lists.{candidates, placeOf}
 use Rattle.table_postings.specs.Postings.{postedWith, follow, keyedOf, keptIn}
-use Rattle.table_postings.specs.Links.{Tables, linkAt, setLink, lastPlace, staysListed, takenOut, putIn, reposted}
+use Rattle.table_postings.specs.Links.{linkAt, setLink, lastPlace, postedTo, staysListed, takenOut, putIn, reposted}
 use Rattle.table_postings.specs.Keeping.{Kept, keepAll}
 use Rattle.table_postings.proofs.Following.{follow-back, follow-past, follow-next}
 
@@ -78,35 +78,34 @@ kept-all rows key slot first most lists st e =
     let whole : most - 0 ≡ most = omega arith in
     rw (← e, whole, zero-add) (refl, refl)
 
--- the link behind a place: the bucket's word before the first row, and a row's own behind it
-pub link-first : (x : Tables) (b p : ℕ) → p ≡ 0 → linkAt x b p ≡ firstOf (x .buckets) b
+-- the link behind a place: the list's word before the first row, and a row's own behind it
+pub link-first : (rows : List ℕ) (i p : ℕ) → p ≡ 0 → linkAt rows i p ≡ firstOf rows i
 unfolding linkAt
-link-first x b zero e = refl
-link-first x b (suc p) e = absurd (omega arith)
+link-first rows i zero e = refl
+link-first rows i (suc p) e = absurd (omega arith)
 
-pub link-later : (x : Tables) (b p : ℕ) → p ≢ 0 → linkAt x b p ≡ laterOf (x .rows) (p - 1)
+pub link-later : (rows : List ℕ) (i p : ℕ) → p ≢ 0 → linkAt rows i p ≡ laterOf rows (p - 1)
 unfolding linkAt
-link-later x b zero d = absurd (d refl)
-link-later x b (suc p) d = let e : suc p - 1 ≡ p = omega arith in rw e
+link-later rows i zero d = absurd (d refl)
+link-later rows i (suc p) d = let e : suc p - 1 ≡ p = omega arith in rw e
 
 -- the same, stored
-pub set-link-first : (x : Tables) (b p v : ℕ) → p ≡ 0 → setLink x b p v ≡ record { rows = x .rows; buckets = setFirst (x .buckets) b v }
+pub set-link-first : (rows : List ℕ) (i p v : ℕ) → p ≡ 0 → setLink rows i p v ≡ setFirst rows i v
 unfolding setLink
-set-link-first x b zero v e = refl
-set-link-first x b (suc p) v e = absurd (omega arith)
+set-link-first rows i zero v e = refl
+set-link-first rows i (suc p) v e = absurd (omega arith)
 
-pub set-link-later : (x : Tables) (b p v : ℕ) → p ≢ 0 → setLink x b p v ≡ record { rows = setLater (x .rows) (p - 1) v; buckets = x .buckets }
+pub set-link-later : (rows : List ℕ) (i p v : ℕ) → p ≢ 0 → setLink rows i p v ≡ setLater rows (p - 1) v
 unfolding setLink
-set-link-later x b zero v d = absurd (d refl)
-set-link-later x b (suc p) v d = let e : suc p - 1 ≡ p = omega arith in rw e
+set-link-later rows i zero v d = absurd (d refl)
+set-link-later rows i (suc p) v d = let e : suc p - 1 ≡ p = omega arith in rw e
 
 -- a row that leaves its list: taken out, posted anew, put in again
-pub moved : (x : Tables) (bucketCount r keyed key : ℕ) (out : Tables) (rows : List ℕ) (after : Tables) → r < length (x .rows)
-    → staysListed (x .rows) bucketCount r keyed key ≡ false → out ≡ takenOut x bucketCount r
-    → rows ≡ setPostedKey (setPosted (out .rows) r keyed) r key
-    → after ≡ putIn (record { rows = rows; buckets = out .buckets }) bucketCount r keyed key → after ≡ reposted x bucketCount r keyed key
+pub moved : (rows : List ℕ) (rowCount r keyed key : ℕ) (out posted after : List ℕ) → r < length rows
+    → staysListed rows rowCount r keyed key ≡ false → out ≡ takenOut rows rowCount r → posted ≡ postedTo out r keyed key
+    → after ≡ putIn posted rowCount r keyed key → after ≡ reposted rows rowCount r keyed key
 unfolding reposted
-moved x bucketCount r keyed key out rows after h s t p a = rw (lt-ltb r (length (x .rows)) h, s) (a ∙ rw (p, t))
+moved rows rowCount r keyed key out posted after h s t p a = rw (lt-ltb r (length rows) h, s) (a ∙ rw (p, t))
 
 -- the last place of what a link leads to, of the rows from a place up to most
 abbrev pub lastOf : List ℕ → ℕ → ℕ → ℕ → ℕ

@@ -1,6 +1,6 @@
--- The rows of a bucket, the place of the last of them, and what the links lead to where they tell them.
+-- The rows of a list, the place of the last of them, and what the links lead to where they tell them.
 -- Assumes nothing.
-use Prim.Native.Nat.{ℕ, zero, suc, _+_, _-_, _%_, _≤_, _<_}
+use Prim.Native.Nat.{ℕ, zero, suc, _+_, _-_, _≤_, _<_}
 use mathlib.Core.Path.{_≡_, refl, sym, ap, _∙_}
 use mathlib.Core.Logic.{_≢_, _⊎_, ⊎-elim}
 use mathlib.Core.Bool.{Bool, true, false, cond, not, true≢false}
@@ -11,46 +11,46 @@ use borrow.Author.Tests.{eqb-true, eq-eqb, ne-eqb, not-true}
 use Rattle.base_lists.specs.Lists.{pick}
 use Rattle.base_lists.proofs.ListLaws.{and-l, and-r}
 use Rattle.table.specs.Fields.{postedOf, postedKeyOf}
-use Rattle.table_postings.specs.Postings.{postedWith, follow, keyedOf}
-use Rattle.table_postings.specs.Links.{Tables, linkAt, lastPlace, placeBefore, inBucket, lastIn}
+use Rattle.table_postings.specs.Postings.{listFor, postedWith, follow, keyedOf}
+use Rattle.table_postings.specs.Links.{linkAt, lastPlace, placeBefore, inList, lastIn}
 use Rattle.table_postings.proofs.Relinking.{last, Linked, leads-on}
 
--- a row that is in a bucket is posted, with a key of that bucket
-module _ (rows : List ℕ) (bucketCount b r : ℕ) (t : inBucket rows bucketCount b r ≡ true) where
+-- a row that is in a list is posted, with a key of that list
+module _ (rows : List ℕ) (rowCount i r : ℕ) (t : inList rows rowCount i r ≡ true) where
   pub in-posted : eqb (postedOf rows r) 0 ≡ false
-  in-posted = not-true _ (and-l (not (eqb (postedOf rows r) 0)) (eqb (postedKeyOf rows r % bucketCount) b) t)
+  in-posted = not-true _ (and-l (not (eqb (postedOf rows r) 0)) (eqb (listFor rowCount (postedKeyOf rows r)) i) t)
 
-  pub in-which : postedKeyOf rows r % bucketCount ≡ b
-  in-which = eqb-true _ _ (and-r (not (eqb (postedOf rows r) 0)) (eqb (postedKeyOf rows r % bucketCount) b) t)
+  pub in-which : listFor rowCount (postedKeyOf rows r) ≡ i
+  in-which = eqb-true _ _ (and-r (not (eqb (postedOf rows r) 0)) (eqb (listFor rowCount (postedKeyOf rows r)) i) t)
 
--- the last place in a bucket is that of the rows in it
-pub last-in : (rows : List ℕ) (bucketCount b r : ℕ) → lastIn rows bucketCount b r ≡ last (inBucket rows bucketCount b) r
+-- the last place in a list is that of the rows in it
+pub last-in : (rows : List ℕ) (rowCount i r : ℕ) → lastIn rows rowCount i r ≡ last (inList rows rowCount i) r
 unfolding lastIn last
-last-in rows bucketCount b zero = refl
-last-in rows bucketCount b (suc r) = rw (last-in rows bucketCount b r)
+last-in rows rowCount i zero = refl
+last-in rows rowCount i (suc r) = rw (last-in rows rowCount i r)
 
--- the links of each bucket tell its rows
-abbrev pub Lists : (ℕ → ℕ → Bool) → Tables → ℕ → ℕ → Type 0
-Lists within x rowCount bucketCount = (b : ℕ) → b < bucketCount → Linked (within b) (linkAt x b) rowCount
+-- the links of each list tell its rows
+abbrev pub Lists : (ℕ → ℕ → Bool) → List ℕ → ℕ → Type 0
+Lists within rows rowCount = (i : ℕ) → i < rowCount → Linked (within i) (linkAt rows i) rowCount
 
 -- the rows that the links lead to are the listed ones
-pub follow-listed : (x : Tables) (b : ℕ) (listed : ℕ → Bool) (most : ℕ) → Linked listed (linkAt x b) most → (n k : ℕ) → k + n ≤ most
-    → follow (x .rows) (linkAt x b (last listed k)) k n ≡ pick listed k n
+pub follow-listed : (rows : List ℕ) (i : ℕ) (listed : ℕ → Bool) (most : ℕ) → Linked listed (linkAt rows i) most → (n k : ℕ) → k + n ≤ most
+    → follow rows (linkAt rows i (last listed k)) k n ≡ pick listed k n
 unfolding follow pick last linkAt
-follow-listed x b listed most l zero k h = refl
-follow-listed x b listed most l (suc n) k h = by (listed k) refl (follow-listed x b listed most l n (suc k) (omega arith))
+follow-listed rows i listed most l zero k h = refl
+follow-listed rows i listed most l (suc n) k h = by (listed k) refl (follow-listed rows i listed most l n (suc k) (omega arith))
   where
-    other : listed k ≡ false → linkAt x b (last listed k) ≢ suc k
+    other : listed k ≡ false → linkAt rows i (last listed k) ≢ suc k
     other t e =
         let d : suc k + (most - suc k) ≡ most = omega arith in
-        let on : (linkAt x b (last listed k) ≡ 0) ⊎ (suc k < linkAt x b (last listed k)) =
-        rw t at (leads-on listed (linkAt x b) most l (most - suc k) (suc k) d) in
+        let on : (linkAt rows i (last listed k) ≡ 0) ⊎ (suc k < linkAt rows i (last listed k)) =
+        rw t at (leads-on listed (linkAt rows i) most l (most - suc k) (suc k) d) in
         ⊎-elim (λ z. omega arith) (λ z. omega arith) on
 
-    by : (t : Bool) → listed k ≡ t → follow (x .rows) (linkAt x b (cond t (suc k) (last listed k))) (suc k) n ≡ pick listed (suc k) n
-        → follow (x .rows) (linkAt x b (last listed k)) k (suc n) ≡ cond t (k ∷ pick listed (suc k) n) (pick listed (suc k) n)
+    by : (t : Bool) → listed k ≡ t → follow rows (linkAt rows i (cond t (suc k) (last listed k))) (suc k) n ≡ pick listed (suc k) n
+        → follow rows (linkAt rows i (last listed k)) k (suc n) ≡ cond t (k ∷ pick listed (suc k) n) (pick listed (suc k) n)
     by true t e = rw (l .named k (omega arith) t, eq-eqb (suc k) (suc k) refl) (ap (λ rs. k ∷ rs) e)
-    by false t e = rw (ne-eqb (linkAt x b (last listed k)) (suc k) (other t)) e
+    by false t e = rw (ne-eqb (linkAt rows i (last listed k)) (suc k) (other t)) e
 
 -- the last place of the listed rows
 last-pick : (listed : ℕ → Bool) (n k : ℕ) → lastPlace (last listed k) (pick listed k n) ≡ last listed (k + n)
@@ -64,12 +64,12 @@ last-pick listed (suc n) k = let e : k + suc n ≡ suc k + n = omega arith in rw
     by false e = e
 
 -- so the walk comes to the place of the last listed row
-pub place-last : (x : Tables) (b : ℕ) (listed : ℕ → Bool) (most : ℕ) → Linked listed (linkAt x b) most → (r : ℕ) → r ≤ most
-    → placeBefore x b r ≡ last listed r
+pub place-last : (rows : List ℕ) (i : ℕ) (listed : ℕ → Bool) (most : ℕ) → Linked listed (linkAt rows i) most → (r : ℕ) → r ≤ most
+    → placeBefore rows i r ≡ last listed r
 unfolding last linkAt
-place-last x b listed most l r h =
+place-last rows i listed most l r h =
     let z : 0 + r ≡ r = omega arith in
-    ap (λ rs. lastPlace 0 rs) (follow-listed x b listed most l r 0 (omega arith)) ∙ (last-pick listed r 0 ∙ rw z)
+    ap (λ rs. lastPlace 0 rs) (follow-listed rows i listed most l r 0 (omega arith)) ∙ (last-pick listed r 0 ∙ rw z)
 
 -- of picked rows those posted with the key, where each of these is picked
 pub keyed-pick : (rows : List ℕ) (key : ℕ) (listed : ℕ → Bool) → ((r : ℕ) → postedWith rows key r ≡ true → listed r ≡ true) → (k n : ℕ)

@@ -10,7 +10,7 @@ use Rattle.table.specs.Regions.{words, listOf}
 use Rattle.table_buckets.specs.Buckets.{canonicalOf}
 use Rattle.table_scans.specs.Scans.{firstFrom, lastBelow}
 use Rattle.table_chain.specs.Chain.{stepFrom, walkFor, walkFrom, firstVisible}
-use Rattle.table_postings.specs.Postings.{follow, keyedOf, listedWith}
+use Rattle.table_postings.specs.Postings.{listFor, follow, keyedOf, listedWith}
 use Rattle.table_postings.specs.Links.{linkAt, setLink, lastPlace, unlinked, linked, reposted, lastIn, listsTell}
 use Rattle.txn.specs.Methods.{holdOf, captureAt, writeOf, collectOf}
 use Rattle.txn_places.specs.Places.{missesOf, placeFrom, liveFrom}
@@ -45,5 +45,5 @@ unfolding model.computes log.number log.widths log.total log.whole log.readRecor
     readsTakenIn validateOf versionsIn reservedIn lacks neededInto prepareWith prepareOf endOf postedOne postedAll stampedIn neededIn freedIn publishOf
     abortOf keepActive keepAll snapshotOf spent beginOf matchOf only planned recordsFor putRecords recordedOf matchedRows newRecords readingOf rowsOf
     clearEvery publishStep stepOf placeFor movedBy rangesFit headsFit txnFits placeFits tablesFit sweptFor cleared openOf decodedOf writtenAt replayLent
-    follow keyedOf listedWith linkAt setLink lastPlace unlinked linked reposted lastIn listsTell toldWithin wordsFor lentLeft lentOf
+    listFor follow keyedOf listedWith linkAt setLink lastPlace unlinked linked reposted lastIn listsTell toldWithin wordsFor lentLeft lentOf
 computes = tt

@@ -5,7 +5,7 @@ use mathlib.Core.Path.{refl}
 use mathlib.Core.Bool.{cond, not}
 use mathlib.Core.List.{List, [], _∷_}
 use lib.Dec.{eqb}
-use lib.ListN.{getD}
+use lib.ListN.{getD, set}
 use Rattle.model.specs.Store.{rank, phaseInstalled}
 use Rattle.model.specs.Refusals.{WrongPhase, refusalNumber}
 use Rattle.base_protocol.specs.declared.Answer.the-variants as tell
@@ -18,7 +18,7 @@ use Rattle.txn.specs.declared.Phase.the-variants as phase
 use Rattle.txn.specs.declared.Transaction.{Transaction}
 use Rattle.txn.specs.declared.Answered.{Answered}
 use Rattle.txn_needs.specs.Needs.{writtenBy}
-use Rattle.finish_publish.specs.Publish.{Left, stampedIn, freedIn, postedAll, endOf, publishOf, abortOf}
+use Rattle.finish_publish.specs.Publish.{Left, freedIn, endOf, publishOf, abortOf}
 use Rattle.tightness.specs.Wrong.{Excludes}
 use Rattle.tightness.proofs.Apart.{apart, numberIn}
 use Rattle.tightness.proofs.Computes.{computes}
@@ -35,15 +35,15 @@ pub end-stays-installed : Excludes endOf
 unfolding computes
 end-stays-installed = apart (live 1 phase.Installed) (λ (a : Answered). rank (phaseView (a .txn .phase))) refl
 
--- row 0 headed by version 1 and claimed by transaction 1, with no posting
+-- row 0 headed by version 1 and claimed by transaction 1, with no posting and an empty list
 abbrev claimed : List ℕ
-claimed = 1 ∷ 1 ∷ 0 ∷ 0 ∷ 0 ∷ []
+claimed = 1 ∷ 1 ∷ 0 ∷ 0 ∷ 0 ∷ 0 ∷ []
 
--- bucket 0 held by it, with an empty list
+-- bucket 0 held by it
 abbrev held : List ℕ
-held = 0 ∷ 1 ∷ 0 ∷ []
+held = 0 ∷ 1 ∷ []
 
--- the claim of row 0 afterwards and its posting, and the holder of bucket 0, its stamp and the first row of its list
+-- the claim of row 0 afterwards, its posting and the first row of its list, and the holder of bucket 0 and its stamp
 abbrev claim : Left → ℕ
 claim l = getD (l .rows) 1 0
 
@@ -51,7 +51,7 @@ abbrev posted : Left → ℕ
 posted l = getD (l .rows) 2 0
 
 abbrev first : Left → ℕ
-first l = getD (l .buckets) 2 0
+first l = getD (l .rows) 5 0
 
 abbrev holder : Left → ℕ
 holder l = getD (l .buckets) 1 0
@@ -90,22 +90,17 @@ pub publish-unstamped : Excludes publishes (λ (rows, versions, buckets, lists, 
     publishes (rows, versions, buckets, lists, e, t) in record {
       reply = l .reply;
       rows = l .rows;
-      buckets =
-          postedAll (record { rows = rows; buckets = freedIn rows versions buckets lists (e .sizes .buckets) t }) lists (e .sizes .buckets) t
-          (writtenBy lists t) .buckets;
+      buckets = freedIn rows versions buckets lists (e .sizes .buckets) t;
     })
 unfolding computes
 publish-unstamped = apart (given phase.Ended) stamp refl
 
--- `publish`: the postings move, and the lists of the buckets do not
-pub publish-lists-kept : Excludes publishes (λ (rows, versions, buckets, lists, e, t). let l =
-    publishes (rows, versions, buckets, lists, e, t) in record {
-      reply = l .reply;
-      rows = l .rows;
-      buckets = freedIn rows versions (stampedIn rows versions buckets lists e t) lists (e .sizes .buckets) t;
-    })
+-- `publish`: the postings move, and list 0 is headed as before
+pub publish-list-headed-before : Excludes publishes (λ (rows, versions, buckets, lists, e, t). let l =
+    publishes (rows, versions, buckets, lists, e, t) in
+    record { reply = l .reply; rows = set (l .rows) 5 (getD rows 5 0); buckets = l .buckets })
 unfolding computes
-publish-lists-kept = apart (given phase.Ended) first refl
+publish-list-headed-before = apart (given phase.Ended) first refl
 
 -- `publish`: the postings stay
 pub publish-postings-kept : Excludes publishes (λ (rows, versions, buckets, lists, e, t). let l =

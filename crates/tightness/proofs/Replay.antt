@@ -9,6 +9,7 @@ use lib.ListN.{length, take, getD, replicate, set}
 use Rattle.model.specs.Refusals.{WrongShape, refusalNumber}
 use Rattle.model.specs.Log.{Command, Opening, Asking, fields, commandOf, readRecord}
 use Rattle.model.specs.Replay.{Replayed, replay, packed, reported}
+use Rattle.table.specs.Fields.{rowWords}
 use Rattle.table.specs.Lists.{writes}
 use Rattle.log.specs.Records.{decodedOf}
 use Rattle.report.specs.Lines.{openLine}
@@ -110,7 +111,7 @@ lent-tables-kept = apart (opening 1, blank, littered) (λ (l : LeftLent). getD (
 pub lent-cleared-past : Excludes lends (λ (log, report, t).
     lends (log, report, record { rows = replicate (length (t .rows)) 0; versions = t .versions; buckets = t .buckets; lists = t .lists }))
 unfolding computes fields commandOf
-lent-cleared-past = apart (opening 1, blank, littered) (λ (l : LeftLent). getD (l .tables .rows) 5 0) refl
+lent-cleared-past = apart (opening 1, blank, littered) (λ (l : LeftLent). getD (l .tables .rows) rowWords 0) refl
 
 -- a begin and a put of key 5 and payload 9 behind the open
 abbrev putting : List ℕ

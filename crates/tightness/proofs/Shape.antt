@@ -56,11 +56,11 @@ pub right-shape-words-only : Excludes right (λ (l, m). tablesFit (over l m))
 unfolding computes shapeOf
 right-shape-words-only = apart (lent, closedOf) bit refl
 
--- `right_shape`: the lists of the buckets are not tested
+-- `right_shape`: the lists of postings are not tested
 pub right-shape-lists-untested : Excludes right
     (λ (l, m). tablesLent (l .0) (l .1) (l .2) (l .3) (m .sizes) && allInPlace (m .txns) && rightShape (view (over l m)))
 unfolding computes shapeOf
-right-shape-lists-untested = apart ((lent .0, lent .1, 0 ∷ 0 ∷ 1 ∷ [], lent .3), freshOf sizes 1) bit refl
+right-shape-lists-untested = apart ((0 ∷ 0 ∷ 0 ∷ 0 ∷ 0 ∷ 1 ∷ [], lent .1, lent .2, lent .3), freshOf sizes 1) bit refl
 
 -- `right_shape`: the tables may be shorter than their sizes
 pub right-shape-tables-short : Excludes right (λ (l, m). rightShape (view (over l m)))

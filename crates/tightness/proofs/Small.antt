@@ -71,7 +71,7 @@ puts = starting writes (0 ∷ 1 ∷ 5 ∷ 9 ∷ [])
 
 -- row 0 headed by version 1, and that version: made by this number, open, of key 6; and erased
 abbrev pub headed : List ℕ
-headed = 1 ∷ 0 ∷ 0 ∷ 0 ∷ 0 ∷ []
+headed = 1 ∷ 0 ∷ 0 ∷ 0 ∷ 0 ∷ 0 ∷ []
 
 abbrev pub keyedBy : ℕ → List ℕ
 keyedBy n = replicate versionWords 0 ++ (n ∷ 0 ∷ 0 ∷ 1 ∷ 6 ∷ 0 ∷ [])

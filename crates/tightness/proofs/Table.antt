@@ -73,8 +73,8 @@ pub set-word-next : Excludes {A = List ℕ × ℕ × ℕ} (λ (xs, at, v). set x
 set-word-next = record { input = (only 0, 0, 0); differ = stores-differ 0 1 (omega arith) }
 
 -- Field k of a table of w words an entry:
--- `head_at`, `claim_at`, `posted_at`, `posted_key_at`, `later_at` (w 5, k 0 to 4), `xmin_at`, `xmax_at`, `next_at`, `keyed_at`, `key_at`, `payload_at`
--- (w 6, k 0 to 5), `stamp_at`, `holder_at`, `first_at` (w 3, k 0 to 2), and the setter of each.
+-- `head_at`, `claim_at`, `posted_at`, `posted_key_at`, `later_at`, `first_at` (w 6, k 0 to 5), `xmin_at`, `xmax_at`, `next_at`, `keyed_at`, `key_at`,
+-- `payload_at` (w 6, k 0 to 5), `stamp_at`, `holder_at` (w 2, k 0 and 1), and the setter of each.
 module _ (w k : ℕ) where
   -- an accessor reads another field
   pub field-other-field : (m : ℕ) → k ≢ m → Excludes {A = List ℕ × ℕ} (λ (xs, i). field w k xs i) (λ (xs, i). field w m xs i)
@@ -221,7 +221,7 @@ setsHolders (buckets, list, n, number) = setHolders buckets number (take n list)
 
 -- two buckets, 0 free and 1 held by 5, and what stands in the first
 abbrev pub two : List ℕ
-two = 0 ∷ 0 ∷ 0 ∷ 0 ∷ 5 ∷ 0 ∷ []
+two = 0 ∷ 0 ∷ 0 ∷ 5 ∷ []
 
 abbrev stamp₀ : List ℕ → ℕ
 stamp₀ xs = getD xs 0 0

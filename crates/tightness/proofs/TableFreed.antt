@@ -27,10 +27,10 @@ unclaims (rows, count, n) = unclaimEvery rows count n
 
 -- one bucket that 3 holds; one row that 3 claims
 abbrev held : List ℕ
-held = 0 ∷ 3 ∷ 0 ∷ []
+held = 0 ∷ 3 ∷ []
 
 abbrev claimed : List ℕ
-claimed = 0 ∷ 3 ∷ 0 ∷ 0 ∷ 0 ∷ []
+claimed = 0 ∷ 3 ∷ 0 ∷ 0 ∷ 0 ∷ 0 ∷ []
 
 -- `release`: a bucket is freed whoever holds it, or the next one is
 pub release-anyones : Excludes releasesOne (λ (buckets, b, n). setHolder buckets b 0)

@@ -1,6 +1,6 @@
 -- Wrong bodies of the crate `txn`.
 -- Assumes nothing.
-use Prim.Native.Nat.{ℕ, _+_, _-_, _%_, min}
+use Prim.Native.Nat.{ℕ, _+_, _-_, min}
 use mathlib.Core.Path.{refl}
 use mathlib.Core.Bool.{false, cond, not}
 use mathlib.Core.List.{List, [], _∷_}
@@ -9,10 +9,9 @@ use lib.ListN.{getD}
 use Rattle.base_limits.specs.Limits.{mostRows}
 use Rattle.model.specs.Store.{rank, phaseHolding, phasePrepared, phaseInstalled, bucketIn, keyIn}
 use Rattle.model.specs.Refusals.{WrongPhase, Marked, ManyWrites, refusalNumber}
-use Rattle.base_protocol.specs.declared.Sizes.{Sizes}
 use Rattle.table.specs.Fields.{firstOf}
 use Rattle.table.specs.Lists.{writes}
-use Rattle.table_postings.specs.Postings.{follow, keyedOf, listedWith}
+use Rattle.table_postings.specs.Postings.{listFor, follow, keyedOf, listedWith}
 use Rattle.txn.specs.declared.Phase.{Phase}
 use Rattle.txn.specs.declared.Phase.the-variants as phase
 use Rattle.txn.specs.declared.Transaction.{Transaction}
@@ -25,7 +24,7 @@ use Rattle.txn.specs.Methods.{Left, LeftLists, left, captureAt, captureOf, writ
 use Rattle.tightness.specs.Wrong.{Excludes}
 use Rattle.tightness.proofs.Apart.{apart, either-way, itself, bit, numberIn}
 use Rattle.tightness.proofs.Computes.{computes}
-use Rattle.tightness.proofs.Small.{live, writer, roomFor, sizes}
+use Rattle.tightness.proofs.Small.{live, writer, roomFor}
 
 -- the same transaction without its mark
 abbrev unmarked : Transaction → Transaction
@@ -148,12 +147,12 @@ put (t, lists, rows, row, key, payload) = writeOf t lists rows (record { row = r
 abbrev erase : Transaction × List ℕ × ℕ × ℕ → LeftLists
 erase (t, lists, rows, row) = writeOf t lists rows (record { row = row; keyed = 0; key = 0; payload = 0 })
 
-abbrev collect : Transaction × List ℕ × List ℕ × List ℕ × Sizes → Left
-collect (t, rows, buckets, lists, z) = collectOf t rows buckets lists z
+abbrev collect : Transaction × List ℕ × List ℕ × List ℕ × ℕ → Left
+collect (t, rows, buckets, lists, n) = collectOf t rows buckets lists n
 
 -- one bucket, of stamp 1 and free, and room for one index read
 abbrev capturing : Transaction × List ℕ × List ℕ × ℕ × ℕ
-capturing = (live 5 phase.Open, 1 ∷ 0 ∷ 0 ∷ [], 0 ∷ 0 ∷ [], 1, 7)
+capturing = (live 5 phase.Open, 1 ∷ 0 ∷ [], 0 ∷ 0 ∷ [], 1, 7)
 
 -- `capture`: the bucket is not taken
 pub capture-bucket-free : Excludes capture
@@ -220,39 +219,41 @@ pub erase-refuses : Excludes erase (λ (t, lists, rows, row). record { reply = r
 unfolding computes
 erase-refuses = apart (live 5 phase.Open, roomFor writes, 1, 0) (λ (l : LeftLists). numberIn (l .reply .answer)) refl
 
--- row 0 posted with key 7 and in the list of that key's bucket, which is held
-abbrev collecting : Transaction × List ℕ × List ℕ × List ℕ × Sizes
-collecting = (live 5 (phase.Holding 0 7), 0 ∷ 0 ∷ 1 ∷ 7 ∷ 0 ∷ [], 0 ∷ 5 ∷ 1 ∷ [], [], sizes)
+-- row 0 posted with key 7 and in the list of that key, whose bucket is held
+abbrev collecting : Transaction × List ℕ × List ℕ × List ℕ × ℕ
+collecting = (live 5 (phase.Holding 0 7), 0 ∷ 0 ∷ 1 ∷ 7 ∷ 0 ∷ 1 ∷ [], 0 ∷ 5 ∷ [], [], 1)
 
 -- `collect`: the bucket stays held
 pub collect-bucket-held : Excludes collect
-    (λ (t, rows, buckets, lists, z). left (collect (t, rows, buckets, lists, z) .reply) buckets (collect (t, rows, buckets, lists, z) .lists))
+    (λ (t, rows, buckets, lists, n). left (collect (t, rows, buckets, lists, n) .reply) buckets (collect (t, rows, buckets, lists, n) .lists))
 unfolding computes
 collect-bucket-held = apart collecting (λ (l : Left). getD (l .buckets) 1 0) refl
 
 -- `collect`: the last row is not looked at
-pub collect-last-row-missed : Excludes collect
-    (λ (t, rows, buckets, lists, z). collect (t, rows, buckets, lists, record { rows = z .rows - 1; versions = z .versions; buckets = z .buckets }))
+pub collect-last-row-missed : Excludes collect (λ (t, rows, buckets, lists, n).
+    cond (not (eqb (rank (phaseView (t .phase))) phaseHolding)) (left (refusedOf t (refusalNumber WrongPhase)) buckets lists)
+    (collectedLeft t (bucketIn (phaseView (t .phase))) (keyIn (phaseView (t .phase)))
+    (keyedOf rows (keyIn (phaseView (t .phase)))
+    (follow rows (firstOf rows (listFor n (keyIn (phaseView (t .phase))))) 0 (min (n - 1) mostRows))) buckets lists))
 unfolding computes
 collect-last-row-missed = apart collecting (λ (l : Left). numberIn (l .reply .answer)) refl
 
--- key 7 is of bucket 1 of two, in whose list row 0 is; the phase carries bucket 0
-abbrev carryingOther : Transaction × List ℕ × List ℕ × List ℕ × Sizes
-carryingOther =
-    (live 5 (phase.Holding 0 7), 0 ∷ 0 ∷ 1 ∷ 7 ∷ 0 ∷ [], 0 ∷ 5 ∷ 0 ∷ 0 ∷ 0 ∷ 1 ∷ [], [], record { rows = 1; versions = 1; buckets = 2 })
+-- key 6 is of list 1 of two, in which row 0 is; the phase carries bucket 0
+abbrev carryingOther : Transaction × List ℕ × List ℕ × List ℕ × ℕ
+carryingOther = (live 5 (phase.Holding 0 6), 0 ∷ 0 ∷ 1 ∷ 6 ∷ 0 ∷ 0 ∷ 0 ∷ 0 ∷ 0 ∷ 0 ∷ 0 ∷ 1 ∷ [], 0 ∷ 5 ∷ 0 ∷ 0 ∷ [], [], 2)
 
--- `collect`: the list of the bucket that the phase carries is followed, not that of the key's
-pub collect-carried-list : Excludes collect (λ (t, rows, buckets, lists, z).
+-- `collect`: the list of the number of the carried bucket is followed, not that of the key
+pub collect-carried-list : Excludes collect (λ (t, rows, buckets, lists, n).
     cond (not (eqb (rank (phaseView (t .phase))) phaseHolding)) (left (refusedOf t (refusalNumber WrongPhase)) buckets lists)
     (collectedLeft t (bucketIn (phaseView (t .phase))) (keyIn (phaseView (t .phase)))
-    (keyedOf rows (keyIn (phaseView (t .phase))) (follow rows (firstOf buckets (bucketIn (phaseView (t .phase)))) 0 (min (z .rows) mostRows))) buckets lists))
+    (keyedOf rows (keyIn (phaseView (t .phase))) (follow rows (firstOf rows (bucketIn (phaseView (t .phase)))) 0 (min n mostRows))) buckets lists))
 unfolding computes
 collect-carried-list = apart carryingOther (λ (l : Left). numberIn (l .reply .answer)) refl
 
--- `collect`: the key's bucket is freed, not the one that the phase carries
-pub collect-key-bucket-freed : Excludes collect (λ (t, rows, buckets, lists, z).
+-- `collect`: the bucket of the number of the key's list is freed, not the one that the phase carries
+pub collect-list-bucket-freed : Excludes collect (λ (t, rows, buckets, lists, n).
     cond (not (eqb (rank (phaseView (t .phase))) phaseHolding)) (left (refusedOf t (refusalNumber WrongPhase)) buckets lists)
-    (collectedLeft t (keyIn (phaseView (t .phase)) % z .buckets) (keyIn (phaseView (t .phase)))
-    (listedWith rows buckets (z .rows) (z .buckets) (keyIn (phaseView (t .phase)))) buckets lists))
+    (collectedLeft t (listFor n (keyIn (phaseView (t .phase)))) (keyIn (phaseView (t .phase)))
+    (listedWith rows n (keyIn (phaseView (t .phase)))) buckets lists))
 unfolding computes
-collect-key-bucket-freed = apart carryingOther (λ (l : Left). getD (l .buckets) 1 0) refl
+collect-list-bucket-freed = apart carryingOther (λ (l : Left). getD (l .buckets) 1 0) refl

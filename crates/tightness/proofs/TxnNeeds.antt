@@ -30,7 +30,7 @@ use Rattle.tightness.proofs.Small.{live, starting, erases, headed, keye
 
 -- row 0 of head 2 and claim 6, whose chain is version 2, of key 7, over version 1, of this key
 abbrev row : List ℕ
-row = 2 ∷ 6 ∷ 0 ∷ 0 ∷ 0 ∷ []
+row = 2 ∷ 6 ∷ 0 ∷ 0 ∷ 0 ∷ 0 ∷ []
 
 abbrev chain : ℕ → List ℕ
 chain key = 0 ∷ 0 ∷ 0 ∷ 0 ∷ 0 ∷ 0 ∷ 1 ∷ 2 ∷ 0 ∷ 1 ∷ key ∷ 0 ∷ 2 ∷ 0 ∷ 1 ∷ 1 ∷ 7 ∷ 9 ∷ []
@@ -244,7 +244,7 @@ releaseAll (buckets, list, n, number) = fields.clearHolders buckets number (take
 
 -- who holds the second bucket
 abbrev holder₁ : List ℕ → ℕ
-holder₁ xs = getD xs 4 0
+holder₁ xs = getD xs 3 0
 
 -- `any_taken`: the number's own buckets count
 pub any-taken-own : Excludes anyTaken (λ (buckets, list, n, number). some-of (λ b. not (eqb (fields.holderOf buckets b) 0)) (take n list))

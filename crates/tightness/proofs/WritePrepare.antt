@@ -34,7 +34,7 @@ abbrev captured : List ℕ
 captured = 0 ∷ 0 ∷ []
 
 abbrev heldBy : ℕ → List ℕ
-heldBy n = 0 ∷ n ∷ 0 ∷ []
+heldBy n = 0 ∷ n ∷ []
 
 -- what validate is given: versions, buckets, lists and the record
 abbrev Validated : Type 0

@@ -107,12 +107,12 @@ capturedIn verdict.Mark = 0
 -- `verdict`: the index reads are not looked at
 pub verdict-reads-skipped : Excludes judge (λ (versions, buckets, lists, t). judge (versions, buckets, lists, withReads t 0))
 unfolding computes
-verdict-reads-skipped = apart ([], 4 ∷ 0 ∷ 0 ∷ [], 0 ∷ 1 ∷ [], withReads (live 5 phase.Open) 1) numberOf refl
+verdict-reads-skipped = apart ([], 4 ∷ 0 ∷ [], 0 ∷ 1 ∷ [], withReads (live 5 phase.Open) 1) numberOf refl
 
 -- `verdict`: captured and present stamp change places
 pub verdict-stamps-swapped : Excludes judge (λ (versions, buckets, lists, t). swapped (judge (versions, buckets, lists, t)))
 unfolding computes
-verdict-stamps-swapped = apart ([], 4 ∷ 0 ∷ 0 ∷ [], 0 ∷ 1 ∷ [], withReads (live 5 phase.Open) 1) capturedIn refl
+verdict-stamps-swapped = apart ([], 4 ∷ 0 ∷ [], 0 ∷ 1 ∷ [], withReads (live 5 phase.Open) 1) capturedIn refl
 
 -- `verdict`: always clear
 pub verdict-always-clear : Excludes judge (λ (versions, buckets, lists, t). verdict.Clear)

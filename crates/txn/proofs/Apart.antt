@@ -7,7 +7,6 @@ use mathlib.Core.List.{List}
 use lib.Dec.{eqb, ltb, leb}
 use Rattle.base_limits.specs.Limits.{mostWrites}
 use Rattle.model.specs.Store.{rank, phaseOpen, phaseHolding, bucketIn, keyIn}
-use Rattle.base_protocol.specs.declared.Sizes.{Sizes}
 use Rattle.table.specs.Fields.{stampOf, holderOf}
 use Rattle.table.specs.declared.lists.Write.{Write}
 use Rattle.table_buckets.specs.Buckets.{precedes}
@@ -75,9 +74,9 @@ module _ (t : Transaction) where
       (either reply (not (precedes (stampOf buckets b) (t .number))) _ _ (record { number = refl; snapshot = refl; slot = refl })
       (either reply (tooMany read (t .«reads_n»)) _ _ here (held-stays lists read b k (stampOf buckets b))))))
 
-  pub collect-stays : (rows buckets lists : List ℕ) (z : Sizes) → Stays t (collectOf t rows buckets lists z .reply .txn)
+  pub collect-stays : (rows buckets lists : List ℕ) (n : ℕ) → Stays t (collectOf t rows buckets lists n .reply .txn)
   unfolding collectOf
-  collect-stays rows buckets lists z =
+  collect-stays rows buckets lists n =
       either reply (not (eqb (rank (phaseView (t .phase))) phaseHolding)) _ _ here (record { number = refl; snapshot = refl; slot = refl })
 
   pub write-stays : (lists : List ℕ) (n : ℕ) (w : Write) → Stays t (writeOf t lists n w .reply .txn)

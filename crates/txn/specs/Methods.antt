@@ -8,7 +8,6 @@ use Rattle.base_limits.specs.Limits.{mostActive, mostIndexReads, mostWrites}
 use Rattle.model.specs.Store.{rank, phaseOpen, phaseHolding, phaseCollected, phasePrepared, phaseInstalled, phaseEnded, bucketIn, keyIn}
 use Rattle.model.specs.Refusals.{WrongPhase, NoRow, Taken, Marked, ManyReads, ManyWrites, Stale, refusalNumber}
 use Rattle.base_protocol.specs.declared.Answer.the-variants as tell
-use Rattle.base_protocol.specs.declared.Sizes.{Sizes}
 use Rattle.table.specs.Fields.{stampOf, holderOf, setHolder}
 use Rattle.table.specs.Lists.{reads, writes, stored}
 use Rattle.table.specs.declared.lists.Write.{Write}
@@ -225,9 +224,9 @@ collectedLeft t b k rs buckets lists =
     left (record { answer = tell.Count (length rs); txn = withCandidates (withPhase t (phase.Collected k)) (length rs) }) (setHolder buckets b 0)
     (keptIn lists (t .slot) rs)
 
--- wrong phase; else of the list of the key's bucket the rows posted with the key are kept, and the bucket that the phase carries is free
-unfoldable pub collectOf : Transaction → List ℕ → List ℕ → List ℕ → Sizes → Left
-collectOf t rows buckets lists z =
+-- wrong phase; else of the key's list the rows posted with the key are kept, and the bucket that the phase carries is free
+unfoldable pub collectOf : Transaction → List ℕ → List ℕ → List ℕ → ℕ → Left
+collectOf t rows buckets lists rowCount =
     cond (not (eqb (rank (phaseView (t .phase))) phaseHolding)) (left (refusedOf t (refusalNumber WrongPhase)) buckets lists)
     (collectedLeft t (bucketIn (phaseView (t .phase))) (keyIn (phaseView (t .phase)))
-    (listedWith rows buckets (z .rows) (z .buckets) (keyIn (phaseView (t .phase)))) buckets lists)
+    (listedWith rows rowCount (keyIn (phaseView (t .phase)))) buckets lists)

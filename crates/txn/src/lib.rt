@@ -8,7 +8,6 @@ use base_protocol::MANY_WRITES;
 use base_protocol::MARKED;
 use base_protocol::NO_ROW;
 use base_protocol::STALE;
-use base_protocol::Sizes;
 use base_protocol::TAKEN;
 use base_protocol::WRONG_PHASE;
 use table::holder_at;
@@ -407,17 +406,16 @@ impl Transaction {
         self.write(lists, row_count, erasure)
     }
 
-    // Collect: of the list of the key's bucket the rows posted with exactly the key are kept ascending. The bucket that the phase carries is freed,
-    // whoever holds it.
+    // Collect: of the key's list the rows posted with exactly the key are kept ascending. The bucket that the phase carries is freed, whoever holds it.
     pub fn collect(
         self,
         rows: &[u64],
         buckets: &mut [u64],
         lists: &mut [u64],
-        sizes: Sizes,
+        row_count: u64,
     ) -> Answered
         ensures { λ r. ⌜ record { reply = r; buckets = now (buckets .exit); lists = now (lists .exit) }
-            ≡ collectOf self (now (rows .entry)) (now (buckets .entry)) (now (lists .entry)) sizes ⌝ }
+            ≡ collectOf self (now (rows .entry)) (now (buckets .entry)) (now (lists .entry)) «row_count» ⌝ }
     {
         let phase = self.phase;
         if phase_rank(phase) != HOLDING {
@@ -425,15 +423,7 @@ impl Transaction {
         }
         let bucket = bucket_in(phase);
         let key = key_in(phase);
-        let n = keep_posted(
-            rows,
-            buckets,
-            lists,
-            self.slot,
-            sizes.rows,
-            sizes.buckets,
-            key,
-        );
+        let n = keep_posted(rows, lists, self.slot, row_count, key);
         set_holder(buckets, bucket as usize, 0);
         let mut txn = self.with_phase(Phase::Collected { key: key });
         txn.candidates_n = n;

@@ -15,16 +15,13 @@ repost-requires c κs = search needs
 same-length : tie.Need-same-length
 same-length c = search needs
 
-same-length-2 : tie.Need-same-length-2
-same-length-2 c = search needs
-
 returns : tie.Need-returns
 unfolding postedOne
 returns c =
-    let moved = c .before .before .before .before in
-    rw (← moved .before .before .before .new-key .ensures) (moved .repost .ensures)
+    let moved = c .before .before in
+    rw (← moved .before .before .new-key .ensures) (moved .repost .ensures)
 
 pub post-spec : {M : Type 1} → statement M
 post-spec =
     tie.close
-    (tie.spec new-key-requires repost-requires same-length same-length-2 returns)
+    (tie.spec new-key-requires repost-requires same-length returns)

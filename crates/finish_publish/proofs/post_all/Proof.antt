@@ -12,20 +12,19 @@ use Rattle.finish_publish.proofs.post_all.Statement.{statement}
 use Rattle.finish_publish.proofs.post_all.Tie as tie
 
 abbrev Inv-loop : tie.InvT-loop
-Inv-loop rows₀ buckets₀ lists bucketCount t i₀ rows buckets i =
-    (i ≤ t .«writes_n») × (length rows ≡ length rows₀) × (length buckets ≡ length buckets₀)
-    × (postedAll (record { rows = rows₀; buckets = buckets₀ }) lists bucketCount t (writtenBy lists t)
-    ≡ postedAll (record { rows = rows; buckets = buckets }) lists bucketCount t (drop i (writtenBy lists t)))
+Inv-loop rows₀ lists rowCount t i₀ rows i =
+    (i ≤ t .«writes_n») × (length rows ≡ length rows₀)
+    × (postedAll rows₀ lists rowCount t (writtenBy lists t) ≡ postedAll rows lists rowCount t (drop i (writtenBy lists t)))
 
 abbrev μ-loop : tie.MeasureT-loop
-μ-loop rows₀ buckets₀ lists bucketCount t i₀ rows buckets i = t .«writes_n» - i
+μ-loop rows₀ lists rowCount t i₀ rows i = t .«writes_n» - i
 
 -- the parameters
 abbrev entered : tie.At-loop Inv-loop μ-loop → tie.Start Inv-loop μ-loop
-entered c = c .before .before .before .before
+entered c = c .before .before .before
 
 loop-holds : tie.Need-loop-holds Inv-loop μ-loop
-loop-holds c = (search needs, refl, refl, refl)
+loop-holds c = (search needs, refl, refl)
 
 write-row-at-requires : tie.Need-write-row-at-requires Inv-loop μ-loop
 write-row-at-requires c κs = search needs
@@ -42,15 +41,14 @@ loop-less c = search needs
 loop-again : tie.Need-loop-again Inv-loop μ-loop
 unfolding postedAll
 loop-again c =
-    let posted = c .before .before .before .before in
+    let posted = c .before .before in
     let read = posted .before in
-    let at = read .before .before .before .before .before in
+    let at = read .before .before .before .before in
     let a = entered at .args in
     let l = at .loop in (
       omega arith,
       posted .post .kept .0 ∙ l .inv .1,
-      posted .post .kept .1 .0 ∙ l .inv .2,
-      l .inv .3
+      l .inv .2
           ∙ rw (
             rows-next (a .lists .now) (a .t) (l .i) (read .write-row-at .result) (omega arith) (read .write-row-at .ensures),
             posted .post .ensures,
@@ -60,15 +58,12 @@ loop-again c =
 same-length : tie.Need-same-length Inv-loop μ-loop
 same-length c = c .before .before .loop .inv .1
 
-same-length-2 : tie.Need-same-length-2 Inv-loop μ-loop
-same-length-2 c = c .before .before .loop .inv .2
-
 returns : tie.Need-returns Inv-loop μ-loop
 unfolding postedAll
 returns c =
     let a = entered (c .before .before) .args in
     let l = c .before .before .loop in
-    sym (rw (l .inv .3, rows-done (a .lists .now) (a .t) (l .i) (omega arith)))
+    sym (rw (l .inv .2, rows-done (a .lists .now) (a .t) (l .i) (omega arith)))
 
 pub post-all-spec : {M : Type 1} → statement M
 post-all-spec =
@@ -83,5 +78,4 @@ post-all-spec =
     loop-less
     loop-again
     same-length
-    same-length-2
     returns)

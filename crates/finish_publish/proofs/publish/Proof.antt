@@ -10,10 +10,10 @@ use Rattle.finish_publish.proofs.publish.Tie as tie
 
 -- the places behind the calls, from the last one back
 abbrev posted : tie.After-unclaim-all → tie.After-post-all
-posted c = c .before .before .before .before .before .before
+posted c = c .before .before .before .before
 
 abbrev freed : tie.After-post-all → tie.After-release-all
-freed c = c .before .before .before .before .before
+freed c = c .before .before .before .before
 
 abbrev stamped : tie.After-push-held → tie.After-stamp-changes
 stamped c = c .before .before .before .before .before
@@ -61,7 +61,7 @@ same-length-2 c =
     let moved = posted unclaimed in
     let released = freed moved in
     let listed = released .before .before .before .before in
-    moved .post-all .kept .1 .0 ∙ (released .release-all .kept .0 ∙ stamped listed .stamp-changes .kept .1 .1 .0)
+    released .release-all .kept .0 ∙ stamped listed .stamp-changes .kept .1 .1 .0
 
 returns-2 : tie.Need-returns-2
 unfolding publishOf

@@ -1,42 +1,43 @@
 -- `shape_postings::row_named` meets its contract.
 -- Assumes nothing.
-use Prim.Native.Nat.{ℕ, _+_, _*_, _%_, _≤_, _<_}
+use Prim.Native.Nat.{_≤_, _<_}
 use mathlib.Core.Path.{_≡_}
-use native.Mathlib.Nat.{mod-lt}
 use native.Mathlib.Omega.{arith}
 use borrow.Author.Needs.{needs}
 use borrow.Author.Tests.{eq-eqb}
 use lib.ListN.{getD}
 use Rattle.table.specs.Words.{field}
-use Rattle.table.specs.Fields.{rowWords, postedOf}
-use Rattle.shape_postings.proofs.Laws.{last-low, kept-unposted, kept-posted, named-posted}
+use Rattle.table.specs.Fields.{postedOf}
+use Rattle.table_postings.proofs.Spreading.{list-low}
+use Rattle.shape_postings.proofs.Laws.{kept-low, kept-unposted, kept-posted, named-posted}
 use Rattle.shape_postings.proofs.row_named.Statement.{statement}
 use Rattle.shape_postings.proofs.row_named.Tie as tie
 
 -- the parameters
 abbrev start : tie.Else1 → tie.Start
-start c = c .before .before .before .before
+start c = c .before .before .before
 
--- the bucket of the row's key
-abbrev bucket : tie.Start → ℕ
-bucket c = getD (c .args .rows .now) (rowWords * c .args .row + 3) 0 % c .args .bucket-count
+abbrev entered : tie.After-list-for → tie.Start
+entered c = start (c .before .before)
 
--- is one of the buckets
-in-range : (c : tie.Start) → bucket c < c .args .bucket-count
-in-range c = mod-lt _ (omega arith)
+-- the list of the row's key is one of the store's
+in-range : (c : tie.After-list-for) → c .list-for .result < entered c .args .row-count
+in-range c = rw (c .list-for .ensures) (list-low _ _ (omega arith))
 
 -- and the place that is kept for it is at most the row
-kept-low : (c : tie.Start) → getD (c .args .last .now) (bucket c) 0 ≤ c .args .row
-kept-low c = rw (c .pre .1 .kept (bucket c) (in-range c)) (last-low (c .args .rows .now) (c .args .bucket-count) (bucket c) (c .args .row))
+place-low : (c : tie.After-list-for) → getD (entered c .args .last .now) (c .list-for .result) 0 ≤ entered c .args .row
+place-low c =
+    let s = entered c in
+    kept-low (s .args .rows .now) (s .args .row-count) (s .args .row) (s .args .last .now) (s .pre .2) (c .list-for .result) (in-range c)
 
-mul-if1 : tie.Need-mul-if1
-mul-if1 c = search needs
+mul-entry : tie.Need-mul-entry
+mul-entry c = search needs
 
 add-if1 : tie.Need-add-if1
 add-if1 c = search needs
 
-mul-if1-2 : tie.Need-mul-if1-2
-mul-if1-2 c = search needs
+mul-if1 : tie.Need-mul-if1
+mul-if1 c = search needs
 
 shared-slice-read-if1 : tie.Need-shared-slice-read-if1
 shared-slice-read-if1 c = search needs
@@ -44,33 +45,30 @@ shared-slice-read-if1 c = search needs
 returns : tie.Need-returns
 unfolding field
 returns c =
-    let s = c .before .before .before .before in
+    let s = c .before .before .before in
     let e : postedOf (s .args .rows .now) (s .args .row) ≡ 0 = c .if1 .taken in
-    (rw (eq-eqb _ _ e), kept-unposted (s .args .rows .now) (s .args .bucket-count) (s .args .row) (s .args .last .now) (s .pre .1) e)
+    (rw (eq-eqb _ _ e), kept-unposted (s .args .rows .now) (s .args .row-count) (s .args .row) (s .args .last .now) (s .pre .2) e)
 
-mul-b : tie.Need-mul-b
-mul-b c = search needs
+add-list-for : tie.Need-add-list-for
+add-list-for c = search needs
 
-add-b : tie.Need-add-b
-add-b c = search needs
+mul-list-for : tie.Need-mul-list-for
+mul-list-for c = search needs
 
-mul-b-2 : tie.Need-mul-b-2
-mul-b-2 c = search needs
+shared-slice-read-list-for : tie.Need-shared-slice-read-list-for
+shared-slice-read-list-for c = search needs
 
-shared-slice-read-b : tie.Need-shared-slice-read-b
-shared-slice-read-b c = search needs
-
-rem-b : tie.Need-rem-b
-rem-b c = search needs
+list-for-requires : tie.Need-list-for-requires
+list-for-requires c κs = search needs
 
 mul-place : tie.Need-mul-place
-mul-place c = let s = start (c .before) in omega (arith, in-range s)
+mul-place c = omega (arith, in-range c)
 
 element-copy-out-place : tie.Need-element-copy-out-place
-element-copy-out-place c = let s = start (c .before) in omega (arith, in-range s)
+element-copy-out-place c = omega (arith, in-range c)
 
 cast-place : tie.Need-cast-place
-cast-place c = let s = start (c .before .before) in omega (arith, kept-low s)
+cast-place c = omega (arith, place-low (c .before))
 
 add-last : tie.Need-add-last
 add-last c = search needs
@@ -79,13 +77,13 @@ cast-last : tie.Need-cast-last
 cast-last c = search needs
 
 mul-last : tie.Need-mul-last
-mul-last c = let s = start (c .before .before) in omega (arith, in-range s)
+mul-last c = omega (arith, in-range (c .before))
 
 element-write-last : tie.Need-element-write-last
-element-write-last c = let s = start (c .before .before) in omega (arith, in-range s)
+element-write-last c = omega (arith, in-range (c .before))
 
-link-behind-requires : tie.Need-link-behind-requires
-link-behind-requires c κs = let s = start (c .before .before) in (omega (arith, in-range s), omega (arith, kept-low s))
+link-at-requires : tie.Need-link-at-requires
+link-at-requires c κs = search needs
 
 add-result : tie.Need-add-result
 add-result c = search needs
@@ -93,28 +91,29 @@ add-result c = search needs
 returns-2 : tie.Need-returns-2
 unfolding field
 returns-2 c =
-    let left = c .before .before .before in
+    let told = c .before .before in
+    let left = told .before .before in
     let s = start left in
-    let a = s .args in (
-      named-posted (record { rows = a .rows .now; buckets = a .buckets .now }) (a .bucket-count) (a .row) (c .link-behind .result) _ (left .if1 .left)
-          (s .pre .1 .kept (bucket s) (in-range s)) (c .link-behind .ensures),
-      kept-posted (a .rows .now) (a .bucket-count) (a .row) (a .last .now) (s .pre .1) (left .if1 .left) (in-range s),
+    let a = s .args in
+    let e = told .list-for .ensures in (
+      named-posted (a .rows .now) (a .row-count) (a .row) (c .link-at .result) _ (left .if1 .left)
+          (rw e at (s .pre .2 .kept (told .list-for .result) (in-range told))) (rw e at (c .link-at .ensures)),
+      rw e (kept-posted (a .rows .now) (a .row-count) (a .row) (a .last .now) (s .pre .2) (left .if1 .left) (rw e at (in-range told))),
     )
 
 pub row-named-spec : {M : Type 1} → statement M
 row-named-spec =
     tie.close
     (tie.spec
-    mul-if1
+    mul-entry
     add-if1
-    mul-if1-2
+    mul-if1
     shared-slice-read-if1
     returns
-    mul-b
-    add-b
-    mul-b-2
-    shared-slice-read-b
-    rem-b
+    add-list-for
+    mul-list-for
+    shared-slice-read-list-for
+    list-for-requires
     mul-place
     element-copy-out-place
     cast-place
@@ -122,6 +121,6 @@ row-named-spec =
     cast-last
     mul-last
     element-write-last
-    link-behind-requires
+    link-at-requires
     add-result
     returns-2)

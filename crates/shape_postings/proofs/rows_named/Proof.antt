@@ -1,7 +1,7 @@
 -- `shape_postings::rows_named` meets its contract.
 -- Assumes nothing.
-use Prim.Native.Nat.{_≤_, _-_}
-use mathlib.Core.Path.{_≡_}
+use Prim.Native.Nat.{ℕ, _≤_, _-_}
+use mathlib.Core.Path.{_≡_, subst}
 use mathlib.Core.Bool.{true, false≢true}
 use native.Mathlib.Omega.{arith}
 use borrow.Author.Needs.{needs}
@@ -13,33 +13,21 @@ use Rattle.shape_postings.proofs.rows_named.Statement.{statement}
 use Rattle.shape_postings.proofs.rows_named.Tie as tie
 
 abbrev Inv-loop : tie.InvT-loop
-Inv-loop rows buckets row-count bucket-count last₀ row₀ last row =
-    (row ≤ row-count)
-    × LastKept rows bucket-count row last
-    × (every row (namedBefore (record { rows = rows; buckets = buckets }) bucket-count) ≡ true)
+Inv-loop rows row-count last₀ row₀ last row =
+    (row ≤ row-count) × LastKept rows row-count row last × (every row (namedBefore rows row-count) ≡ true)
 
 abbrev μ-loop : tie.MeasureT-loop
-μ-loop rows buckets row-count bucket-count last₀ row₀ last row = row-count - row
+μ-loop rows row-count last₀ row₀ last row = row-count - row
 
 -- the parameters
 abbrev start : tie.At-loop Inv-loop μ-loop → tie.Start Inv-loop μ-loop
-start c = c .before .before .before
+start c = c .before .before
 
 loop-holds : tie.Need-loop-holds Inv-loop μ-loop
-loop-holds c = (omega arith, c .before .before .pre .1, every-none _)
+loop-holds c = (omega arith, c .before .pre .1, every-none _)
 
 row-named-requires : tie.Need-row-named-requires Inv-loop μ-loop
-row-named-requires c κs =
-    let at = c .before .before in (
-      record {
-        few-rows = omega arith;
-        some-bucket = omega arith;
-        few-buckets = omega arith;
-        rows-held = omega arith;
-        buckets-held = omega arith;
-      },
-      at .loop .inv .1,
-    )
+row-named-requires c κs = let at = c .before .before in (omega arith, start at .pre .0, at .loop .inv .1)
 
 returns : tie.Need-returns Inv-loop μ-loop
 returns c =
@@ -65,9 +53,11 @@ loop-again c =
 returns-2 : tie.Need-returns-2 Inv-loop μ-loop
 returns-2 c =
     let at = c .before in
-    let n = start at .args .row-count in
-    let e : at .loop .row ≡ n = omega arith in
-    (every-done _ (at .loop .row) n (omega arith) (omega arith) (at .loop .inv .2), λ _. rw (← e) (at .loop .inv .1))
+    let a = start at .args in
+    let e : at .loop .row ≡ a .row-count = omega arith in (
+      every-done _ (at .loop .row) (a .row-count) (omega arith) (omega arith) (at .loop .inv .2),
+      λ _. subst (λ (r : ℕ). LastKept (a .rows .now) (a .row-count) r (at .loop .last)) e (at .loop .inv .1),
+    )
 
 pub rows-named-spec : {M : Type 1} → statement M
 rows-named-spec =

@@ -13,7 +13,7 @@ use Rattle.table_postings.proofs.keep_posted.Statement.{statement}
 use Rattle.table_postings.proofs.keep_posted.Tie as tie
 
 abbrev Inv-loop : tie.InvT-loop
-Inv-loop rows buckets lists₀ slot row-count bucket-count key whole most link₀ place₀ n₀ lists link place n =
+Inv-loop rows lists₀ slot row-count key whole most link₀ place₀ n₀ lists link place n =
     (place ≤ most)
     × (n ≤ place)
     × (length lists ≡ length lists₀)
@@ -21,17 +21,17 @@ Inv-loop rows buckets lists₀ slot row-count bucket-count key whole most link�
     (keepAll slot (leftOf rows key link place most) (record { n = n; lists = lists })))
 
 abbrev μ-loop : tie.MeasureT-loop
-μ-loop rows buckets lists₀ slot row-count bucket-count key whole most link₀ place₀ n₀ lists link place n = most - place
+μ-loop rows lists₀ slot row-count key whole most link₀ place₀ n₀ lists link place n = most - place
 
 -- the parameters
 abbrev entered : tie.After-lesser-u64 Inv-loop μ-loop → tie.Start Inv-loop μ-loop
-entered c = c .before .before .before .before
+entered c = c .before .before .before
 
 lesser-u64-requires : tie.Need-lesser-u64-requires Inv-loop μ-loop
 lesser-u64-requires c κs = search needs
 
-bucket-of-requires : tie.Need-bucket-of-requires Inv-loop μ-loop
-bucket-of-requires c κs = search needs
+list-for-requires : tie.Need-list-for-requires Inv-loop μ-loop
+list-for-requires c κs = search needs
 
 first-at-requires : tie.Need-first-at-requires Inv-loop μ-loop
 first-at-requires c κs = search needs
@@ -83,7 +83,7 @@ returns c =
     let at = c .before .before in
     let first = at .before in
     let ended = keep-past _ _ _ _ _ _ _ (at .loop .inv .0) (leb-false _ _ (c .if1 .left)) in
-    rw (← first .before .before .lesser-u64 .ensures, ← first .before .bucket-of .ensures, ← first .first-at .ensures)
+    rw (← first .before .before .lesser-u64 .ensures, ← first .before .list-for .ensures, ← first .first-at .ensures)
     (kept-all _ _ _ _ _ _ _ (at .loop .inv .3 ∙ ended))
 
 same-length-2 : tie.Need-same-length-2 Inv-loop μ-loop
@@ -94,7 +94,7 @@ unfolding listedWith
 returns-2 c =
     let at = c .before in
     let first = at .before in
-    rw (← first .before .before .lesser-u64 .ensures, ← first .before .bucket-of .ensures, ← first .first-at .ensures)
+    rw (← first .before .before .lesser-u64 .ensures, ← first .before .list-for .ensures, ← first .first-at .ensures)
     (kept-all _ _ _ _ _ _ _ (at .loop .inv .3 ∙ keep-back _ _ _ _ _ _ _ (c .loop-test .left)))
 
 pub keep-posted-spec : {M : Type 1} → statement M
@@ -104,7 +104,7 @@ keep-posted-spec =
     Inv-loop
     μ-loop
     lesser-u64-requires
-    bucket-of-requires
+    list-for-requires
     first-at-requires
     loop-holds
     sub-row

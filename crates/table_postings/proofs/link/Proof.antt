@@ -25,16 +25,13 @@ set-link-requires c κs = search needs
 same-length : tie.Need-same-length
 same-length c = search needs
 
-same-length-2 : tie.Need-same-length-2
-same-length-2 c = search needs
-
 returns : tie.Need-returns
 unfolding linked
 returns c =
-    let put = c .before .before .before .before in
-    let set = put .before .before .before .before .before in
+    let put = c .before .before in
+    let set = put .before .before .before .before in
     let behind = set .before .before in
-    let place = behind .before .before .before in
+    let place = behind .before .before in
     put .set-link .ensures ∙ rw (set .set-later .ensures, behind .link-at .ensures, place .place-before .ensures, add-one)
 
 pub link-spec : {M : Type 1} → statement M
@@ -47,5 +44,4 @@ link-spec =
     add-set-link
     set-link-requires
     same-length
-    same-length-2
     returns)

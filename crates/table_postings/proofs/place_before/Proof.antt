@@ -10,10 +10,10 @@ use Rattle.table_postings.proofs.place_before.Statement.{statement}
 use Rattle.table_postings.proofs.place_before.Tie as tie
 
 abbrev Inv-loop : tie.InvT-loop
-Inv-loop rows buckets b row whole place₀ link₀ place link = (place ≤ row) × (lastOf rows link₀ 0 row ≡ lastOf rows link place row)
+Inv-loop rows list row whole place₀ link₀ place link = (place ≤ row) × (lastOf rows link₀ 0 row ≡ lastOf rows link place row)
 
 abbrev μ-loop : tie.MeasureT-loop
-μ-loop rows buckets b row whole place₀ link₀ place link = row - place
+μ-loop rows list row whole place₀ link₀ place link = row - place
 
 first-at-requires : tie.Need-first-at-requires Inv-loop μ-loop
 first-at-requires c κs = search needs

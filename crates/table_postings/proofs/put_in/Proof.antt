@@ -8,8 +8,8 @@ use Rattle.table_postings.proofs.put_in.Tie as tie
 returns : tie.Need-returns
 returns c = rw (eq-eqb _ _ (c .if1 .taken))
 
-bucket-of-requires : tie.Need-bucket-of-requires
-bucket-of-requires c κs = search needs
+list-for-requires : tie.Need-list-for-requires
+list-for-requires c κs = search needs
 
 link-requires : tie.Need-link-requires
 link-requires c κs = search needs
@@ -17,17 +17,14 @@ link-requires c κs = search needs
 same-length : tie.Need-same-length
 same-length c = search needs
 
-same-length-2 : tie.Need-same-length-2
-same-length-2 c = search needs
-
 returns-2 : tie.Need-returns-2
 returns-2 c =
-    let put = c .before .before .before .before in
-    let bucket = put .before in
-    let tested = bucket .before .before .before in
-    rw (ne-eqb _ _ (tested .if1 .left), ← bucket .bucket-of .ensures) (put .link .ensures)
+    let put = c .before .before in
+    let list = put .before in
+    let tested = list .before .before in
+    rw (ne-eqb _ _ (tested .if1 .left), ← list .list-for .ensures) (put .link .ensures)
 
 pub put-in-spec : {M : Type 1} → statement M
 put-in-spec =
     tie.close
-    (tie.spec returns bucket-of-requires link-requires same-length same-length-2 returns-2)
+    (tie.spec returns list-for-requires link-requires same-length returns-2)

@@ -42,15 +42,12 @@ put-in-requires c κs = search needs
 same-length-2 : tie.Need-same-length-2
 same-length-2 c = search needs
 
-same-length-3 : tie.Need-same-length-3
-same-length-3 c = search needs
-
 returns-3 : tie.Need-returns-3
 returns-3 c =
-    let put = c .before .before .before .before in
-    let set = put .before .before .before .before .before in
-    let out = set .before .before .before .before .before .before in
-    let tested = out .before .before .before in
+    let put = c .before .before in
+    let set = put .before .before .before .before in
+    let out = set .before .before .before .before in
+    let tested = out .before .before in
     let listed = tested .before in
     let h = listed .before .before .if1 .left in
     moved _ _ _ _ _ _ _ _ h (sym (listed .stays-listed .ensures) ∙ tested .if2 .left)
@@ -69,5 +66,4 @@ repost-spec =
     set-posting-requires-2
     put-in-requires
     same-length-2
-    same-length-3
     returns-3)

@@ -34,17 +34,17 @@ returns-3 c =
     let keyed = c .before .before in
     rw (posted-not (keyed .before), ne-eqb _ _ (keyed .if2 .left), ← c .before .posted-key-at .ensures, c .if3 .taken, eq-eqb _ _ refl)
 
-bucket-of-requires : tie.Need-bucket-of-requires
-bucket-of-requires c κs = search needs
+list-for-requires : tie.Need-list-for-requires
+list-for-requires c κs = search needs
 
-bucket-of-requires-2 : tie.Need-bucket-of-requires-2
-bucket-of-requires-2 c κs = search needs
+list-for-requires-2 : tie.Need-list-for-requires-2
+list-for-requires-2 c κs = search needs
 
 returns-4 : tie.Need-returns-4
 returns-4 c =
     let old = c .before .before .before in
     let keyed = old .before in
-    rw (posted-not (keyed .before), ne-eqb _ _ (keyed .if2 .left), ← old .posted-key-at .ensures, ← c .before .bucket-of .ensures, ← c .bucket-of2 .ensures)
+    rw (posted-not (keyed .before), ne-eqb _ _ (keyed .if2 .left), ← old .posted-key-at .ensures, ← c .before .list-for .ensures, ← c .list-for2 .ensures)
 
 pub stays-listed-spec : {M : Type 1} → statement M
 stays-listed-spec =
@@ -55,6 +55,6 @@ stays-listed-spec =
     returns-2
     posted-key-at-requires
     returns-3
-    bucket-of-requires
-    bucket-of-requires-2
+    list-for-requires
+    list-for-requires-2
     returns-4)

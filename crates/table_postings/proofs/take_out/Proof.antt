@@ -17,8 +17,8 @@ returns c = rw (← c .before .posted-at .ensures, eq-eqb _ _ (c .if1 .taken))
 posted-key-at-requires : tie.Need-posted-key-at-requires
 posted-key-at-requires c κs = search needs
 
-bucket-of-requires : tie.Need-bucket-of-requires
-bucket-of-requires c κs = search needs
+list-for-requires : tie.Need-list-for-requires
+list-for-requires c κs = search needs
 
 unlink-requires : tie.Need-unlink-requires
 unlink-requires c κs = search needs
@@ -26,16 +26,13 @@ unlink-requires c κs = search needs
 same-length-2 : tie.Need-same-length-2
 same-length-2 c = search needs
 
-same-length-3 : tie.Need-same-length-3
-same-length-3 c = search needs
-
 returns-2 : tie.Need-returns-2
 returns-2 c =
-    let out = c .before .before .before .before in
-    let bucket = out .before .before .before in
-    let key = bucket .before in
+    let out = c .before .before in
+    let list = out .before .before in
+    let key = list .before in
     let tested = key .before .before in
-    rw (← tested .before .posted-at .ensures, ne-eqb _ _ (tested .if1 .left), ← key .posted-key-at .ensures, ← bucket .bucket-of .ensures)
+    rw (← tested .before .posted-at .ensures, ne-eqb _ _ (tested .if1 .left), ← key .posted-key-at .ensures, ← list .list-for .ensures)
     (out .unlink .ensures)
 
 pub take-out-spec : {M : Type 1} → statement M
@@ -46,8 +43,7 @@ take-out-spec =
     same-length
     returns
     posted-key-at-requires
-    bucket-of-requires
+    list-for-requires
     unlink-requires
     same-length-2
-    same-length-3
     returns-2)

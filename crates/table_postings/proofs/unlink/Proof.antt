@@ -18,14 +18,11 @@ set-link-requires c κs = search needs
 same-length : tie.Need-same-length
 same-length c = search needs
 
-same-length-2 : tie.Need-same-length-2
-same-length-2 c = search needs
-
 returns : tie.Need-returns
 unfolding unlinked
 returns c =
-    let put = c .before .before .before .before in
-    let own = put .before .before .before in
+    let put = c .before .before in
+    let own = put .before .before in
     put .set-link .ensures ∙ rw (own .later-at .ensures, own .before .before .place-before .ensures)
 
 pub unlink-spec : {M : Type 1} → statement M
@@ -36,5 +33,4 @@ unlink-spec =
     later-at-requires
     set-link-requires
     same-length
-    same-length-2
     returns)

@@ -45,7 +45,7 @@ unfolding collectOf
 returns-2 c =
     let freed = c .before .before .before in
     let kept = freed .before .before .before .before in
-    let keyed = kept .before .before .before in
+    let keyed = kept .before .before in
     let holding = keyed .before .before in
     rw (
       ← holding .before .phase-rank .ensures,
