@@ -9,9 +9,9 @@
 #include <stddef.h>
 #include <stdint.h>
 
-#define TORUXENG_VERSION "0.5.0"
+#define TORUXENG_VERSION "0.6.0"
 #define TORUXENG_VERSION_MAJOR 0
-#define TORUXENG_VERSION_MINOR 5
+#define TORUXENG_VERSION_MINOR 6
 #define TORUXENG_VERSION_PATCH 0
 
 /* What a store can be opened with at most; room for more rows than it can have is room for all of them. */
@@ -26,9 +26,9 @@
 #define TORUXENG_MOST_PENDING_WRITES 16
 
 /* How many words of 8 bytes a store of so many rows, versions or buckets needs of each table, and any store of the lists. */
-#define TORUXENG_ROWS_WORDS(rows) (5 * (size_t)(rows))
+#define TORUXENG_ROWS_WORDS(rows) (6 * (size_t)(rows))
 #define TORUXENG_VERSIONS_WORDS(versions) (6 * ((size_t)(versions) + 1))
-#define TORUXENG_BUCKETS_WORDS(buckets) (3 * (size_t)(buckets))
+#define TORUXENG_BUCKETS_WORDS(buckets) (2 * (size_t)(buckets))
 #define TORUXENG_LISTS_WORDS \
     ((size_t)TORUXENG_MOST_LIVE \
      * (2 * TORUXENG_MOST_INDEX_READS + 4 * TORUXENG_MOST_PENDING_WRITES + 3 * TORUXENG_MOST_READ_RECORDS + TORUXENG_MOST_ROWS))
@@ -84,7 +84,7 @@ enum toruxeng_kind {
  *     a pointer not valid for its length    undefined          undefined: this cannot be tested
  *
  * The call keeps nothing, allocates nothing and never unwinds, so any number of threads may call at once, each with a
- * report of its own. It takes about 460,000 bytes of the calling thread's stack, whatever the log: 456 KiB is enough for
+ * report of its own. It takes about 435,000 bytes of the calling thread's stack, whatever the log: 432 KiB is enough for
  * the call itself, on x86-64 and on aarch64 (docs/HOSTS.md has the figures).
  */
 uint64_t toruxeng_replay(const uint8_t *log, size_t log_length, uint8_t *report, size_t report_length);

@@ -49,7 +49,7 @@ pub fn words(sizes: Sizes) -> Words {
     let [rows, versions, buckets] =
         [(sizes.rows, ROWS), (sizes.versions, VERSIONS), (sizes.buckets, BUCKETS)].map(|(size, most)| size.min(most) as usize);
     let lists_of_one = 2 * INDEX_READS + 4 * PENDING_WRITES + 3 * READ_RECORDS + ROWS as usize;
-    Words { rows: 5 * rows, versions: 6 * (versions + 1), buckets: 3 * buckets, lists: LIVE * lists_of_one }
+    Words { rows: 6 * rows, versions: 6 * (versions + 1), buckets: 2 * buckets, lists: LIVE * lists_of_one }
 }
 
 /// The four tables, lent to one replay. Any words may stand in them; what a replay leaves there means nothing to another.

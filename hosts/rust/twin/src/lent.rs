@@ -13,7 +13,7 @@ pub const AMPLE: Words = [usize::MAX; 4];
 /// What a store of these sizes needs.
 pub fn words_needed(rows: u32, versions: u32, buckets: u32) -> Words {
     let lists_of_one = 2 * INDEX_READS + 4 * PENDING_WRITES + 3 * READ_RECORDS + ROWS as usize;
-    [5 * rows as usize, 6 * (versions as usize + 1), 3 * buckets as usize, LIVE * lists_of_one]
+    [6 * rows as usize, 6 * (versions as usize + 1), 2 * buckets as usize, LIVE * lists_of_one]
 }
 
 /// What the store needs that a log opens, where it opens one.
