@@ -1,4 +1,6 @@
 // Small functions of numbers: the lesser of two, one more, and tests of limits that no sum wraps in.
+#![tactic(auto)]
+
 ghost use Rattle.std.specs.Prelude.{◌≡◌, ◌&&◌, ◌+◌, min, leb};
 ghost use Rattle.base_numbers.specs.Numbers.{one_more};
 

@@ -1,4 +1,6 @@
 // The lent tables: entries of a few words each, read and written by total functions.
+#![tactic(auto)]
+
 ghost use Rattle.std.specs.Prelude.{◌≡◌, ◌≤◌, get_or, set, take};
 ghost use Rattle.table.specs.Words.{field, set_field, set_fields, clear_field, clear_every};
 ghost use Rattle.table.specs.Fields.{xmin_of, set_xmin, xmax_of, set_xmax, next_of, set_next, keyed_of, set_keyed, key_of, set_key, payload_of, set_payload};

@@ -12,7 +12,7 @@ use Rattle.table.proofs.lists.entry_word.Tie as tie
 place-requires : tie.Need-place-requires
 place-requires c κs = search rules
 
-add-word : tie.Need-overflow-add-word
+add-word : tie.Need-overflow_add-place
 add-word c = let a = c.before.before.args in record { fits = omega (arith, place-low a.w a.i (omega arith)) }
 
 word-requires : tie.Need-word-requires
@@ -22,5 +22,5 @@ returns : tie.Need-returns
 returns c = let a = c.before.before.before.args in
     rw (c.word.ensures, c.before.place.ensures, words-at a.w (slot_words * a.slot + a.off + a.w * a.i) a.lists.now a.k (omega arith))
 
-pub entry-word-spec : {M : Type 1} → statement M
-entry-word-spec = tie.close (tie.spec place-requires add-word word-requires returns)
+pub entry_word_spec : {M : Type 1} → statement M
+entry_word_spec = tie.close (tie.spec place-requires add-word word-requires returns)

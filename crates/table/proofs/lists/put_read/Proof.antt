@@ -6,28 +6,28 @@ use Rattle.table.proofs.lists.put_read.Statement.{statement}
 use Rattle.table.proofs.lists.put_read.Tie as tie
 
 -- the way back from each store to the one before it, and from the first to where the entry stands
-abbrev start : tie.After-place → tie.Start
+abbrev start : tie.After-place-at → tie.Start
 start c = c.before.before
 
-abbrev placed : tie.After-set-word → tie.After-place
+abbrev placed : tie.After-set_word → tie.After-place-at
 placed c = c.before.before
 
-abbrev first : tie.After-set-word2 → tie.After-set-word
+abbrev first : tie.After-set_word-2 → tie.After-set_word
 first c = c.before.before.before.before
 
-place-requires : tie.Need-place-requires
+place-requires : tie.Need-place-at-requires
 place-requires c κs = search rules
 
-set-word-requires : tie.Need-set-word-requires
+set-word-requires : tie.Need-set_word-requires
 set-word-requires c κs = search rules
 
-add-set-word : tie.Need-overflow-add-set-word
+add-set-word : tie.Need-overflow_add-at
 add-set-word c = search rules
 
-set-word-requires-2 : tie.Need-set-word-requires-2
+set-word-requires-2 : tie.Need-set_word-requires-2
 set-word-requires-2 c κs = search rules
 
-same_length : tie.Need-same-length
+same_length : tie.Need-shape_of-lists
 same_length c = search rules
 
 returns : tie.Need-returns
@@ -35,16 +35,8 @@ returns c =
     let w2 = c.before.before in
     let w1 = first w2 in
     let a = (start (placed w1)).args in
-    two-stored a.lists.now _ (placed w1).place.result a.r.bucket a.r.stamp w1.set_word.last.0 w2.set-word2.new.0
-    (placed w1).place.ensures w1.set_word.ensures w2.set-word2.ensures
+    two-stored a.lists.now _ (placed w1).place-at.result a.r.bucket a.r.stamp w1.set_word.new.xs w2.set_word-2.new.xs
+    (placed w1).place-at.ensures w1.set_word.ensures w2.set_word-2.ensures
 
-pub put-read-spec : {M : Type 1} → statement M
-put-read-spec =
-    tie.close
-    (tie.spec
-    place-requires
-    set-word-requires
-    add-set-word
-    set-word-requires-2
-    same_length
-    returns)
+pub put_read_spec : {M : Type 1} → statement M
+put_read_spec = tie.close (tie.spec place-requires set-word-requires add-set-word set-word-requires-2 same_length returns)

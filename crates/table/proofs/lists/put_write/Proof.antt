@@ -6,46 +6,46 @@ use Rattle.table.proofs.lists.put_write.Statement.{statement}
 use Rattle.table.proofs.lists.put_write.Tie as tie
 
 -- the way back from each store to the one before it, and from the first to where the entry stands
-abbrev start : tie.After-place → tie.Start
+abbrev start : tie.After-place-at → tie.Start
 start c = c.before.before
 
-abbrev placed : tie.After-set-word → tie.After-place
+abbrev placed : tie.After-set_word → tie.After-place-at
 placed c = c.before.before
 
-abbrev first : tie.After-set-word2 → tie.After-set-word
+abbrev first : tie.After-set_word-2 → tie.After-set_word
 first c = c.before.before.before.before
 
-abbrev second : tie.After-set-word3 → tie.After-set-word2
+abbrev second : tie.After-set_word-3 → tie.After-set_word-2
 second c = c.before.before.before.before
 
-abbrev third : tie.After-set-word4 → tie.After-set-word3
+abbrev third : tie.After-set_word-4 → tie.After-set_word-3
 third c = c.before.before.before.before
 
-place-requires : tie.Need-place-requires
+place-requires : tie.Need-place-at-requires
 place-requires c κs = search rules
 
-set-word-requires : tie.Need-set-word-requires
+set-word-requires : tie.Need-set_word-requires
 set-word-requires c κs = search rules
 
-add-set-word : tie.Need-overflow-add-set-word
+add-set-word : tie.Need-overflow_add-at
 add-set-word c = search rules
 
-set-word-requires-2 : tie.Need-set-word-requires-2
+set-word-requires-2 : tie.Need-set_word-requires-2
 set-word-requires-2 c κs = search rules
 
-add-set-word-2 : tie.Need-overflow-add-set-word-2
+add-set-word-2 : tie.Need-overflow_add-at-2
 add-set-word-2 c = search rules
 
-set-word-requires-3 : tie.Need-set-word-requires-3
+set-word-requires-3 : tie.Need-set_word-requires-3
 set-word-requires-3 c κs = search rules
 
-add-set-word-3 : tie.Need-overflow-add-set-word-3
+add-set-word-3 : tie.Need-overflow_add-at-3
 add-set-word-3 c = search rules
 
-set-word-requires-4 : tie.Need-set-word-requires-4
+set-word-requires-4 : tie.Need-set_word-requires-4
 set-word-requires-4 c κs = search rules
 
-same_length : tie.Need-same-length
+same_length : tie.Need-shape_of-lists
 same_length c = search rules
 
 returns : tie.Need-returns
@@ -55,12 +55,12 @@ returns c =
     let w2 = second w3 in
     let w1 = first w2 in
     let a = (start (placed w1)).args in
-    four-stored a.lists.now _ (placed w1).place.result a.w.row a.w.keyed a.w.key a.w.payload
-    w1.set_word.last.0 w2.set-word2.last.0 w3.set-word3.last.0 w4.set-word4.new.0
-    (placed w1).place.ensures w1.set_word.ensures w2.set-word2.ensures w3.set-word3.ensures w4.set-word4.ensures
+    four-stored a.lists.now _ (placed w1).place-at.result a.w.row a.w.keyed a.w.key a.w.payload
+    w1.set_word.new.xs w2.set_word-2.new.xs w3.set_word-3.new.xs w4.set_word-4.new.xs
+    (placed w1).place-at.ensures w1.set_word.ensures w2.set_word-2.ensures w3.set_word-3.ensures w4.set_word-4.ensures
 
-pub put-write-spec : {M : Type 1} → statement M
-put-write-spec =
+pub put_write_spec : {M : Type 1} → statement M
+put_write_spec =
     tie.close
     (tie.spec
     place-requires
