@@ -1,4 +1,6 @@
 // Scans of a snapshot's active numbers and of a transaction's lists.
+#![tactic(auto)]
+
 ghost use Rattle.std.specs.Prelude.{◌≡◌, cond, min, ltb, take};
 ghost use Rattle.base_lists.specs.Lists.{least};
 ghost use Rattle.table_scans.specs.Scans.{is_active, latest_pending, record_place, already_recorded, read_prefix};

@@ -14,56 +14,56 @@ use Rattle.table_scans.proofs.Laws.{active-next, active-end}
 use Rattle.table_scans.proofs.active_contains.Statement.{statement}
 use Rattle.table_scans.proofs.active_contains.Tie as tie
 
-abbrev invariant-loop : tie.invariant-loop
+abbrev invariant-loop : tie.invariant-loop-i
 invariant-loop active count id i₀ i = (i ≤ length active) × (is_active active count id ≡ member id (drop i (take count active)))
 
-abbrev decreases-loop : tie.decreases-loop
+abbrev decreases-loop : tie.decreases-loop-i
 decreases-loop active count id i₀ i = length active - i
 
 -- a number of the first `count` is looked at: it, or those that are left tell
-turned : (c : tie.Else1 invariant-loop decreases-loop) → let at = c.before.before in let a = at.before.args in let i = at.loop.i in
+turned : (c : tie.Else-count-i invariant-loop decreases-loop) → let at = c.before.before in let a = at.args in let i = at.loop-i.i in
     is_active a.active.now a.count a.id ≡ (eqb (get_or a.active.now i 0) a.id || member a.id (drop (i + 1) (take a.count a.active.now)))
 turned c =
     let at = c.before.before in
-    let a = at.before.args in
-    at.loop.invariant.1 ∙ active-next a.active.now a.count at.loop.i a.id (omega arith) (omega arith)
+    let a = at.args in
+    at.loop-i.invariant.1 ∙ active-next a.active.now a.count at.loop-i.i a.id (omega arith) (omega arith)
 
 -- none is left
-passed : (c : tie.At-loop invariant-loop decreases-loop) → let a = c.before.args in min a.count (length a.active.now) ≤ c.loop.i
+passed : (c : tie.At-loop-i invariant-loop decreases-loop) → let a = c.args in min a.count (length a.active.now) ≤ c.loop-i.i
     → is_active a.active.now a.count a.id ≡ false
-passed c h = let a = c.before.args in c.loop.invariant.1 ∙ active-end a.active.now a.count c.loop.i a.id h
+passed c h = let a = c.args in c.loop-i.invariant.1 ∙ active-end a.active.now a.count c.loop-i.i a.id h
 
 -- WHAT IS ASKED
 
-loop-holds : tie.Need-loop-init invariant-loop decreases-loop
+loop-holds : tie.Need-loop-i-init invariant-loop decreases-loop
 loop-holds c = (search rules, refl)
 
-returns : tie.Need-returns invariant-loop decreases-loop
+returns : tie.Need-returns-then-count-i invariant-loop decreases-loop
 returns c = sym (passed c.before.before (omega arith))
 
-mul-if2 : tie.Need-overflow-mul-if2 invariant-loop decreases-loop
+mul-if2 : tie.Need-offset_bounds-active-i invariant-loop decreases-loop
 mul-if2 c = search rules
 
-shared-slice-read-if2 : tie.Need-shared-slice-read-if2 invariant-loop decreases-loop
+shared-slice-read-if2 : tie.Need-bounds-active-i invariant-loop decreases-loop
 shared-slice-read-if2 c = search rules
 
-returns-2 : tie.Need-returns-2 invariant-loop decreases-loop
-returns-2 c = sym (turned c.before.before ∙ rw (eq-eqb _ _ c.if2.true))
+returns-2 : tie.Need-returns-then-active-i invariant-loop decreases-loop
+returns-2 c = sym (turned c.before.before ∙ rw (eq-eqb _ _ c.if-active-i.true))
 
-add-i : tie.Need-overflow-add-i invariant-loop decreases-loop
+add-i : tie.Need-overflow_add-i invariant-loop decreases-loop
 add-i c = search rules
 
-loop-less : tie.Need-loop-smaller invariant-loop decreases-loop
+loop-less : tie.Need-loop-i-smaller invariant-loop decreases-loop
 loop-less c = search rules
 
-loop-again : tie.Need-loop-preserved invariant-loop decreases-loop
-loop-again c = (omega arith, turned c.before.before ∙ rw (ne_eqb _ _ c.if2.false))
+loop-again : tie.Need-loop-i-preserved invariant-loop decreases-loop
+loop-again c = (omega arith, turned c.before.before ∙ rw (ne_eqb _ _ c.if-active-i.false))
 
-returns-3 : tie.Need-returns-3 invariant-loop decreases-loop
+returns-3 : tie.Need-returns invariant-loop decreases-loop
 returns-3 c = sym (passed c.before (omega arith))
 
-pub active-contains-spec : {M : Type 1} → statement M
-active-contains-spec =
+pub active_contains_spec : {M : Type 1} → statement M
+active_contains_spec =
     tie.close
     (tie.spec
     invariant-loop

@@ -11,47 +11,47 @@ use Rattle.table_scans.proofs.Laws.{least-next, least-end}
 use Rattle.table_scans.proofs.least_of.Statement.{statement}
 use Rattle.table_scans.proofs.least_of.Tie as tie
 
-abbrev invariant-loop : tie.invariant-loop
+abbrev invariant-loop : tie.invariant-loop-i
 invariant-loop number count active lowest₀ i₀ lowest i =
     (i ≤ most_active) × (least number (take count active) ≡ least lowest (drop i (take count active)))
 
-abbrev decreases-loop : tie.decreases-loop
+abbrev decreases-loop : tie.decreases-loop-i
 decreases-loop number count active lowest₀ i₀ lowest i = most_active - i
 
-loop-holds : tie.Need-loop-init invariant-loop decreases-loop
+loop-holds : tie.Need-loop-i-init invariant-loop decreases-loop
 loop-holds c = (search rules, refl)
 
-mul-lower : tie.Need-overflow-mul-lower invariant-loop decreases-loop
+mul-lower : tie.Need-offset_bounds-active-i invariant-loop decreases-loop
 mul-lower c = search rules
 
-array-read-lower : tie.Need-array-read-lower invariant-loop decreases-loop
+array-read-lower : tie.Need-bounds-active-i invariant-loop decreases-loop
 array-read-lower c = search rules
 
-lower-requires : tie.Need-lower-requires invariant-loop decreases-loop
+lower-requires : tie.Need-lower-lowest-requires invariant-loop decreases-loop
 lower-requires c κs = search rules
 
-add-i : tie.Need-overflow-add-i invariant-loop decreases-loop
+add-i : tie.Need-overflow_add-i invariant-loop decreases-loop
 add-i c = search rules
 
-loop-less : tie.Need-loop-smaller invariant-loop decreases-loop
+loop-less : tie.Need-loop-i-smaller invariant-loop decreases-loop
 loop-less c = search rules
 
-loop-again : tie.Need-loop-preserved invariant-loop decreases-loop
+loop-again : tie.Need-loop-i-preserved invariant-loop decreases-loop
 loop-again c =
-    let a = c.before.before.before.args in
-    let l = c.before.before.loop in
-    let n : length a.t2 ≡ most_active = search rules in
-    (omega arith, l.invariant.1 ∙ (least-next a.t2 a.count l.i l.lowest (omega arith) ∙ rw (← c.lower.ensures)))
+    let a = c.args in
+    let l = c.loop-i in
+    let n : length a.active ≡ most_active = search rules in
+    (omega arith, l.invariant.1 ∙ (least-next a.active a.count l.i l.lowest (omega arith) ∙ rw (← c.lower-lowest.ensures)))
 
 returns : tie.Need-returns invariant-loop decreases-loop
 returns c =
-    let a = c.before.before.args in
-    let l = c.before.loop in
-    let n : length a.t2 ≡ most_active = search rules in
-    sym (l.invariant.1 ∙ least-end a.t2 a.count l.i l.lowest (omega arith))
+    let a = c.args in
+    let l = c.loop-i in
+    let n : length a.active ≡ most_active = search rules in
+    sym (l.invariant.1 ∙ least-end a.active a.count l.i l.lowest (omega arith))
 
-pub least-of-spec : {M : Type 1} → statement M
-least-of-spec =
+pub least_of_spec : {M : Type 1} → statement M
+least_of_spec =
     tie.close
     (tie.spec
     invariant-loop
