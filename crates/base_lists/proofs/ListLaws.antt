@@ -60,6 +60,7 @@ module _ {A : Type 0} where
   pub among-left : (x : A) (ys zs : List A) → Among x ys → Among x (ys ++ zs)
   among-left x (y ∷ ys) zs (inl e) = inl e
   among-left x (y ∷ ys) zs (inr m) = inr (among-left x ys zs m)
+  among-left x [] zs x'' = elim x'' [ ]
 
   pub among-right : (x : A) (ys zs : List A) → Among x zs → Among x (ys ++ zs)
   among-right x [] zs m = m
@@ -83,6 +84,7 @@ module _ {A : Type 0} where
   unfolding some_of
   none_each test (y ∷ xs) e x (inl f) = rw f (or_l (test y) (some_of test xs) e)
   none_each test (y ∷ xs) e x (inr m) = none_each test xs (or_r (test y) (some_of test xs) e) x m
+  none_each test [] e x x4 = elim x4 [ ]
 
   pub some-which : (test : A → Bool) (xs : List A) → some_of test xs ≡ true → (x : A) × Among x xs × (test x ≡ true)
   unfolding some_of
@@ -93,16 +95,19 @@ module _ {A : Type 0} where
   unfolding some_of
   which-some test (y ∷ xs) x (inl f) t = or_left _ _ (rw f at t)
   which-some test (y ∷ xs) x (inr m) t = or_right (test y) _ (which-some test xs x m t)
+  which-some test [] x x4 t = elim x4 [ ]
 
 module _ {A : Type 0} where
   pub join-which : (f : A → List ℕ) (xs : List A) (b : ℕ) → Among b (join f xs) → (x : A) × Among x xs × Among b (f x)
   unfolding join
   join-which f (y ∷ xs) b m = ⊎_elim (λ l. (y, inl refl, l)) (λ r. let w = join-which f xs b r in (w.0, inr w.1, w.2)) (among_cases b (f y) (join f xs) m)
+  join-which f [] b m = elim m [ ]
 
   pub which-join : (f : A → List ℕ) (xs : List A) (b : ℕ) (x : A) → Among x xs → Among b (f x) → Among b (join f xs)
   unfolding join
   which-join f (y ∷ xs) b x (inl e) m = among-left b (f y) (join f xs) (rw e at m)
   which-join f (y ∷ xs) b x (inr n) m = among-right b (f y) (join f xs) (which-join f xs b x n m)
+  which-join f [] b x x4 m = elim x4 [ ]
 
   pub join-same : (f g : A → List ℕ) (xs : List A) → ((x : A) → Among x xs → f x ≡ g x) → join f xs ≡ join g xs
   unfolding join
@@ -113,6 +118,7 @@ module _ {A B : Type 0} where
   pub among-map : (f : A → B) (xs : List A) (x : A) → Among x xs → Among (f x) (map f xs)
   among-map f (y ∷ xs) x (inl e) = inl (ap f e)
   among-map f (y ∷ xs) x (inr m) = inr (among-map f xs x m)
+  among-map f [] x x3 = elim x3 [ ]
 
   pub map_same : (f g : A → B) → ((x : A) → f x ≡ g x) → (xs : List A) → map f xs ≡ map g xs
   map_same f g e [] = refl
@@ -121,6 +127,7 @@ module _ {A B : Type 0} where
   pub map-among : (f : A → B) (xs : List A) (y : B) → Among y (map f xs) → (x : A) × Among x xs × (y ≡ f x)
   map-among f (x ∷ xs) y (inl e) = (x, inl refl, e)
   map-among f (x ∷ xs) y (inr m) = let w = map-among f xs y m in (w.0, inr w.1, w.2)
+  map-among f [] y x' = elim x' [ ]
 
 -- the test of membership, and its fact
 pub member-among : (x : ℕ) (ys : List ℕ) → member x ys ≡ true → Among x ys
@@ -132,6 +139,7 @@ pub among-member : (x : ℕ) (ys : List ℕ) → Among x ys → member x ys ≡ 
 unfolding member
 among-member x (y ∷ ys) (inl e) = or_left _ _ (eq-eqb x y e)
 among-member x (y ∷ ys) (inr m) = or_right (eqb x y) _ (among-member x ys m)
+among-member x [] x'' = elim x'' [ ]
 
 pub not-member : (x : ℕ) (ys : List ℕ) → (Among x ys → ⊥) → member x ys ≡ false
 not-member x ys h = is_false _ (λ e. h (member-among x ys e))
@@ -147,6 +155,7 @@ unfolding least
 least-each n (x ∷ xs) m (inl d) =
     cond-elim (λ k. least k xs ≤ m) (ltb x n) x n (λ e. omega (arith, least-own x xs)) (λ e. omega (arith, least-own n xs, ltb-false x n e))
 least-each n (x ∷ xs) m (inr w) = least-each (cond (ltb x n) x n) xs m w
+least-each n [] m x' = elim x' [ ]
 
 -- so a number below the least is none of the list's
 pub below-least : (n : ℕ) (xs : List ℕ) (m : ℕ) → m < least n xs → member m xs ≡ false
@@ -159,6 +168,7 @@ rising-from j k (r ∷ rs) h g = (omega (arith, g.0), g.1)
 pub rising-above : (k : ℕ) (rs : List ℕ) → Rising k rs → (r : ℕ) → Among r rs → k ≤ r
 rising-above k (q ∷ rs) g r (inl e) = omega (arith, g.0)
 rising-above k (q ∷ rs) g r (inr m) = omega (arith, g.0, rising-above (suc q) rs g.1 r m)
+rising-above k [] g r x'' = elim x'' [ ]
 
 pub pick-rising : (test : ℕ → Bool) (k n : ℕ) → Rising k (pick test k n)
 unfolding pick
@@ -175,6 +185,7 @@ pick-which test k (suc n) r m = cond-elim (λ l. Among r l → (k ≤ r) × (r <
   where
     on : (suc k ≤ r) × (r < suc k + n) × (test r ≡ true) → (k ≤ r) × (r < k + suc n) × (test r ≡ true)
     on w = (omega arith, omega arith, w.2)
+pick-which test k zero r m = elim m [ ]
 
 pub which-pick : (test : ℕ → Bool) (k n r : ℕ) → k ≤ r → r < k + n → test r ≡ true → Among r (pick test k n)
 unfolding pick
