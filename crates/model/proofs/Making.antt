@@ -26,6 +26,7 @@ none-pending : (ws : List Write) (r : ℕ) → pending ws r ≡ false → (v : W
 unfolding pending
 none-pending (w ∷ ws) r e v (inl f) = rw f (eqb-false _ _ (or_l (eqb w.row r) (pending ws r) e))
 none-pending (w ∷ ws) r e v (inr m) = none-pending ws r (or_r (eqb w.row r) (pending ws r) e) v m
+none-pending [] r e v x'' = elim x'' [ ]
 
 kept-last : (so : Option Write) (ws : List Write) (r : ℕ) → pending ws r ≡ false → last_write_from so ws r ≡ so
 unfolding pending last_write_from
@@ -66,6 +67,7 @@ written-pending : (ws : List Write) (r : ℕ) (w : Write) → Among w ws → w.r
 unfolding pending
 written-pending (v ∷ ws) r w (inl f) e = or_left (eqb v.row r) (pending ws r) (eq-eqb _ _ (ap (λ u. u.row) (sym f) ∙ e))
 written-pending (v ∷ ws) r w (inr m) e = or_right (eqb v.row r) (pending ws r) (written-pending ws r w m e)
+written-pending [] r w x'' e = elim x'' [ ]
 
 found_after : (so : Option Write) (earlier later : List Write) (r : ℕ) (w : Write) → w.row ≡ r → pending later r ≡ false
     → last_write_from so (earlier ++ (w ∷ later)) r ≡ some w

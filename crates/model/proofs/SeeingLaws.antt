@@ -181,6 +181,7 @@ module _ (c : Chains) (x : Txn) where
       let w = recording-has rs (record_of c x.snapshot r) in
       (w.0, record_all-keeps (record_row rs f) found w.0 (rw (← e, p) w.1), w.2)
   record_all-has rs (f ∷ found) r (inr m) p = record_all-has (record_row rs f) found r m p
+  record_all-has rs [] r x3 p = elim x3 [ ]
 
 -- a found row matches
 pub found-which : (s : Store) (x : Txn) (r : ℕ) → Among r (found_rows s x) → (r < s.sizes.rows) × (matches s.chains x (key_in x.phase) r ≡ true)

@@ -54,6 +54,7 @@ added-own s x k (q ∷ rs) older r o (inl e) ch m d =
     ∙ (m.key-is ∙ ap (new_key x) e)) d)
 added-own s x k (q ∷ rs) older r o (inr n) ch m d =
     added-own s x (suc q) rs (event_of s x q ∷ older) r o.1 n ch m (other (λ e. omega (arith, rising-above (suc q) rs o.1 r n)) d)
+added-own s x k [] older r o x6 ch m d = elim x6 [ ]
 
 -- an install keeps the versions that were there
 traced-grown : (x : Txn) (rs : List ℕ) (c c' : Chains) → Grown x rs c c' → Chained c → (r : ℕ) (es : List Event) (p : ℕ) → Traced c r es p → p ≤ c.used
