@@ -64,6 +64,7 @@ module _ (z : Sizes) where
       let ih = highest older g.1 f n b m in
       cond-elim (λ v. f.stamp ≤ v) (member b (event_buckets z e)) e.stamp (stamp_of older b)
       (λ t. omega (arith, g.0 b (member-among b (event_buckets z e) t))) (λ t. ih)
+  highest [] g f m b o = elim m [ ]
 
   -- events whose key changes give a bucket no higher stamp than all events, and are guarded too
   lower : (es : List Event) → Guarded es → (b : ℕ) → stamp_of (changing es) b ≤ stamp_of es b
