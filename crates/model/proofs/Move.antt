@@ -20,7 +20,7 @@ use Rattle.model.specs.Verdict.{verdict_number, verdict}
 use Rattle.model.specs.Steps.{becomes, begun, stale, has_read, captured, collected, records_after, read_done, written, pending_rows, needed_buckets, prepared}
 use Rattle.model.specs.Steps.{installed, ended, published}
 use Rattle.model.specs.Refusals.{Refusal, place_of, txn_of, live_count, by_another, versions_after, found, refusal}
-use Rattle.model.specs.Machine.{at, is_stale}
+use Rattle.model.specs.Machine.{is_stale}
 use Rattle.model.proofs.Tests.{place-number}
 
 -- the test of a live transaction, and its fact

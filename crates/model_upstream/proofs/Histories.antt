@@ -18,7 +18,7 @@ use Rattle.model.specs.Seeing.{version_of, key_at, Live}
 use Rattle.model.specs.Steps.{made_rows, new_key, key_buckets}
 use Rattle.model.specs.Upstream.{Event, event_buckets, stamp_at, pointer}
 use Rattle.model.specs.History.{event_of, add_events, step_events, history_over, history, changing}
-use Rattle.model.specs.Refusals.{Step, rows, publish, txn_of}
+use Rattle.model.specs.Refusals.{Step, publish, txn_of}
 use Rattle.model.specs.Machine.{step, run, can_open}
 use Rattle.model.specs.Given.{number}
 use Rattle.model.specs.Holding.{Unpublished}
