@@ -100,20 +100,23 @@ push_all-all P x h [] c p = p
 push_all-all P x h (r ∷ rs) c p = push_all-all P x h rs (push x.number r (new_key x r) (written_payload (last_write x.writes r)) c) (h r _ _ c p)
 
 pub chained-move : (s s' : Store) {a : ℕ} → Chained s.chains → Move s a s' → Chained s'.chains
-chained-move s s' g (stay i) = g
-chained-move s s' g (did-begin i a b c d) = g
-chained-move s s' g (did-mark i a b) = g
-chained-move s s' g (did-capture i k a b c) = g
-chained-move s s' g (did-collect i a b) = g
-chained-move s s' g (did-rows i a b c) = g
-chained-move s s' g (did_write i w a b c d) = g
-chained-move s s' g (did-prepare i a b c) = g
-chained-move s s' g (did-install i a b) =
-    push_all-all Chained (s.txns i) (λ r k payload c h. chained-push (s.txns i).number r k payload c h a)
-    (version_rows s.sizes s.chains (s.txns i).writes) s.chains g
-chained-move s s' g (did-end i a b) = g
-chained-move s s' g (did-publish i a b) = g
-chained-move s s' g (did-abort i a b) = g
+chained-move s s' = go s'
+  where
+    go : {a : ℕ} (s' : Store) → Chained s.chains → Move s a s' → Chained s'.chains
+    go s' g (stay i) = g
+    go s' g (did-begin i a b c d) = g
+    go s' g (did-mark i a b) = g
+    go s' g (did-capture i k a b c) = g
+    go s' g (did-collect i a b) = g
+    go s' g (did-rows i a b c) = g
+    go s' g (did_write i w a b c d) = g
+    go s' g (did-prepare i a b c) = g
+    go s' g (did-install i a b) =
+        push_all-all Chained (s.txns i) (λ r k payload c h. chained-push (s.txns i).number r k payload c h a)
+        (version_rows s.sizes s.chains (s.txns i).writes) s.chains g
+    go s' g (did-end i a b) = g
+    go s' g (did-publish i a b) = g
+    go s' g (did-abort i a b) = g
 
 pub chained-fresh : (z : Sizes) (clock : ℕ) → Chained (fresh z clock).chains
 chained-fresh z clock = record {

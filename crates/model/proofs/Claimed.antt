@@ -172,18 +172,22 @@ module _ (c₁ : Chains) (x₁ : Txn) where
 
   here-move : (s s' : Store) {a : ℕ} → Good s → KeepsAt c₁ x₁ s → Move s a s' → (j : ℕ) → (s'.txns j).number ≡ x₁.number
       → Keeps c₁ x₁ s'.sizes s'.chains (s'.txns j)
-  here-move s s' g w (stay i) = w.here
-  here-move s s' g w (did-begin i a b c d) = keeps-other s i (new_txn s) w (λ e. omega (arith, w.number-old))
-  here-move s s' g w (did-mark i a b) = keeps-early s i _ w refl (omega arith)
-  here-move s s' g w (did-capture i k a b c) = keeps-early s i _ w refl (omega arith)
-  here-move s s' g w (did-collect i a b) = keeps-early s i _ w refl (omega arith)
-  here-move s s' g w (did-rows i a b c) = keeps-early s i _ w refl (omega arith)
-  here-move s s' g w (did_write i v a b c d) = keeps-early s i _ w refl (omega arith)
-  here-move s s' g w (did-prepare i a b c) = keeps-early s i _ w refl (omega arith)
-  here-move s s' g w (did-install i a b) = keeps-install s i g b w
-  here-move s s' g w (did-end i a b) = keeps-end s i w b
-  here-move s s' g w (did-publish i a b) = keeps-other s i no_txn w (λ e. omega (arith, w.number-pos))
-  here-move s s' g w (did-abort i a b) = keeps-other s i no_txn w (λ e. omega (arith, w.number-pos))
+  here-move s s' = go s'
+    where
+      go : {a : ℕ} (s' : Store) → Good s → KeepsAt c₁ x₁ s → Move s a s' → (j : ℕ) → (s'.txns j).number ≡ x₁.number
+          → Keeps c₁ x₁ s'.sizes s'.chains (s'.txns j)
+      go s' g w (stay i) = w.here
+      go s' g w (did-begin i a b c d) = keeps-other s i (new_txn s) w (λ e. omega (arith, w.number-old))
+      go s' g w (did-mark i a b) = keeps-early s i _ w refl (omega arith)
+      go s' g w (did-capture i k a b c) = keeps-early s i _ w refl (omega arith)
+      go s' g w (did-collect i a b) = keeps-early s i _ w refl (omega arith)
+      go s' g w (did-rows i a b c) = keeps-early s i _ w refl (omega arith)
+      go s' g w (did_write i v a b c d) = keeps-early s i _ w refl (omega arith)
+      go s' g w (did-prepare i a b c) = keeps-early s i _ w refl (omega arith)
+      go s' g w (did-install i a b) = keeps-install s i g b w
+      go s' g w (did-end i a b) = keeps-end s i w b
+      go s' g w (did-publish i a b) = keeps-other s i no_txn w (λ e. omega (arith, w.number-pos))
+      go s' g w (did-abort i a b) = keeps-other s i no_txn w (λ e. omega (arith, w.number-pos))
 
   keeps-move : (s s' : Store) {a : ℕ} → Good s → KeepsAt c₁ x₁ s → Move s a s' → KeepsAt c₁ x₁ s'
   keeps-move s s' g w m = record { number-pos = w.number-pos; number-old = omega (arith, w.number-old, clock-move s s' m); here = here-move s s' g w m }

@@ -18,7 +18,7 @@ use Rattle.model.specs.Refusals.{ManyWrites, NoVersions, Conflict, Malformed, Wr
 use Rattle.model.specs.Shape.{within, good_sizes, distinct_numbers, right_shape}
 use Rattle.model.specs.Machine.{Answer, Done, Number, Stamp, Count, Rows, Judged, Refused, answer_number, actor, gives, checks, accepted, carried, step}
 use Rattle.model.specs.Machine.{step_in, can_open, rule}
-use Rattle.model.specs.Given.{◌and◌, number, Outside, Shaped, Lives, Ready, Names, GivenNamed}
+use Rattle.model.specs.Given.{◌and◌, number, Outside, Shaped, Lives, Ready, Names}
 use Rattle.model.proofs.FirstTest.{Test, opposite, both, at_most, code, skip}
 use Rattle.model.proofs.Tests.{lives-test, lives-number, shape-test}
 use Rattle.model.proofs.Move.{live_test}

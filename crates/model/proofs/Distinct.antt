@@ -43,18 +43,21 @@ distinct-set s g i x h j = update-elim (λ y. Distinct y.reads) s.txns i x j (λ
 
 pub distinct-move : (s s' : Store) {a : ℕ} → DistinctAt s → Move s a s' → DistinctAt s'
 unfolding Distinct
-distinct-move s s' g (stay i) = g
-distinct-move s s' g (did-begin i a b c d) = distinct-set s g i _ tt
-distinct-move s s' g (did-mark i a b) = distinct-set s g i _ (g i)
-distinct-move s s' g (did-capture i k a b c) = distinct-set s g i _ (distinct-kept (s.txns i).reads _ _ (g i))
-distinct-move s s' g (did-collect i a b) = distinct-set s g i _ (g i)
-distinct-move s s' g (did-rows i a b c) = distinct-set s g i _ (g i)
-distinct-move s s' g (did_write i w a b c d) = distinct-set s g i _ (g i)
-distinct-move s s' g (did-prepare i a b c) = distinct-set s g i _ (g i)
-distinct-move s s' g (did-install i a b) = distinct-set s g i _ (g i)
-distinct-move s s' g (did-end i a b) = distinct-set s g i _ (g i)
-distinct-move s s' g (did-publish i a b) = distinct-set s g i _ tt
-distinct-move s s' g (did-abort i a b) = distinct-set s g i _ tt
+distinct-move s s' = go s'
+  where
+    go : {a : ℕ} (s' : Store) → DistinctAt s → Move s a s' → DistinctAt s'
+    go s' g (stay i) = g
+    go s' g (did-begin i a b c d) = distinct-set s g i _ tt
+    go s' g (did-mark i a b) = distinct-set s g i _ (g i)
+    go s' g (did-capture i k a b c) = distinct-set s g i _ (distinct-kept (s.txns i).reads _ _ (g i))
+    go s' g (did-collect i a b) = distinct-set s g i _ (g i)
+    go s' g (did-rows i a b c) = distinct-set s g i _ (g i)
+    go s' g (did_write i w a b c d) = distinct-set s g i _ (g i)
+    go s' g (did-prepare i a b c) = distinct-set s g i _ (g i)
+    go s' g (did-install i a b) = distinct-set s g i _ (g i)
+    go s' g (did-end i a b) = distinct-set s g i _ (g i)
+    go s' g (did-publish i a b) = distinct-set s g i _ tt
+    go s' g (did-abort i a b) = distinct-set s g i _ tt
 
 pub distinct-fresh : (z : Sizes) (clock : ℕ) → DistinctAt (fresh z clock)
 unfolding Distinct

@@ -44,18 +44,21 @@ pub record Good (s : Store) : Type 0 where
   pub reading : ReadingAt s
 
 pub sizes-move : (s s' : Store) {a : ℕ} → Move s a s' → s'.sizes ≡ s.sizes
-sizes-move s s' (stay i) = refl
-sizes-move s s' (did-begin i a b c d) = refl
-sizes-move s s' (did-mark i a b) = refl
-sizes-move s s' (did-capture i k a b c) = refl
-sizes-move s s' (did-collect i a b) = refl
-sizes-move s s' (did-rows i a b c) = refl
-sizes-move s s' (did_write i w a b c d) = refl
-sizes-move s s' (did-prepare i a b c) = refl
-sizes-move s s' (did-install i a b) = refl
-sizes-move s s' (did-end i a b) = refl
-sizes-move s s' (did-publish i a b) = refl
-sizes-move s s' (did-abort i a b) = refl
+sizes-move s s' = go s'
+  where
+    go : {a : ℕ} (s' : Store) → Move s a s' → s'.sizes ≡ s.sizes
+    go s' (stay i) = refl
+    go s' (did-begin i a b c d) = refl
+    go s' (did-mark i a b) = refl
+    go s' (did-capture i k a b c) = refl
+    go s' (did-collect i a b) = refl
+    go s' (did-rows i a b c) = refl
+    go s' (did_write i w a b c d) = refl
+    go s' (did-prepare i a b c) = refl
+    go s' (did-install i a b) = refl
+    go s' (did-end i a b) = refl
+    go s' (did-publish i a b) = refl
+    go s' (did-abort i a b) = refl
 
 -- at an accepted prepare the pending rows are claimed by nobody, so they are posted with their old keys
 unclaimed : (s : Store) → Good s → (i r : ℕ) → Live (s.txns i) → rank (s.txns i).phase ≡ phase_open → CanPrepare s i → Writes s.sizes (s.txns i) r

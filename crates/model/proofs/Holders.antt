@@ -194,19 +194,25 @@ pub holders-move : (s s' : Store) {a : ℕ} → Numbers s.clock s.txns → Holde
     → ((i r : ℕ) → Live (s.txns i) → rank (s.txns i).phase ≡ phase_open → CanPrepare s i → Writes s.sizes (s.txns i) r
     → s.index.posted r ≡ old_key s.chains r)
     → Move s a s' → HoldersAt s'
-holders-move s s' n g h (stay i) = g
-holders-move s s' n g h (did-begin i a b c d) =
-    holders-quiet s i n g _ (λ e. omega (arith, n.idle i b)) (omega (arith, n.idle i b)) (λ e. omega arith) (omega arith)
-holders-move s s' n g h (did-mark i a b) = holders-quiet s i n g _ (λ e. omega arith) (omega arith) (λ e. omega arith) (omega arith)
-holders-move s s' n g h (did-capture i k a b c) = holders-capture s i n g k a b c
-holders-move s s' n g h (did-collect i a b) = holders-collect s i n g b
-holders-move s s' n g h (did-rows i a b c) = holders-quiet s i n g _ (λ e. omega arith) (omega arith) (λ e. omega arith) (omega arith)
-holders-move s s' n g h (did_write i w a b c d) = holders-quiet s i n g _ (λ e. omega arith) (omega arith) (λ e. omega arith) (omega arith)
-holders-move s s' n g h (did-prepare i a b c) = holders-prepare s i n g a b c (λ r w. h i r a b c w)
-holders-move s s' n g h (did-install i a b) = holders-late s i n g Installed (omega arith) (omega arith)
-holders-move s s' n g h (did-end i a b) = holders-late s i n g Ended (omega arith) (omega arith)
-holders-move s s' n g h (did-publish i a b) = holders-publish s i n g a b
-holders-move s s' n g h (did-abort i a b) = holders-free s i n g a
+holders-move s s' = go s'
+  where
+    go : {a : ℕ} (s' : Store) → Numbers s.clock s.txns → HoldersAt s
+        → ((i r : ℕ) → Live (s.txns i) → rank (s.txns i).phase ≡ phase_open → CanPrepare s i → Writes s.sizes (s.txns i) r
+        → s.index.posted r ≡ old_key s.chains r)
+        → Move s a s' → HoldersAt s'
+    go s' n g h (stay i) = g
+    go s' n g h (did-begin i a b c d) =
+        holders-quiet s i n g _ (λ e. omega (arith, n.idle i b)) (omega (arith, n.idle i b)) (λ e. omega arith) (omega arith)
+    go s' n g h (did-mark i a b) = holders-quiet s i n g _ (λ e. omega arith) (omega arith) (λ e. omega arith) (omega arith)
+    go s' n g h (did-capture i k a b c) = holders-capture s i n g k a b c
+    go s' n g h (did-collect i a b) = holders-collect s i n g b
+    go s' n g h (did-rows i a b c) = holders-quiet s i n g _ (λ e. omega arith) (omega arith) (λ e. omega arith) (omega arith)
+    go s' n g h (did_write i w a b c d) = holders-quiet s i n g _ (λ e. omega arith) (omega arith) (λ e. omega arith) (omega arith)
+    go s' n g h (did-prepare i a b c) = holders-prepare s i n g a b c (λ r w. h i r a b c w)
+    go s' n g h (did-install i a b) = holders-late s i n g Installed (omega arith) (omega arith)
+    go s' n g h (did-end i a b) = holders-late s i n g Ended (omega arith) (omega arith)
+    go s' n g h (did-publish i a b) = holders-publish s i n g a b
+    go s' n g h (did-abort i a b) = holders-free s i n g a
 
 pub holders-fresh : (z : Sizes) (clock : ℕ) → HoldersAt (fresh z clock)
 holders-fresh z clock = record {

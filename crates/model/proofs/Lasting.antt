@@ -53,18 +53,21 @@ module _ (c₀ : Chains) where
       was-open (inr e) z = e
 
   lasts-move : (s s' : Store) {a : ℕ} → Good s → Lasts c₀ s.chains → Move s a s' → Lasts c₀ s'.chains
-  lasts-move s s' g h (stay i) = h
-  lasts-move s s' g h (did-begin i a b c d) = h
-  lasts-move s s' g h (did-mark i a b) = h
-  lasts-move s s' g h (did-capture i k a b c) = h
-  lasts-move s s' g h (did-collect i a b) = h
-  lasts-move s s' g h (did-rows i a b c) = h
-  lasts-move s s' g h (did_write i w a b c d) = h
-  lasts-move s s' g h (did-prepare i a b c) = h
-  lasts-move s s' g h (did-install i a b) = lasts-install s i g.chained h
-  lasts-move s s' g h (did-end i a b) = h
-  lasts-move s s' g h (did-publish i a b) = h
-  lasts-move s s' g h (did-abort i a b) = h
+  lasts-move s s' = go s'
+    where
+      go : {a : ℕ} (s' : Store) → Good s → Lasts c₀ s.chains → Move s a s' → Lasts c₀ s'.chains
+      go s' g h (stay i) = h
+      go s' g h (did-begin i a b c d) = h
+      go s' g h (did-mark i a b) = h
+      go s' g h (did-capture i k a b c) = h
+      go s' g h (did-collect i a b) = h
+      go s' g h (did-rows i a b c) = h
+      go s' g h (did_write i w a b c d) = h
+      go s' g h (did-prepare i a b c) = h
+      go s' g h (did-install i a b) = lasts-install s i g.chained h
+      go s' g h (did-end i a b) = h
+      go s' g h (did-publish i a b) = h
+      go s' g h (did-abort i a b) = h
 
   -- over any steps, and over one
   pub lasts_on : (s : Store) → Good s × Lasts c₀ s.chains → (more : List Step) → Good (run s more) × Lasts c₀ (run s more).chains

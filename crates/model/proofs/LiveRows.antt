@@ -235,18 +235,22 @@ module _ (s : Store) (i : ℕ) (g : Good s) (g' : Good (becomes s i Ended)) (l :
 -- any other step leaves every row as it was
 pub live-kept : (s s' : Store) {b : ℕ} → Good s → Good s' → Move s b s'
     → ((i : ℕ) → Live (s.txns i) → rank (s.txns i).phase ≡ phase_installed → s' ≡ becomes s i Ended → ⊥) → (r : ℕ) → live_row s' r ≡ live_row s r
-live-kept s s' g g' (stay i) no_end r = refl
-live-kept s s' g g' (did-begin i a b c d) no_end r = live-set s s' i _ refl refl (λ l e. omega arith) (λ e. omega arith) g g' r
-live-kept s s' g g' (did-mark i a b) no_end r = live-set s s' i _ refl refl (λ l e. omega arith) (λ e. omega arith) g g' r
-live-kept s s' g g' (did-capture i k a b c) no_end r = live-set s s' i _ refl refl (λ l e. omega arith) (λ e. omega arith) g g' r
-live-kept s s' g g' (did-collect i a b) no_end r = live-set s s' i _ refl refl (λ l e. omega arith) (λ e. omega arith) g g' r
-live-kept s s' g g' (did-rows i a b c) no_end r = live-set s s' i _ refl refl (λ l e. omega arith) (λ e. omega arith) g g' r
-live-kept s s' g g' (did_write i w a b c d) no_end r = live-set s s' i _ refl refl (λ l e. omega arith) (λ e. omega arith) g g' r
-live-kept s s' g g' (did-prepare i a b c) no_end r = live-set s s' i _ refl refl (λ l e. omega arith) (λ e. omega arith) g g' r
-live-kept s s' g g' (did-install i a b) no_end r = live-install s i g g' a b r
-live-kept s s' g g' (did-end i a b) no_end r = absurd (no_end i a b refl)
-live-kept s s' g g' (did-publish i a b) no_end r = live-set s s' i _ refl refl (λ l e. omega arith) (λ e. omega arith) g g' r
-live-kept s s' g g' (did-abort i a b) no_end r = live-set s s' i _ refl refl (λ l e. omega arith) (λ e. omega arith) g g' r
+live-kept s s' = go s'
+  where
+    go : {b : ℕ} (s' : Store) → Good s → Good s' → Move s b s'
+        → ((i : ℕ) → Live (s.txns i) → rank (s.txns i).phase ≡ phase_installed → s' ≡ becomes s i Ended → ⊥) → (r : ℕ) → live_row s' r ≡ live_row s r
+    go s' g g' (stay i) no_end r = refl
+    go s' g g' (did-begin i a b c d) no_end r = live-set s s' i _ refl refl (λ l e. omega arith) (λ e. omega arith) g g' r
+    go s' g g' (did-mark i a b) no_end r = live-set s s' i _ refl refl (λ l e. omega arith) (λ e. omega arith) g g' r
+    go s' g g' (did-capture i k a b c) no_end r = live-set s s' i _ refl refl (λ l e. omega arith) (λ e. omega arith) g g' r
+    go s' g g' (did-collect i a b) no_end r = live-set s s' i _ refl refl (λ l e. omega arith) (λ e. omega arith) g g' r
+    go s' g g' (did-rows i a b c) no_end r = live-set s s' i _ refl refl (λ l e. omega arith) (λ e. omega arith) g g' r
+    go s' g g' (did_write i w a b c d) no_end r = live-set s s' i _ refl refl (λ l e. omega arith) (λ e. omega arith) g g' r
+    go s' g g' (did-prepare i a b c) no_end r = live-set s s' i _ refl refl (λ l e. omega arith) (λ e. omega arith) g g' r
+    go s' g g' (did-install i a b) no_end r = live-install s i g g' a b r
+    go s' g g' (did-end i a b) no_end r = absurd (no_end i a b refl)
+    go s' g g' (did-publish i a b) no_end r = live-set s s' i _ refl refl (λ l e. omega arith) (λ e. omega arith) g g' r
+    go s' g g' (did-abort i a b) no_end r = live-set s s' i _ refl refl (λ l e. omega arith) (λ e. omega arith) g g' r
 
 -- a publish ends nobody, so it shows nothing new
 publish-ends-none : (s : Store) (t i : ℕ) → Live (s.txns i) → rank (s.txns i).phase ≡ phase_installed → (step s (publish t)).store ≡ becomes s i Ended → ⊥

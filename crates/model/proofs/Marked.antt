@@ -51,18 +51,21 @@ unmarked : {A : Type 0} (s : Store) → MarkedOpen s → (i : ℕ) → rank (s.t
 unmarked s o i d m = absurd (d (ap rank (o i m)))
 
 marked-move : (s s' : Store) {a : ℕ} → MarkedOpen s → Move s a s' → MarkedOpen s'
-marked-move s s' o (stay i) = o
-marked-move s s' o (did-begin i a b c d) = marked-set s o i _ (λ m. refl)
-marked-move s s' o (did-mark i a b) = marked-set s o i _ (λ m. open-rank _ b)
-marked-move s s' o (did-capture i k a b c) = marked-set s o i _ (λ m. absurd (true≢false (sym m ∙ c.unmarked)))
-marked-move s s' o (did-collect i a b) = marked-set s o i _ (unmarked s o i (λ e. omega arith))
-marked-move s s' o (did-rows i a b c) = marked-set s o i _ (λ m. refl)
-marked-move s s' o (did_write i w a b c d) = marked-set s o i _ (o i)
-marked-move s s' o (did-prepare i a b c) = marked-set s o i _ (λ m. absurd (true≢false (sym m ∙ (cleared _ _ _ (clear-number _ c.clear)).unmarked)))
-marked-move s s' o (did-install i a b) = marked-set s o i _ (unmarked s o i (λ e. omega arith))
-marked-move s s' o (did-end i a b) = marked-set s o i _ (unmarked s o i (λ e. omega arith))
-marked-move s s' o (did-publish i a b) = marked-set s o i _ (λ m. refl)
-marked-move s s' o (did-abort i a b) = marked-set s o i _ (λ m. refl)
+marked-move s s' = go s'
+  where
+    go : {a : ℕ} (s' : Store) → MarkedOpen s → Move s a s' → MarkedOpen s'
+    go s' o (stay i) = o
+    go s' o (did-begin i a b c d) = marked-set s o i _ (λ m. refl)
+    go s' o (did-mark i a b) = marked-set s o i _ (λ m. open-rank _ b)
+    go s' o (did-capture i k a b c) = marked-set s o i _ (λ m. absurd (true≢false (sym m ∙ c.unmarked)))
+    go s' o (did-collect i a b) = marked-set s o i _ (unmarked s o i (λ e. omega arith))
+    go s' o (did-rows i a b c) = marked-set s o i _ (λ m. refl)
+    go s' o (did_write i w a b c d) = marked-set s o i _ (o i)
+    go s' o (did-prepare i a b c) = marked-set s o i _ (λ m. absurd (true≢false (sym m ∙ (cleared _ _ _ (clear-number _ c.clear)).unmarked)))
+    go s' o (did-install i a b) = marked-set s o i _ (unmarked s o i (λ e. omega arith))
+    go s' o (did-end i a b) = marked-set s o i _ (unmarked s o i (λ e. omega arith))
+    go s' o (did-publish i a b) = marked-set s o i _ (λ m. refl)
+    go s' o (did-abort i a b) = marked-set s o i _ (λ m. refl)
 
 pub marked-opened : (z : Sizes) (clock : ℕ) (before : List Step) → MarkedOpen (run (fresh z clock) before)
 marked-opened z clock before = run-inv MarkedOpen (λ v v' i h m. marked-move v v' h m) (fresh z clock) before (λ i m. refl)
@@ -141,6 +144,16 @@ module _ (s : Store) (t : ℕ) (g : Shaped s) (o : MarkedOpen s) (l : Lives s t)
   -- no stale stamp is met at its place, for it is marked already
   stale-elsewhere : (a : Step) → StaleStamp s a → at s t ≢ at s (actor a)
   stale-elsewhere (capture u k) w p = true≢false (sym m ∙ (ap (λ i. (s.txns i).marked) p ∙ w.1.0))
+  stale-elsewhere begin w p = elim w [ ]
+  stale-elsewhere (collect _) w p = elim w [ ]
+  stale-elsewhere (rows _ _) w p = elim w [ ]
+  stale-elsewhere (write _ _ _) w p = elim w [ ]
+  stale-elsewhere (prepare _) w p = elim w [ ]
+  stale-elsewhere (install _) w p = elim w [ ]
+  stale-elsewhere (end _) w p = elim w [ ]
+  stale-elsewhere (publish _) w p = elim w [ ]
+  stale-elsewhere (validate _) w p = elim w [ ]
+  stale-elsewhere (abort _) w p = elim w [ ]
 
   stays-once : (a : Step) → a ≢ abort t → (step s a).store.txns (at s t) ≡ txn_of s t
   stays-once a d = elim (ℕ_discrete (number s a) 0) [

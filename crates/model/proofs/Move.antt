@@ -20,7 +20,7 @@ use Rattle.model.specs.Verdict.{verdict_number, verdict}
 use Rattle.model.specs.Steps.{becomes, begun, stale, has_read, captured, collected, records_after, read_done, written, pending_rows, needed_buckets, prepared}
 use Rattle.model.specs.Steps.{installed, ended, published}
 use Rattle.model.specs.Refusals.{Refusal, place_of, txn_of, live_count, by_another, versions_after, found, refusal}
-use Rattle.model.specs.Machine.{at, is_stale}
+use Rattle.model.specs.Machine.{is_stale}
 use Rattle.model.proofs.Tests.{place-number}
 
 -- the test of a live transaction, and its fact
@@ -66,18 +66,21 @@ pub data Move (s : Store) : ℕ → Store → Type 0 where
 
 -- a publish, and no other move
 abbrev pub publishing : {s s' : Store} {i : ℕ} → Move s i s' → Bool
-publishing (stay i) = false
-publishing (did-begin i a b c d) = false
-publishing (did-mark i a b) = false
-publishing (did-capture i k a b c) = false
-publishing (did-collect i a b) = false
-publishing (did-rows i a b c) = false
-publishing (did_write i w a b c d) = false
-publishing (did-prepare i a b c) = false
-publishing (did-install i a b) = false
-publishing (did-end i a b) = false
-publishing (did-publish i a b) = true
-publishing (did-abort i a b) = false
+publishing {s = s} m = go m
+  where
+    go : {i : ℕ} {s' : Store} → Move s i s' → Bool
+    go (stay i) = false
+    go (did-begin i a b c d) = false
+    go (did-mark i a b) = false
+    go (did-capture i k a b c) = false
+    go (did-collect i a b) = false
+    go (did-rows i a b c) = false
+    go (did_write i w a b c d) = false
+    go (did-prepare i a b c) = false
+    go (did-install i a b) = false
+    go (did-end i a b) = false
+    go (did-publish i a b) = true
+    go (did-abort i a b) = false
 
 -- a list of tests that refuses nothing: the first test is false, and so are the others
 pub passes : (b : Bool) (r : Refusal) (cs : List (Bool × Refusal)) → refusal ((b, r) ∷ cs) ≡ none → (b ≡ false) × (refusal cs ≡ none)
@@ -130,15 +133,18 @@ finds s t phase more e =
 
 -- only the acting place changes
 pub untouched : (s s' : Store) {b : ℕ} → Move s b s' → (i : ℕ) → i ≢ b → s'.txns i ≡ s.txns i
-untouched s s' (stay j) i d = refl
-untouched s s' (did-begin j a b c e) i d = update_other s.txns j _ i d
-untouched s s' (did-mark j a b) i d = update_other s.txns j _ i d
-untouched s s' (did-capture j k a b c) i d = update_other s.txns j _ i d
-untouched s s' (did-collect j a b) i d = update_other s.txns j _ i d
-untouched s s' (did-rows j a b c) i d = update_other s.txns j _ i d
-untouched s s' (did_write j w a b c e) i d = update_other s.txns j _ i d
-untouched s s' (did-prepare j a b c) i d = update_other s.txns j _ i d
-untouched s s' (did-install j a b) i d = update_other s.txns j _ i d
-untouched s s' (did-end j a b) i d = update_other s.txns j _ i d
-untouched s s' (did-publish j a b) i d = update_other s.txns j _ i d
-untouched s s' (did-abort j a b) i d = update_other s.txns j _ i d
+untouched s s' = go s'
+  where
+    go : {b : ℕ} (s' : Store) → Move s b s' → (i : ℕ) → i ≢ b → s'.txns i ≡ s.txns i
+    go s' (stay j) i d = refl
+    go s' (did-begin j a b c e) i d = update_other s.txns j _ i d
+    go s' (did-mark j a b) i d = update_other s.txns j _ i d
+    go s' (did-capture j k a b c) i d = update_other s.txns j _ i d
+    go s' (did-collect j a b) i d = update_other s.txns j _ i d
+    go s' (did-rows j a b c) i d = update_other s.txns j _ i d
+    go s' (did_write j w a b c e) i d = update_other s.txns j _ i d
+    go s' (did-prepare j a b c) i d = update_other s.txns j _ i d
+    go s' (did-install j a b) i d = update_other s.txns j _ i d
+    go s' (did-end j a b) i d = update_other s.txns j _ i d
+    go s' (did-publish j a b) i d = update_other s.txns j _ i d
+    go s' (did-abort j a b) i d = update_other s.txns j _ i d

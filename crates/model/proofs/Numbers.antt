@@ -100,19 +100,22 @@ pub data Numbering (s s' : Store) : Type 0 where
   kept : Kept s.txns s'.txns → s.clock ≤ s'.clock → Numbering s s'
 
 pub numbering : (s s' : Store) {a : ℕ} → Move s a s' → Numbering s s'
-numbering s s' (stay i) = kept (kept-all s.txns) (omega arith)
-numbering s s' (did-begin i a b c d) = began i refl a b c
-numbering s s' (did-mark i a b) = kept (kept_set s.txns i _ refl refl a (λ h. omega arith) (λ h. omega arith) (λ h. refl)) (omega arith)
-numbering s s' (did-capture i k a b c) = kept (kept_set s.txns i _ refl refl a (λ h. omega arith) (λ h. omega arith) (λ h. refl)) (omega arith)
-numbering s s' (did-collect i a b) = kept (kept_set s.txns i _ refl refl a (λ h. omega arith) (λ h. omega arith) (λ h. refl)) (omega arith)
-numbering s s' (did-rows i a b c) = kept (kept_set s.txns i _ refl refl a (λ h. omega arith) (λ h. omega arith) (λ h. refl)) (omega arith)
-numbering s s' (did_write i w a b c d) =
-    kept (kept_set s.txns i _ refl refl a (λ h. omega arith) (λ h. omega arith) (λ h. absurd (omega arith))) (omega arith)
-numbering s s' (did-prepare i a b c) = kept (kept_set s.txns i _ refl refl a (λ h. omega arith) (λ h. omega arith) (λ h. refl)) (omega arith)
-numbering s s' (did-install i a b) = kept (kept_set s.txns i _ refl refl a (λ h. omega arith) (λ h. omega arith) (λ h. refl)) (omega arith)
-numbering s s' (did-end i a b) = kept (kept_set s.txns i _ refl refl a (λ h. omega arith) (λ h. omega arith) (λ h. refl)) (omega arith)
-numbering s s' (did-publish i a b) = kept (kept_free s.txns i) (omega arith)
-numbering s s' (did-abort i a b) = kept (kept_free s.txns i) (omega arith)
+numbering s s' = go s'
+  where
+    go : {a : ℕ} (s' : Store) → Move s a s' → Numbering s s'
+    go s' (stay i) = kept (kept-all s.txns) (omega arith)
+    go s' (did-begin i a b c d) = began i refl a b c
+    go s' (did-mark i a b) = kept (kept_set s.txns i _ refl refl a (λ h. omega arith) (λ h. omega arith) (λ h. refl)) (omega arith)
+    go s' (did-capture i k a b c) = kept (kept_set s.txns i _ refl refl a (λ h. omega arith) (λ h. omega arith) (λ h. refl)) (omega arith)
+    go s' (did-collect i a b) = kept (kept_set s.txns i _ refl refl a (λ h. omega arith) (λ h. omega arith) (λ h. refl)) (omega arith)
+    go s' (did-rows i a b c) = kept (kept_set s.txns i _ refl refl a (λ h. omega arith) (λ h. omega arith) (λ h. refl)) (omega arith)
+    go s' (did_write i w a b c d) =
+        kept (kept_set s.txns i _ refl refl a (λ h. omega arith) (λ h. omega arith) (λ h. absurd (omega arith))) (omega arith)
+    go s' (did-prepare i a b c) = kept (kept_set s.txns i _ refl refl a (λ h. omega arith) (λ h. omega arith) (λ h. refl)) (omega arith)
+    go s' (did-install i a b) = kept (kept_set s.txns i _ refl refl a (λ h. omega arith) (λ h. omega arith) (λ h. refl)) (omega arith)
+    go s' (did-end i a b) = kept (kept_set s.txns i _ refl refl a (λ h. omega arith) (λ h. omega arith) (λ h. refl)) (omega arith)
+    go s' (did-publish i a b) = kept (kept_free s.txns i) (omega arith)
+    go s' (did-abort i a b) = kept (kept_free s.txns i) (omega arith)
 
 -- the clock never falls
 pub clock-move : (s s' : Store) {a : ℕ} → Move s a s' → s.clock ≤ s'.clock
@@ -240,24 +243,27 @@ below_up s stamp g h = record {
 }
 
 pub below-move : (s s' : Store) {a : ℕ} → Numbers s.clock s.txns → BelowAt s → Move s a s' → BelowAt s'
-below-move s s' n g (stay i) = g
-below-move s s' n g (did-begin i a b c d) = below_up s s.index.stamp g (λ b. omega (arith, g.stamp-below b))
-below-move s s' n g (did-mark i a b) = g
-below-move s s' n g (did-capture i k a b c) = g
-below-move s s' n g (did-collect i a b) = g
-below-move s s' n g (did-rows i a b c) = g
-below-move s s' n g (did_write i w a b c d) = g
-below-move s s' n g (did-prepare i a b c) = g
-below-move s s' n g (did-install i a b) =
-    let l : Low s.clock s'.chains =
-    push_all-all (Low s.clock) (s.txns i) (low-push s.clock (s.txns i).number (n.below i))
-    (version_rows s.sizes s.chains (s.txns i).writes) s.chains (g.xmin-below, g.xmax-below) in
-    record { xmin-below = l.0; xmax-below = l.1; stamp-below = g.stamp-below }
-below-move s s' n g (did-end i a b) = g
-below-move s s' n g (did-publish i a b) =
-    below_up s _ g (λ b. update_all-elim (◌≤ s.clock) s.index.stamp (changed_buckets s (s.txns i)) _ b (λ e. omega (arith, n.below i))
-    (λ e. omega (arith, g.stamp-below b)))
-below-move s s' n g (did-abort i a b) = g
+below-move s s' = go s'
+  where
+    go : {a : ℕ} (s' : Store) → Numbers s.clock s.txns → BelowAt s → Move s a s' → BelowAt s'
+    go s' n g (stay i) = g
+    go s' n g (did-begin i a b c d) = below_up s s.index.stamp g (λ b. omega (arith, g.stamp-below b))
+    go s' n g (did-mark i a b) = g
+    go s' n g (did-capture i k a b c) = g
+    go s' n g (did-collect i a b) = g
+    go s' n g (did-rows i a b c) = g
+    go s' n g (did_write i w a b c d) = g
+    go s' n g (did-prepare i a b c) = g
+    go s' n g (did-install i a b) =
+        let l : Low s.clock s'.chains =
+        push_all-all (Low s.clock) (s.txns i) (low-push s.clock (s.txns i).number (n.below i))
+        (version_rows s.sizes s.chains (s.txns i).writes) s.chains (g.xmin-below, g.xmax-below) in
+        record { xmin-below = l.0; xmax-below = l.1; stamp-below = g.stamp-below }
+    go s' n g (did-end i a b) = g
+    go s' n g (did-publish i a b) =
+        below_up s _ g (λ b. update_all-elim (◌≤ s.clock) s.index.stamp (changed_buckets s (s.txns i)) _ b (λ e. omega (arith, n.below i))
+        (λ e. omega (arith, g.stamp-below b)))
+    go s' n g (did-abort i a b) = g
 
 pub below-fresh : (z : Sizes) (clock : ℕ) → 1 ≤ clock → BelowAt (fresh z clock)
 below-fresh z clock h = record { xmin-below = λ p. h; xmax-below = λ p. h; stamp-below = λ b. h }

@@ -177,20 +177,23 @@ module _ (s : Store) (i : ℕ) (z : Sized s.sizes) (g : RangesAt s) where
   }
 
 pub ranges-move : (s s' : Store) {a : ℕ} → Sized s.sizes → RangesAt s → Move s a s' → RangesAt s'
-ranges-move s s' z g (stay i) = g
-ranges-move s s' z g (did-begin i a b c d) = ranges-set s i z g _ (fits-none _ _, z.buckets-pos)
-ranges-move s s' z g (did-mark i a b) = ranges-set s i z g _ (g i)
-ranges-move s s' z g (did-capture i k a b c) = ranges-set s i z g _ (fits-capture s i z g k c, bucket-in s.sizes z k)
-ranges-move s s' z g (did-collect i a b) = ranges-set s i z g _ (fits-collect s i z g _, z.buckets-pos)
-ranges-move s s' z g (did-rows i a b c) = ranges-set s i z g _ (fits-rows s i z g c, z.buckets-pos)
-ranges-move s s' z g (did_write i w a b c d) = ranges-set s i z g _ (fits-write s i z g w c d, (g i).1)
-ranges-move s s' z g (did-prepare i a b c) = ranges-set s i z g _ ((g i).0, z.buckets-pos)
-ranges-move s s' z g (did-install i a b) = λ j.
-    let h = ranges-set s i z g (with_phase (s.txns i) Installed) ((g i).0, z.buckets-pos) j in
-    (fits-up _ _ _ _ _ _ _ (omega (arith, used-pushAll (s.txns i) (version_rows s.sizes s.chains (s.txns i).writes) s.chains)) h.0, h.1)
-ranges-move s s' z g (did-end i a b) = ranges-set s i z g _ ((g i).0, z.buckets-pos)
-ranges-move s s' z g (did-publish i a b) = ranges-set s i z g _ (fits-none _ _, z.buckets-pos)
-ranges-move s s' z g (did-abort i a b) = ranges-set s i z g _ (fits-none _ _, z.buckets-pos)
+ranges-move s s' = go s'
+  where
+    go : {a : ℕ} (s' : Store) → Sized s.sizes → RangesAt s → Move s a s' → RangesAt s'
+    go s' z g (stay i) = g
+    go s' z g (did-begin i a b c d) = ranges-set s i z g _ (fits-none _ _, z.buckets-pos)
+    go s' z g (did-mark i a b) = ranges-set s i z g _ (g i)
+    go s' z g (did-capture i k a b c) = ranges-set s i z g _ (fits-capture s i z g k c, bucket-in s.sizes z k)
+    go s' z g (did-collect i a b) = ranges-set s i z g _ (fits-collect s i z g _, z.buckets-pos)
+    go s' z g (did-rows i a b c) = ranges-set s i z g _ (fits-rows s i z g c, z.buckets-pos)
+    go s' z g (did_write i w a b c d) = ranges-set s i z g _ (fits-write s i z g w c d, (g i).1)
+    go s' z g (did-prepare i a b c) = ranges-set s i z g _ ((g i).0, z.buckets-pos)
+    go s' z g (did-install i a b) = λ j.
+        let h = ranges-set s i z g (with_phase (s.txns i) Installed) ((g i).0, z.buckets-pos) j in
+        (fits-up _ _ _ _ _ _ _ (omega (arith, used-pushAll (s.txns i) (version_rows s.sizes s.chains (s.txns i).writes) s.chains)) h.0, h.1)
+    go s' z g (did-end i a b) = ranges-set s i z g _ ((g i).0, z.buckets-pos)
+    go s' z g (did-publish i a b) = ranges-set s i z g _ (fits-none _ _, z.buckets-pos)
+    go s' z g (did-abort i a b) = ranges-set s i z g _ (fits-none _ _, z.buckets-pos)
 
 pub ranges-fresh : (z : Sizes) (clock : ℕ) → Sized z → RangesAt (fresh z clock)
 ranges-fresh z clock h j = (fits-none _ _, h.buckets-pos)

@@ -138,7 +138,7 @@ each-empty r m = one_of (subst (Among r) both-empty.0 m)
     one_of : Among r (0 ∷ 1 ∷ []) → ErasesNothing s₉.chains (txn_of s₉ 1) r
     one_of (inl e) = subst (ErasesNothing s₉.chains (txn_of s₉ 1)) (sym e) both-empty.1
     one_of (inr (inl e)) = subst (ErasesNothing s₉.chains (txn_of s₉ 1)) (sym e) both-empty.2
-one_of (inr (inr x'')) = elim x'' [ ]
+    one_of (inr (inr x'')) = elim x'' [ ]
 
 -- the premises of nothing-costs
 pub met-nothing : (number s₉ (prepare 1) ≡ 0) × Lives s₁₀ 1 × ((r : ℕ) → Writes s₉.sizes (txn_of s₉ 1) r → ErasesNothing s₉.chains (txn_of s₉ 1) r)

@@ -150,22 +150,26 @@ reading-publish s i n h w l a g j = update-elim (λ y. Live y → Reading s.size
 
 pub reading-move : (s s' : Store) {a : ℕ} → Chained s.chains → Chained s'.chains → Numbers s.clock s.txns → HoldersAt s → WrittenAt s
     → ToldAt s → ReadingAt s → Move s a s' → ReadingAt s'
-reading-move s s' ch ch' n h w o g (stay i) = g
-reading-move s s' ch ch' n h w o g (did-begin i a e c d) =
-    reading-set s i _ g (λ l. quiet _ _ _ (new_txn s) (λ f. omega arith) (λ f. omega arith) (λ f q m. absurd m))
-reading-move s s' ch ch' n h w o g (did-mark i a e) = reading-set s i _ g (λ l. reading-mark s i g a)
-reading-move s s' ch ch' n h w o g (did-capture i k a e c) = reading-set s i _ g (λ l. reading-capture s i g a k e c)
-reading-move s s' ch ch' n h w o g (did-collect i a e) = reading-set s i _ g (λ l. reading-collect s i g a ch n h w o e)
-reading-move s s' ch ch' n h w o g (did-rows i a e c) = reading-set s i _ g (λ l. reading-rows s i g a e)
-reading-move s s' ch ch' n h w o g (did_write i x a e c d) =
-    reading-set s i _ g (λ l. reading-phase s i g a (written_txn (s.txns i) x) refl refl (λ f. omega arith) (λ f. omega arith) (λ f. omega arith))
-reading-move s s' ch ch' n h w o g (did-prepare i a e c) =
-    reading-set s i _ g (λ l. reading-phase s i g a (with_phase (s.txns i) Prepared) refl refl (λ f. omega arith) (λ f. omega arith) (λ f. omega arith))
-reading-move s s' ch ch' n h w o g (did-install i a e) = reading-install s i ch ch' n a e g
-reading-move s s' ch ch' n h w o g (did-end i a e) =
-    reading-set s i _ g (λ l. reading-phase s i g a (with_phase (s.txns i) Ended) refl refl (λ f. omega arith) (λ f. omega arith) (λ f. absurd (omega arith)))
-reading-move s s' ch ch' n h w o g (did-publish i a e) = reading-publish s i n h w a e g
-reading-move s s' ch ch' n h w o g (did-abort i a e) = reading-set s i no_txn g (λ l. absurd (omega arith))
+reading-move s s' = go s'
+  where
+    go : {a : ℕ} (s' : Store) → Chained s.chains → Chained s'.chains → Numbers s.clock s.txns → HoldersAt s → WrittenAt s
+        → ToldAt s → ReadingAt s → Move s a s' → ReadingAt s'
+    go s' ch ch' n h w o g (stay i) = g
+    go s' ch ch' n h w o g (did-begin i a e c d) =
+        reading-set s i _ g (λ l. quiet _ _ _ (new_txn s) (λ f. omega arith) (λ f. omega arith) (λ f q m. absurd m))
+    go s' ch ch' n h w o g (did-mark i a e) = reading-set s i _ g (λ l. reading-mark s i g a)
+    go s' ch ch' n h w o g (did-capture i k a e c) = reading-set s i _ g (λ l. reading-capture s i g a k e c)
+    go s' ch ch' n h w o g (did-collect i a e) = reading-set s i _ g (λ l. reading-collect s i g a ch n h w o e)
+    go s' ch ch' n h w o g (did-rows i a e c) = reading-set s i _ g (λ l. reading-rows s i g a e)
+    go s' ch ch' n h w o g (did_write i x a e c d) =
+        reading-set s i _ g (λ l. reading-phase s i g a (written_txn (s.txns i) x) refl refl (λ f. omega arith) (λ f. omega arith) (λ f. omega arith))
+    go s' ch ch' n h w o g (did-prepare i a e c) =
+        reading-set s i _ g (λ l. reading-phase s i g a (with_phase (s.txns i) Prepared) refl refl (λ f. omega arith) (λ f. omega arith) (λ f. omega arith))
+    go s' ch ch' n h w o g (did-install i a e) = reading-install s i ch ch' n a e g
+    go s' ch ch' n h w o g (did-end i a e) =
+        reading-set s i _ g (λ l. reading-phase s i g a (with_phase (s.txns i) Ended) refl refl (λ f. omega arith) (λ f. omega arith) (λ f. absurd (omega arith)))
+    go s' ch ch' n h w o g (did-publish i a e) = reading-publish s i n h w a e g
+    go s' ch ch' n h w o g (did-abort i a e) = reading-set s i no_txn g (λ l. absurd (omega arith))
 
 pub reading-fresh : (z : Sizes) (clock : ℕ) → ReadingAt (fresh z clock)
 reading-fresh z clock j l = absurd (omega arith)

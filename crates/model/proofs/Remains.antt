@@ -92,20 +92,24 @@ module _ (c₁ : Chains) (v : Snapshot) (k n : ℕ) where
   -- place by place
   here-move : (s s' : Store) {a : ℕ} → Good s → Good s' → RemainsAt c₁ v k n s → Move s a s' → (j : ℕ) → (s'.txns j).number ≡ n
       → rank (s'.txns j).phase < phase_installed → Remains c₁ v k s'.sizes s'.chains (s'.txns j)
-  here-move s s' g g' w (stay i) = w.here
-  here-move s s' g g' w (did-begin i a b c d) = remains-other s i (new_txn s) w (λ e. omega (arith, w.number-old))
-  here-move s s' g g' w (did-mark i a b) = remains-set s i _ w refl refl (λ h. omega arith) (λ o h. h) (λ q m. m)
-  here-move s s' g g' w (did-capture i m a b c) = remains-set s i _ w refl refl (λ h. omega arith) (λ o h. add_read-keeps (s.txns i).reads _ _ o h) (λ q m. m)
-  here-move s s' g g' w (did-collect i a b) = remains-set s i _ w refl refl (λ h. omega arith) (λ o h. h) (λ q m. m)
-  here-move s s' g g' w (did-rows i a b c) =
-      remains-set s i _ w refl refl (λ h. omega arith) (λ o h. h)
-      (λ q m. record_all-keeps s.chains (s.txns i) (s.txns i).records (found_rows s (s.txns i)) q m)
-  here-move s s' g g' w (did_write i x a b c d) = remains-set s i _ w refl refl (λ h. omega arith) (λ o h. h) (λ q m. m)
-  here-move s s' g g' w (did-prepare i a b c) = remains-set s i _ w refl refl (λ h. omega arith) (λ o h. h) (λ q m. m)
-  here-move s s' g g' w (did-install i a b) = remains-install s i g g' w a b
-  here-move s s' g g' w (did-end i a b) = remains-set s i _ w refl refl (λ h. absurd (omega arith)) (λ o h. h) (λ q m. m)
-  here-move s s' g g' w (did-publish i a b) = remains-other s i no_txn w (λ e. omega (arith, w.number-pos))
-  here-move s s' g g' w (did-abort i a b) = remains-other s i no_txn w (λ e. omega (arith, w.number-pos))
+  here-move s s' = go s'
+    where
+      go : {a : ℕ} (s' : Store) → Good s → Good s' → RemainsAt c₁ v k n s → Move s a s' → (j : ℕ) → (s'.txns j).number ≡ n
+          → rank (s'.txns j).phase < phase_installed → Remains c₁ v k s'.sizes s'.chains (s'.txns j)
+      go s' g g' w (stay i) = w.here
+      go s' g g' w (did-begin i a b c d) = remains-other s i (new_txn s) w (λ e. omega (arith, w.number-old))
+      go s' g g' w (did-mark i a b) = remains-set s i _ w refl refl (λ h. omega arith) (λ o h. h) (λ q m. m)
+      go s' g g' w (did-capture i m a b c) = remains-set s i _ w refl refl (λ h. omega arith) (λ o h. add_read-keeps (s.txns i).reads _ _ o h) (λ q m. m)
+      go s' g g' w (did-collect i a b) = remains-set s i _ w refl refl (λ h. omega arith) (λ o h. h) (λ q m. m)
+      go s' g g' w (did-rows i a b c) =
+          remains-set s i _ w refl refl (λ h. omega arith) (λ o h. h)
+          (λ q m. record_all-keeps s.chains (s.txns i) (s.txns i).records (found_rows s (s.txns i)) q m)
+      go s' g g' w (did_write i x a b c d) = remains-set s i _ w refl refl (λ h. omega arith) (λ o h. h) (λ q m. m)
+      go s' g g' w (did-prepare i a b c) = remains-set s i _ w refl refl (λ h. omega arith) (λ o h. h) (λ q m. m)
+      go s' g g' w (did-install i a b) = remains-install s i g g' w a b
+      go s' g g' w (did-end i a b) = remains-set s i _ w refl refl (λ h. absurd (omega arith)) (λ o h. h) (λ q m. m)
+      go s' g g' w (did-publish i a b) = remains-other s i no_txn w (λ e. omega (arith, w.number-pos))
+      go s' g g' w (did-abort i a b) = remains-other s i no_txn w (λ e. omega (arith, w.number-pos))
 
   pub remains-move : (s s' : Store) {a : ℕ} → Good s → RemainsAt c₁ v k n s → Move s a s' → RemainsAt c₁ v k n s'
   remains-move s s' g w m =

@@ -151,26 +151,29 @@ module _ (s : Store) (i : ℕ) (n : Numbers s.clock s.txns) (g : RoomAt s) (a : 
   }
 
 pub room-move : (s s' : Store) {a : ℕ} → Chained s.chains → Numbers s.clock s.txns → HoldersAt s → RoomAt s → Move s a s' → RoomAt s'
-room-move s s' ch n h g (stay i) = g
-room-move s s' ch n h g (did-begin i a b c d) = record {
-  numbers-left = omega (arith, live-set s.txns i (new_txn s) a, ap one (live_test (new_txn s) n.clock-pos));
-  versions-left = omega (
-    arith,
-    g.versions-left,
-    reserved-set s.sizes s.chains s.txns i (new_txn s) most_live a,
-    reserves-none s.sizes s.chains (new_txn s) (λ e. omega arith),
-  );
-}
-room-move s s' ch n h g (did-mark i a b) = room-quiet s i n g a _ refl (λ e. omega arith) (λ e. omega arith)
-room-move s s' ch n h g (did-capture i k a b c) = room-quiet s i n g a _ refl (λ e. omega arith) (λ e. omega arith)
-room-move s s' ch n h g (did-collect i a b) = room-quiet s i n g a _ refl (λ e. omega arith) (λ e. omega arith)
-room-move s s' ch n h g (did-rows i a b c) = room-quiet s i n g a _ refl (λ e. omega arith) (λ e. omega arith)
-room-move s s' ch n h g (did_write i w a b c d) = room-quiet s i n g a _ refl (λ e. omega arith) (λ e. omega arith)
-room-move s s' ch n h g (did-prepare i a b c) = room-prepare s i n g a b c.room
-room-move s s' ch n h g (did-install i a b) = room-install s i n g a ch h b
-room-move s s' ch n h g (did-end i a b) = room-quiet s i n g a _ refl (λ e. omega arith) (λ e. omega arith)
-room-move s s' ch n h g (did-publish i a b) = room-free s i n g a (suc s.clock) (omega arith)
-room-move s s' ch n h g (did-abort i a b) = room-free s i n g a s.clock (omega arith)
+room-move s s' = go s'
+  where
+    go : {a : ℕ} (s' : Store) → Chained s.chains → Numbers s.clock s.txns → HoldersAt s → RoomAt s → Move s a s' → RoomAt s'
+    go s' ch n h g (stay i) = g
+    go s' ch n h g (did-begin i a b c d) = record {
+      numbers-left = omega (arith, live-set s.txns i (new_txn s) a, ap one (live_test (new_txn s) n.clock-pos));
+      versions-left = omega (
+        arith,
+        g.versions-left,
+        reserved-set s.sizes s.chains s.txns i (new_txn s) most_live a,
+        reserves-none s.sizes s.chains (new_txn s) (λ e. omega arith),
+      );
+    }
+    go s' ch n h g (did-mark i a b) = room-quiet s i n g a _ refl (λ e. omega arith) (λ e. omega arith)
+    go s' ch n h g (did-capture i k a b c) = room-quiet s i n g a _ refl (λ e. omega arith) (λ e. omega arith)
+    go s' ch n h g (did-collect i a b) = room-quiet s i n g a _ refl (λ e. omega arith) (λ e. omega arith)
+    go s' ch n h g (did-rows i a b c) = room-quiet s i n g a _ refl (λ e. omega arith) (λ e. omega arith)
+    go s' ch n h g (did_write i w a b c d) = room-quiet s i n g a _ refl (λ e. omega arith) (λ e. omega arith)
+    go s' ch n h g (did-prepare i a b c) = room-prepare s i n g a b c.room
+    go s' ch n h g (did-install i a b) = room-install s i n g a ch h b
+    go s' ch n h g (did-end i a b) = room-quiet s i n g a _ refl (λ e. omega arith) (λ e. omega arith)
+    go s' ch n h g (did-publish i a b) = room-free s i n g a (suc s.clock) (omega arith)
+    go s' ch n h g (did-abort i a b) = room-free s i n g a s.clock (omega arith)
 
 pub room-fresh : (z : Sizes) (clock : ℕ) → clock ≤ last_number → RoomAt (fresh z clock)
 unfolding live_count reserved reserved_by pick

@@ -21,7 +21,7 @@ use Rattle.model.specs.Shape.{right_shape}
 use Rattle.model.specs.Machine.{Answer, Done, Number, Stamp, Count, Rows, Judged, Refused, rule, actor, checks, accepted, at}
 use Rattle.model.specs.Upstream.{Event}
 use Rattle.model.specs.History.{step_events}
-use Rattle.model.specs.Given.{Names, Right, StaleStamp, documented, Lives, verdict_of, GivenWhen, GivenNamed, Given}
+use Rattle.model.specs.Given.{Names, Right, StaleStamp, documented, Lives, verdict_of, GivenWhen, Given}
 use Rattle.model.specs.Leaves.{part}
 use Rattle.model.proofs.FirstTest.{Test, less, equal, without, itself, opposite, at_most, code, line, no_line}
 use Rattle.model.proofs.Tests.{lives-test, shape-test, bucket-taken, stale-test, read-test, bucket-test, needed-test, place-number}

@@ -185,18 +185,21 @@ module _ (s : Store) (i : ℕ) (g : ToldAt s) where
           inl (i, rw update_same l, rw update_same (ap (installed s i).chains.xmin (sym w.2) ∙ (gr.head-new w.0 w.1).xmin-is))
 
 pub told_move : (s s' : Store) {a : ℕ} → Chained s.chains → Numbers s.clock s.txns → BelowAt s → WrittenAt s → ToldAt s → Move s a s' → ToldAt s'
-told_move s s' ch n b w g (stay i) = g
-told_move s s' ch n b w g (did-begin i a e c d) = told-begin s i g n b e
-told_move s s' ch n b w g (did-mark i a e) = told-on s i g _ refl refl
-told_move s s' ch n b w g (did-capture i k a e c) = told-on s i g _ refl refl
-told_move s s' ch n b w g (did-collect i a e) = told-on s i g _ refl refl
-told_move s s' ch n b w g (did-rows i a e c) = told-on s i g _ refl refl
-told_move s s' ch n b w g (did_write i x a e c d) = told-on s i g _ refl refl
-told_move s s' ch n b w g (did-prepare i a e c) = told-on s i g _ refl refl
-told_move s s' ch n b w g (did-install i a e) = told-install s i g ch a e
-told_move s s' ch n b w g (did-end i a e) = told-on s i g _ refl refl
-told_move s s' ch n b w g (did-publish i a e) = told-publish s i g n b w a e
-told_move s s' ch n b w g (did-abort i a e) = told-abort s i g w e
+told_move s s' = go s'
+  where
+    go : {a : ℕ} (s' : Store) → Chained s.chains → Numbers s.clock s.txns → BelowAt s → WrittenAt s → ToldAt s → Move s a s' → ToldAt s'
+    go s' ch n b w g (stay i) = g
+    go s' ch n b w g (did-begin i a e c d) = told-begin s i g n b e
+    go s' ch n b w g (did-mark i a e) = told-on s i g _ refl refl
+    go s' ch n b w g (did-capture i k a e c) = told-on s i g _ refl refl
+    go s' ch n b w g (did-collect i a e) = told-on s i g _ refl refl
+    go s' ch n b w g (did-rows i a e c) = told-on s i g _ refl refl
+    go s' ch n b w g (did_write i x a e c d) = told-on s i g _ refl refl
+    go s' ch n b w g (did-prepare i a e c) = told-on s i g _ refl refl
+    go s' ch n b w g (did-install i a e) = told-install s i g ch a e
+    go s' ch n b w g (did-end i a e) = told-on s i g _ refl refl
+    go s' ch n b w g (did-publish i a e) = told-publish s i g n b w a e
+    go s' ch n b w g (did-abort i a e) = told-abort s i g w e
 
 pub told_fresh : (z : Sizes) (clock : ℕ) → ToldAt (fresh z clock)
 told_fresh z clock q j u l e = absurd (omega arith)

@@ -350,19 +350,23 @@ module _ (s : Store) (i : ℕ) (ch : Chained s.chains) (n : Numbers s.clock s.tx
 
 pub written-move : (s s' : Store) {a : ℕ} → Chained s.chains → Numbers s.clock s.txns → BelowAt s → HoldersAt s → WrittenAt s → Move s a s'
     → WrittenAt s'
-written-move s s' ch n b h g (stay i) = g
-written-move s s' ch n b h g (did-begin i a e c d) =
-    written-early _ _ _ _ i _ (λ l. absurd (omega arith)) (omega arith) (λ q p u l f. omega (arith, b.xmin-below q)) g
-written-move s s' ch n b h g (did-mark i a e) = written_on _ _ _ _ i _ refl (omega arith) (omega arith) g
-written-move s s' ch n b h g (did-capture i k a e c) = written_on _ _ _ _ i _ refl (omega arith) (omega arith) g
-written-move s s' ch n b h g (did-collect i a e) = written_on _ _ _ _ i _ refl (omega arith) (omega arith) g
-written-move s s' ch n b h g (did-rows i a e c) = written_on _ _ _ _ i _ refl (omega arith) (omega arith) g
-written-move s s' ch n b h g (did_write i w a e c d) = written_on _ _ _ _ i _ refl (omega arith) (omega arith) g
-written-move s s' ch n b h g (did-prepare i a e c) = written_on _ _ _ _ i _ refl (omega arith) (omega arith) g
-written-move s s' ch n b h g (did-install i a e) = written-install s i ch n h g a e
-written-move s s' ch n b h g (did-end i a e) = written-end s i n h g a e
-written-move s s' ch n b h g (did-publish i a e) = written-publish s i n h g a e
-written-move s s' ch n b h g (did-abort i a e) = written-early _ _ _ _ i no_txn (λ l. e) (omega arith) (λ q p u l f. omega arith) g
+written-move s s' = go s'
+  where
+    go : {a : ℕ} (s' : Store) → Chained s.chains → Numbers s.clock s.txns → BelowAt s → HoldersAt s → WrittenAt s → Move s a s'
+        → WrittenAt s'
+    go s' ch n b h g (stay i) = g
+    go s' ch n b h g (did-begin i a e c d) =
+        written-early _ _ _ _ i _ (λ l. absurd (omega arith)) (omega arith) (λ q p u l f. omega (arith, b.xmin-below q)) g
+    go s' ch n b h g (did-mark i a e) = written_on _ _ _ _ i _ refl (omega arith) (omega arith) g
+    go s' ch n b h g (did-capture i k a e c) = written_on _ _ _ _ i _ refl (omega arith) (omega arith) g
+    go s' ch n b h g (did-collect i a e) = written_on _ _ _ _ i _ refl (omega arith) (omega arith) g
+    go s' ch n b h g (did-rows i a e c) = written_on _ _ _ _ i _ refl (omega arith) (omega arith) g
+    go s' ch n b h g (did_write i w a e c d) = written_on _ _ _ _ i _ refl (omega arith) (omega arith) g
+    go s' ch n b h g (did-prepare i a e c) = written_on _ _ _ _ i _ refl (omega arith) (omega arith) g
+    go s' ch n b h g (did-install i a e) = written-install s i ch n h g a e
+    go s' ch n b h g (did-end i a e) = written-end s i n h g a e
+    go s' ch n b h g (did-publish i a e) = written-publish s i n h g a e
+    go s' ch n b h g (did-abort i a e) = written-early _ _ _ _ i no_txn (λ l. e) (omega arith) (λ q p u l f. omega arith) g
 
 pub written-fresh : (z : Sizes) (clock : ℕ) → WrittenAt (fresh z clock)
 written-fresh z clock = record {

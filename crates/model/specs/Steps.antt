@@ -1,5 +1,5 @@
 -- The steps of a transaction: what each leaves where it is not refused. Place i is where the transaction stands.
-use Rattle.std.specs.Prelude.{ℕ, suc, ◌+◌, Bool, true, false, cond, ◌&&◌, ◌||◌, List, [], ◌∷◌, ◌++◌, map, eqb, leb}
+use Rattle.std.specs.Prelude.{ℕ, suc, Bool, true, false, cond, ◌&&◌, ◌||◌, List, [], ◌∷◌, ◌++◌, map, eqb, leb}
 use Rattle.std.proofs.Math.Option.{Option, none, some}
 use Rattle.base_lists.specs.Lists.{member, least, pick, some_of, join}
 use Rattle.base_lists.specs.Table.{update, update_all}

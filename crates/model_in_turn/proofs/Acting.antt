@@ -3,7 +3,7 @@ use mathlib.Core.Path.{◌≡◌, refl, sym, ap, ◌∙◌}
 use mathlib.Core.Bool.{Bool, true, false, cond}
 use mathlib.Core.Logic.{◌⊎◌, ⊎_elim}
 use mathlib.Core.List.{List, [], ◌∷◌, ◌++◌, map, map-append}
-use Prim.Native.Nat.{ℕ, ◌+◌, ◌≤◌, ◌<◌, min}
+use Prim.Native.Nat.{ℕ, ◌≤◌, ◌<◌, min}
 use native.Mathlib.Omega.{arith}
 use lib.Dec.{eqb}
 use lib.ListN.{length, length-map}
@@ -17,7 +17,7 @@ use Rattle.model.specs.Seeing.{version_of, Live}
 use Rattle.model.specs.Steps.{has_read, add_read, captured, collected, found_rows, records_after, read_done, written}
 use Rattle.model.specs.Contents.{Content, shown_to, live_row, pending_write}
 use Rattle.model.specs.Refusals.{Step, capture, collect, rows, write, validate, txn_of}
-use Rattle.model.specs.Machine.{at, accepted, actor, step}
+use Rattle.model.specs.Machine.{accepted, actor, step}
 use Rattle.model.specs.Given.{number}
 use Rattle.model.proofs.SeeingLaws.{key_at-pos, match-version, found-which}
 use Rattle.model.proofs.Good.{Good, good-move, right-shape}

@@ -14,7 +14,7 @@ use Rattle.model.specs.Steps.{old_key}
 use Rattle.model.specs.Contents.{content, content_of, live_row}
 use Rattle.model.specs.Refusals.{txn_of}
 use Rattle.model.specs.Machine.{at}
-use Rattle.model.specs.Given.{number, Lives}
+use Rattle.model.specs.Given.{Lives}
 use Rattle.model.proofs.Walk.{finds-head}
 use Rattle.model.proofs.Told.{which-seen}
 use Rattle.model.proofs.Good.{Good, right-shape}

@@ -1,7 +1,7 @@
 -- The run, and beside it the run in turn of those that have ended: what holds of the two, and that a step which ends nobody keeps it. Assumes nothing.
 use mathlib.Core.Path.{◌≡◌, refl, sym, ap, ◌∙◌}
 use mathlib.Core.Bool.{Bool, true, false, not, ◌&&◌}
-use mathlib.Core.Logic.{◌≢◌, ◌⊎◌, ⊎_elim}
+use mathlib.Core.Logic.{◌≢◌, ⊎_elim}
 use mathlib.Core.List.{List, [], ◌∷◌, ◌++◌, append-nil}
 use Prim.Native.Nat.{ℕ, ◌+◌, ◌≤◌, ◌<◌}
 use native.Mathlib.Omega.{arith}
@@ -17,9 +17,7 @@ use Rattle.model.specs.Store.{Sizes, Ended, Txn, Store, fresh, rank, phase_insta
 use Rattle.model.specs.Seeing.{Live}
 use Rattle.model.specs.Steps.{with_phase, becomes, new_txn}
 use Rattle.model.specs.Contents.{live_row}
-use Rattle.model.specs.Refusals.{rows}
-use Rattle.model.specs.Machine.{at, run}
-use Rattle.model.specs.Given.{number}
+use Rattle.model.specs.Machine.{run}
 use Rattle.model.proofs.Phases.{rank-top}
 use Rattle.model.proofs.Move.{Move, untouched}
 use Rattle.model.proofs.Numbers.{Numbering, began, kept, numbering, clock-move}

@@ -187,18 +187,22 @@ module _ (s : Store) (g : Good s) (i : ℕ) where
 
 pub counted-move : (s s' : Store) {b : ℕ} → Good s → Move s b s'
     → ((i : ℕ) → Live (s.txns i) → rank (s.txns i).phase ≡ phase_installed → s' ≡ becomes s i Ended → ⊥) → Counted s s'
-counted-move s s' g (stay i) no_end = record { wait-is = refl; count-is = omega arith }
-counted-move s s' g (did-begin i a b c d) no_end = begin-counted s g i a b
-counted-move s s' g (did-mark i a b) no_end = on-counted s s' i _ g refl refl refl refl a refl (omega arith) (omega arith)
-counted-move s s' g (did-capture i k a b c) no_end = on-counted s s' i _ g refl refl refl refl a refl (omega arith) (omega arith)
-counted-move s s' g (did-collect i a b) no_end = on-counted s s' i _ g refl refl refl refl a refl (omega arith) (omega arith)
-counted-move s s' g (did-rows i a b c) no_end = on-counted s s' i _ g refl refl refl refl a refl (omega arith) (omega arith)
-counted-move s s' g (did_write i w a b c d) no_end = on-counted s s' i _ g refl refl refl refl a refl (omega arith) (omega arith)
-counted-move s s' g (did-prepare i a b c) no_end = on-counted s s' i _ g refl refl refl refl a refl (omega arith) (omega arith)
-counted-move s s' g (did-install i a b) no_end = install-counted s g i a b
-counted-move s s' g (did-end i a b) no_end = absurd (no_end i a b refl)
-counted-move s s' g (did-publish i a b) no_end = publish-counted s g i a b
-counted-move s s' g (did-abort i a b) no_end = abort-counted s g i a b
+counted-move s s' = go s'
+  where
+    go : {b : ℕ} (s' : Store) → Good s → Move s b s'
+        → ((i : ℕ) → Live (s.txns i) → rank (s.txns i).phase ≡ phase_installed → s' ≡ becomes s i Ended → ⊥) → Counted s s'
+    go s' g (stay i) no_end = record { wait-is = refl; count-is = omega arith }
+    go s' g (did-begin i a b c d) no_end = begin-counted s g i a b
+    go s' g (did-mark i a b) no_end = on-counted s s' i _ g refl refl refl refl a refl (omega arith) (omega arith)
+    go s' g (did-capture i k a b c) no_end = on-counted s s' i _ g refl refl refl refl a refl (omega arith) (omega arith)
+    go s' g (did-collect i a b) no_end = on-counted s s' i _ g refl refl refl refl a refl (omega arith) (omega arith)
+    go s' g (did-rows i a b c) no_end = on-counted s s' i _ g refl refl refl refl a refl (omega arith) (omega arith)
+    go s' g (did_write i w a b c d) no_end = on-counted s s' i _ g refl refl refl refl a refl (omega arith) (omega arith)
+    go s' g (did-prepare i a b c) no_end = on-counted s s' i _ g refl refl refl refl a refl (omega arith) (omega arith)
+    go s' g (did-install i a b) no_end = install-counted s g i a b
+    go s' g (did-end i a b) no_end = absurd (no_end i a b refl)
+    go s' g (did-publish i a b) no_end = publish-counted s g i a b
+    go s' g (did-abort i a b) no_end = abort-counted s g i a b
 
 -- what an end adds: its versions are shown, and it runs no more
 pub record Ends (s : Store) (i : ℕ) : Type 0 where

@@ -1,7 +1,7 @@
 -- Side by side, an end: the one who ends takes its turn, does all that it did again, and leaves the same rows. Assumes nothing.
 use mathlib.Core.Path.{◌≡◌, refl, sym, ap, ◌∙◌}
 use mathlib.Core.Bool.{Bool, true, false, cond, ◌&&◌, true≢false}
-use mathlib.Core.Logic.{◌≢◌, ◌⊎◌, ⊎_elim}
+use mathlib.Core.Logic.{◌≢◌, ⊎_elim}
 use mathlib.Core.List.{List, [], ◌∷◌, ◌++◌, map, map-append}
 use Prim.Native.Nat.{ℕ, ◌+◌, ◌≤◌, ◌<◌}
 use native.Mathlib.Omega.{arith}
@@ -17,7 +17,7 @@ use Rattle.model.specs.Store.{Sizes, Ended, Txn, Store, fresh, rank, phase_insta
 use Rattle.model.specs.Seeing.{version_of, key_at, last_write, pending, written_key, Live, snapshot_now}
 use Rattle.model.specs.Steps.{with_phase, becomes, pending_rows, old_key, version_rows, written_payload}
 use Rattle.model.specs.Contents.{Content, content, content_of, live_row}
-use Rattle.model.specs.Refusals.{rows, end}
+use Rattle.model.specs.Refusals.{end}
 use Rattle.model.specs.Machine.{at, step, run}
 use Rattle.model.specs.Holding.{Writes}
 use Rattle.model.specs.Given.{number}

@@ -157,21 +157,25 @@ one_place s s' i n script x j y d zs cs ts old new g g' f =
 -- whatever another does
 pub follow-others : (s s' : Store) {b : ℕ} (i n : ℕ) (script : List Entry) (x : Local) → Good s → Good s' → Move s b s' → i ≢ b → Followed s i n script x
     → Followed s' i n script x
-follow-others s s' i n script x g g' (stay j) d f = f
-follow-others s s' i n script x g g' (did-begin j a b c e) d f = one_place s s' i n script x j _ d refl refl refl (λ l o. omega arith) (λ o. omega arith) g g' f
-follow-others s s' i n script x g g' (did-mark j a b) d f = one_place s s' i n script x j _ d refl refl refl (λ l o. omega arith) (λ o. omega arith) g g' f
-follow-others s s' i n script x g g' (did-capture j k a b c) d f =
-    one_place s s' i n script x j _ d refl refl refl (λ l o. omega arith) (λ o. omega arith) g g' f
-follow-others s s' i n script x g g' (did-collect j a b) d f = one_place s s' i n script x j _ d refl refl refl (λ l o. omega arith) (λ o. omega arith) g g' f
-follow-others s s' i n script x g g' (did-rows j a b c) d f = one_place s s' i n script x j _ d refl refl refl (λ l o. omega arith) (λ o. omega arith) g g' f
-follow-others s s' i n script x g g' (did_write j w a b c e) d f =
-    one_place s s' i n script x j _ d refl refl refl (λ l o. omega arith) (λ o. omega arith) g g' f
-follow-others s s' i n script x g g' (did-prepare j a b c) d f = one_place s s' i n script x j _ d refl refl refl (λ l o. omega arith) (λ o. omega arith) g g' f
-follow-others s s' i n script x g g' (did-install j a b) d f = (f.0, follow-install s i n script x f.0 f.1 j d g g' a b)
-follow-others s s' i n script x g g' (did-end j a b) d f = go (ltb (rank x.phase) phase_prepared) refl
+follow-others s s' = others s'
   where
-    go : (t : Bool) → ltb (rank x.phase) phase_prepared ≡ t → Followed (becomes s j Ended) i n script x
-    go true e = (f.0, follow-end-early s i n script x f.0 f.1 j d g g' a b (ltb-true _ _ e))
-    go false e = (live_row (becomes s j Ended), follow-end-late s i n script x f.0 f.1 j d g g' a b (ltb-false _ _ e))
-follow-others s s' i n script x g g' (did-publish j a b) d f = one_place s s' i n script x j _ d refl refl refl (λ l o. omega arith) (λ o. omega arith) g g' f
-follow-others s s' i n script x g g' (did-abort j a b) d f = one_place s s' i n script x j _ d refl refl refl (λ l o. omega arith) (λ o. omega arith) g g' f
+    others : {b : ℕ} (s' : Store) (i n : ℕ) (script : List Entry) (x : Local) → Good s → Good s' → Move s b s' → i ≢ b → Followed s i n script x
+        → Followed s' i n script x
+    others s' i n script x g g' (stay j) d f = f
+    others s' i n script x g g' (did-begin j a b c e) d f = one_place s s' i n script x j _ d refl refl refl (λ l o. omega arith) (λ o. omega arith) g g' f
+    others s' i n script x g g' (did-mark j a b) d f = one_place s s' i n script x j _ d refl refl refl (λ l o. omega arith) (λ o. omega arith) g g' f
+    others s' i n script x g g' (did-capture j k a b c) d f =
+        one_place s s' i n script x j _ d refl refl refl (λ l o. omega arith) (λ o. omega arith) g g' f
+    others s' i n script x g g' (did-collect j a b) d f = one_place s s' i n script x j _ d refl refl refl (λ l o. omega arith) (λ o. omega arith) g g' f
+    others s' i n script x g g' (did-rows j a b c) d f = one_place s s' i n script x j _ d refl refl refl (λ l o. omega arith) (λ o. omega arith) g g' f
+    others s' i n script x g g' (did_write j w a b c e) d f =
+        one_place s s' i n script x j _ d refl refl refl (λ l o. omega arith) (λ o. omega arith) g g' f
+    others s' i n script x g g' (did-prepare j a b c) d f = one_place s s' i n script x j _ d refl refl refl (λ l o. omega arith) (λ o. omega arith) g g' f
+    others s' i n script x g g' (did-install j a b) d f = (f.0, follow-install s i n script x f.0 f.1 j d g g' a b)
+    others s' i n script x g g' (did-end j a b) d f = go (ltb (rank x.phase) phase_prepared) refl
+      where
+        go : (t : Bool) → ltb (rank x.phase) phase_prepared ≡ t → Followed (becomes s j Ended) i n script x
+        go true e = (f.0, follow-end-early s i n script x f.0 f.1 j d g g' a b (ltb-true _ _ e))
+        go false e = (live_row (becomes s j Ended), follow-end-late s i n script x f.0 f.1 j d g g' a b (ltb-false _ _ e))
+    others s' i n script x g g' (did-publish j a b) d f = one_place s s' i n script x j _ d refl refl refl (λ l o. omega arith) (λ o. omega arith) g g' f
+    others s' i n script x g g' (did-abort j a b) d f = one_place s s' i n script x j _ d refl refl refl (λ l o. omega arith) (λ o. omega arith) g g' f

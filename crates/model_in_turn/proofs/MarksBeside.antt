@@ -8,9 +8,6 @@ use Rattle.base_lists.specs.Table.{update-field}
 use Rattle.model.specs.Store.{Sizes, IndexRead, ReadRecord, Txn, Store, rank}
 use Rattle.model.specs.Steps.{marked_txn, stale}
 use Rattle.model.specs.Contents.{Content, content_of, live_row}
-use Rattle.model.specs.Machine.{at}
-use Rattle.model.specs.Given.{number}
-use Rattle.model.proofs.Numbers.{kept}
 use Rattle.model.proofs.Sums.{sum_same}
 use Rattle.model.proofs.Good.{Good}
 use Rattle.model.proofs.LiveRows.{alike}

@@ -2,7 +2,7 @@
 use mathlib.Core.Path.{◌≡◌, refl, sym, ap, ◌∙◌}
 use mathlib.Core.Bool.{false}
 use mathlib.Core.List.{List, [], ◌∷◌, ◌++◌, map}
-use Prim.Native.Nat.{ℕ, ◌+◌, ◌<◌}
+use Prim.Native.Nat.{ℕ, ◌<◌}
 use native.Mathlib.Omega.{arith}
 use lib.Dec.{eqb}
 use borrow.Author.Tests.{ne_eqb}
@@ -17,7 +17,7 @@ use Rattle.model.specs.Refusals.{Step, begin, capture, collect, rows, write, pre
 use Rattle.model.specs.Machine.{Stepped, at, accepted, step}
 use Rattle.model.specs.Given.{number, Lives}
 use Rattle.model.proofs.Move.{Move}
-use Rattle.model.proofs.Numbers.{kept, clock-move}
+use Rattle.model.proofs.Numbers.{clock-move}
 use Rattle.model.proofs.Refused.{begin-0, capture-0, rows-0, write-0, prepare-0, validate-0, collect-0, install-0, publish-0, abort-0}
 use Rattle.model.proofs.Outcomes.{done-does}
 use Rattle.model_in_turn.specs.Done.{returned, Entry, entry_of}

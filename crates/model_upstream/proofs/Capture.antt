@@ -108,24 +108,27 @@ module _ (s : Store) (n : Numbers s.clock s.txns) (g : StampsStand s) where
       → (s.index.stamp r.bucket ≡ r.stamp) ⊎ (y.number ≤ s.index.stamp r.bucket)) s.txns i x j (λ e. h) (λ d. g j)
 
   stamps-move : (s' : Store) {i : ℕ} → Move s i s' → StampsStand s'
-  stamps-move s' (stay i) = g
-  stamps-move s' (did-begin i p q u v) = stamps-set i _ (λ l r m. absurd m)
-  stamps-move s' (did-mark i p q) = stamps-set i _ (λ l. g i p)
-  stamps-move s' (did-capture i k p q c) =
-      stamps-set i _ (λ l r m. ⊎_elim (g i p r) (λ e. rw e (inl refl)) (permitted (s.txns i).reads (bucket_for s k) (stamp_for s k) r m))
-  stamps-move s' (did-collect i p q) = stamps-set i _ (λ l. g i p)
-  stamps-move s' (did-rows i p q u) = stamps-set i _ (λ l. g i p)
-  stamps-move s' (did_write i w p q u v) = stamps-set i _ (λ l. g i p)
-  stamps-move s' (did-prepare i p q c) = stamps-set i _ (λ l. g i p)
-  stamps-move s' (did-install i p q) = stamps-set i _ (λ l. g i p)
-  stamps-move s' (did-end i p q) = stamps-set i _ (λ l. g i p)
-  stamps-move s' (did-publish i p q) =
-      λ j. update-elim (λ y. Live y → (r : IndexRead) → Among r y.reads
-      → (s'.index.stamp r.bucket ≡ r.stamp) ⊎ (y.number ≤ s'.index.stamp r.bucket)) s.txns i no_txn j
-      (λ e l. absurd (omega arith))
-      (λ d l r m. update_all-elim (λ v. (v ≡ r.stamp) ⊎ ((s.txns j).number ≤ v)) s.index.stamp (changed_buckets s (s.txns i)) s.clock r.bucket
-      (λ e. inr (omega (arith, n.below j))) (λ e. g j l r m))
-  stamps-move s' (did-abort i p q) = stamps-set i no_txn (λ l. absurd (omega arith))
+  stamps-move s' = go s'
+    where
+      go : {i : ℕ} (s' : Store) → Move s i s' → StampsStand s'
+      go s' (stay i) = g
+      go s' (did-begin i p q u v) = stamps-set i _ (λ l r m. absurd m)
+      go s' (did-mark i p q) = stamps-set i _ (λ l. g i p)
+      go s' (did-capture i k p q c) =
+          stamps-set i _ (λ l r m. ⊎_elim (g i p r) (λ e. rw e (inl refl)) (permitted (s.txns i).reads (bucket_for s k) (stamp_for s k) r m))
+      go s' (did-collect i p q) = stamps-set i _ (λ l. g i p)
+      go s' (did-rows i p q u) = stamps-set i _ (λ l. g i p)
+      go s' (did_write i w p q u v) = stamps-set i _ (λ l. g i p)
+      go s' (did-prepare i p q c) = stamps-set i _ (λ l. g i p)
+      go s' (did-install i p q) = stamps-set i _ (λ l. g i p)
+      go s' (did-end i p q) = stamps-set i _ (λ l. g i p)
+      go s' (did-publish i p q) =
+          λ j. update-elim (λ y. Live y → (r : IndexRead) → Among r y.reads
+          → (s'.index.stamp r.bucket ≡ r.stamp) ⊎ (y.number ≤ s'.index.stamp r.bucket)) s.txns i no_txn j
+          (λ e l. absurd (omega arith))
+          (λ d l r m. update_all-elim (λ v. (v ≡ r.stamp) ⊎ ((s.txns j).number ≤ v)) s.index.stamp (changed_buckets s (s.txns i)) s.clock r.bucket
+          (λ e. inr (omega (arith, n.below j))) (λ e. g j l r m))
+      go s' (did-abort i p q) = stamps-set i no_txn (λ l. absurd (omega arith))
 
 -- both invariants together, through any sequence of steps
 stamps-run : (s : Store) → Numbers s.clock s.txns → StampsStand s → (more : List Step) → StampsStand (run s more)

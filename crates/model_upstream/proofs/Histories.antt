@@ -18,7 +18,7 @@ use Rattle.model.specs.Seeing.{version_of, key_at, Live}
 use Rattle.model.specs.Steps.{made_rows, new_key, key_buckets}
 use Rattle.model.specs.Upstream.{Event, event_buckets, stamp_at, pointer}
 use Rattle.model.specs.History.{event_of, add_events, step_events, history_over, history, changing}
-use Rattle.model.specs.Refusals.{Step, rows, publish, txn_of}
+use Rattle.model.specs.Refusals.{Step, publish, txn_of}
 use Rattle.model.specs.Machine.{step, run, can_open}
 use Rattle.model.specs.Given.{number}
 use Rattle.model.specs.Holding.{Unpublished}
@@ -64,6 +64,7 @@ module _ (z : Sizes) where
       let ih = highest older g.1 f n b m in
       cond-elim (λ v. f.stamp ≤ v) (member b (event_buckets z e)) e.stamp (stamp_of older b)
       (λ t. omega (arith, g.0 b (member-among b (event_buckets z e) t))) (λ t. ih)
+  highest [] g f m b o = elim m [ ]
 
   -- events whose key changes give a bucket no higher stamp than all events, and are guarded too
   lower : (es : List Event) → Guarded es → (b : ℕ) → stamp_of (changing es) b ≤ stamp_of es b

@@ -36,6 +36,7 @@ changing-has (q ∷ older) e (inl f) d = rw (← f, d) (inl refl)
 changing-has (q ∷ older) e (inr m) d =
     cond-elim (Among e) (same_key q.before q.after) (changing older) (q ∷ changing older) (λ t. changing-has older e m d)
     (λ t. inr (changing-has older e m d))
+changing-has [] e m d = elim m [ ]
 
 -- where every event that changes a row from or to the key is seen, the snapshot has the key just where the live row has it
 module _ (x : Txn) (k : ℕ) where

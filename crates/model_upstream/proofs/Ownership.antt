@@ -101,27 +101,30 @@ another-true h n b y d = rw (ne_eqb (h b) 0 y, ne_eqb (h b) n d)
 
 module _ (s : Store) (g : Good s) (b : ℕ) (y : s.held.holder b ≢ 0) where
   held-through : (s' : Store) {i : ℕ} → Move s i s' → s.held.holder b ≢ (s.txns i).number → s'.held.holder b ≡ s.held.holder b
-  held-through s' (stay i) d = refl
-  held-through s' (did-begin i p q u v) d = refl
-  held-through s' (did-mark i p q) d = refl
-  held-through s' (did-capture i k p q c) d =
-      update-elim (◌≡ s.held.holder b) s.held.holder _ _ b
-      (λ e. absurd (true≢false (sym (another-true s.held.holder _ b y d) ∙ (rw (← e) at c.free)))) (λ f. refl)
-  held-through s' (did-collect i p q) d =
-      let ph = (s.txns i).phase in
-      update-elim (◌≡ s.held.holder b) s.held.holder _ _ b
-      (λ e. absurd (d (ap s.held.holder e ∙ g.holders.buckets.owns i (bucket_in ph) (inl (key_in ph, holding-is ph q))))) (λ f. refl)
-  held-through s' (did-rows i p q u) d = refl
-  held-through s' (did_write i w p q u v) d = refl
-  held-through s' (did-prepare i p q c) d =
-      update_all-elim (◌≡ s.held.holder b) s.held.holder (needed_buckets s (s.txns i)) _ b
-      (λ e. absurd (true≢false (sym (another-true s.held.holder _ b y d)
-      ∙ none_each _ (needed_buckets s (s.txns i)) c.buckets-free b (member-among b _ e))))
-      (λ f. refl)
-  held-through s' (did-install i p q) d = refl
-  held-through s' (did-end i p q) d = refl
-  held-through s' (did-publish i p q) d = release-framed (s.txns i).number s.held.holder b d
-  held-through s' (did-abort i p q) d = release-framed (s.txns i).number s.held.holder b d
+  held-through s' = go s'
+    where
+      go : {i : ℕ} (s' : Store) → Move s i s' → s.held.holder b ≢ (s.txns i).number → s'.held.holder b ≡ s.held.holder b
+      go s' (stay i) d = refl
+      go s' (did-begin i p q u v) d = refl
+      go s' (did-mark i p q) d = refl
+      go s' (did-capture i k p q c) d =
+          update-elim (◌≡ s.held.holder b) s.held.holder _ _ b
+          (λ e. absurd (true≢false (sym (another-true s.held.holder _ b y d) ∙ (rw (← e) at c.free)))) (λ f. refl)
+      go s' (did-collect i p q) d =
+          let ph = (s.txns i).phase in
+          update-elim (◌≡ s.held.holder b) s.held.holder _ _ b
+          (λ e. absurd (d (ap s.held.holder e ∙ g.holders.buckets.owns i (bucket_in ph) (inl (key_in ph, holding-is ph q))))) (λ f. refl)
+      go s' (did-rows i p q u) d = refl
+      go s' (did_write i w p q u v) d = refl
+      go s' (did-prepare i p q c) d =
+          update_all-elim (◌≡ s.held.holder b) s.held.holder (needed_buckets s (s.txns i)) _ b
+          (λ e. absurd (true≢false (sym (another-true s.held.holder _ b y d)
+          ∙ none_each _ (needed_buckets s (s.txns i)) c.buckets-free b (member-among b _ e))))
+          (λ f. refl)
+      go s' (did-install i p q) d = refl
+      go s' (did-end i p q) d = refl
+      go s' (did-publish i p q) d = release-framed (s.txns i).number s.held.holder b d
+      go s' (did-abort i p q) d = release-framed (s.txns i).number s.held.holder b d
 
   -- who acts stands at its place, or nobody does
   actor-number : (a : Step) → ((s.txns (at s (actor a))).number ≡ actor a) ⊎ ((s.txns (at s (actor a))).number ≡ 0)
