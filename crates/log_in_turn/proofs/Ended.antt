@@ -13,8 +13,8 @@ use Rattle.model.specs.Machine.{step, can_open}
 use Rattle.model.specs.Log.{Command, Opening, Asking, read_record}
 use Rattle.model.specs.Report.{open_word, bad_word, line, answer_line}
 use Rattle.model.specs.Replay.{Replayed, stops, write_then, reads, record_then, replay_for, replay_from, most_room, replay}
-use Rattle.log.specs.Layout.{bytes_of, Bytes, one_byte}
-use Rattle.log.proofs.Exact.{read-exact}
+use Rattle.log_records.specs.Layout.{bytes_of, Bytes, one_byte}
+use Rattle.log_records.proofs.Exact.{read-exact}
 use Rattle.log_in_turn.specs.Told.{commands_for, commands_in}
 use Rattle.log_in_turn.proofs.Spoken.{spoken, written, open_line, written-more, written_none}
 use Rattle.log_in_turn.proofs.Laid.{AllFit, rest-short, none_read}

@@ -18,7 +18,7 @@ use Rattle.model.specs.Given.{number, Lives}
 use Rattle.model.specs.Log.{Opening, Asking}
 use Rattle.model.proofs.Good.{Good, good-run, opened-good}
 use Rattle.model.proofs.Refused.{capture-0, collect-0, rows-0, write-0, prepare-0, install-0, end-0, publish-0, validate-0, abort-0}
-use Rattle.log.specs.Layout.{Field, eight, fields_in, Fit, none_left, one-fits}
+use Rattle.log_records.specs.Layout.{Field, eight, fields_in, Fit, none_left, one-fits}
 use Rattle.model_in_turn.specs.Done.{Entry, whose, entry_of, entries}
 use Rattle.model_in_turn.specs.InTurn.{end_order, is_publish, done_by, renumbered, as_number, whole_of, in_turn, one_by_one, steps_in, turn_of}
 use Rattle.model_in_turn.proofs.Promises.{one-after-another}

@@ -14,8 +14,8 @@ use Rattle.model.specs.Machine.{step, can_open}
 use Rattle.model.specs.Log.{Command, Opening, Asking, whole, read_record}
 use Rattle.model.specs.Report.{answer_line}
 use Rattle.model.specs.Replay.{Replayed, stops, write_then, reads, record_then, replay_for}
-use Rattle.log.specs.Layout.{in_bytes, laid_out, kind_of, fields_in, framed, bytes_of, Fit}
-use Rattle.log.proofs.Exact.{in-long, command-read}
+use Rattle.log_records.specs.Layout.{in_bytes, laid_out, kind_of, fields_in, framed, bytes_of, Fit}
+use Rattle.log_records.proofs.Exact.{in-long, command-read}
 use Rattle.log_in_turn.specs.Told.{commands_for}
 use Rattle.log_in_turn.proofs.Spoken.{spoken, written, open_line, written-more, written_none}
 

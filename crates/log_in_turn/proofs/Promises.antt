@@ -4,7 +4,7 @@ use Prim.Native.Nat.{ℕ}
 use mathlib.Core.Path.{◌≡◌}
 use mathlib.Core.List.{List}
 use Rattle.model.specs.Replay.{replay}
-use Rattle.log.specs.Layout.{Bytes}
+use Rattle.log_records.specs.Layout.{Bytes}
 use Rattle.log_in_turn.specs.Told.{commands_in}
 use Rattle.log_in_turn.specs.LogInTurn.{commands_in_turn, log_in_turn, ReplayedInTurn}
 use Rattle.log_in_turn.proofs.ReadBack.{in-turn, turn-read}

@@ -14,7 +14,7 @@ use Rattle.model.specs.Given.{number}
 use Rattle.model.specs.Log.{Command, Opening, Asking}
 use Rattle.model.specs.Report.{digits_step, digits_for, decimal, spaced, line}
 use Rattle.model.specs.Replay.{stops, record_then, replay_for, replay_from, most_room, replay}
-use Rattle.log.specs.Layout.{bytes_of, Bytes}
+use Rattle.log_records.specs.Layout.{bytes_of, Bytes}
 use Rattle.model_in_turn.specs.Done.{Entry, entry_of, entries}
 use Rattle.model_in_turn.specs.InTurn.{one_by_one, turn_of}
 use Rattle.model_in_turn.proofs.Promises.{one-after-another}

@@ -13,7 +13,7 @@ use Rattle.model.specs.Log.{Opening, Asking, number, widths, total, fields, comm
 use Rattle.model.specs.Report.{digits_step, digits_for, decimal, spaced, line}
 use Rattle.model.specs.Replay.{write_then, record_then, replay_for, replay_from, replay}
 use Rattle.model.proofs.Computes.{computes}
-use Rattle.log.specs.Layout.{in_bytes, laid_out, framed, bytes_of, Bytes, no_bytes, one_byte}
+use Rattle.log_records.specs.Layout.{in_bytes, laid_out, framed, bytes_of, Bytes, no_bytes, one_byte}
 use Rattle.model_in_turn.specs.Done.{entries}
 use Rattle.model_in_turn.specs.InTurn.{end_order, done_by, in_turn}
 use Rattle.log_in_turn.specs.Told.{commands_for, commands_in, lines_in, told, says_done, ends_told, reads_where, reads_told, reads_in_turn}

@@ -5,7 +5,7 @@ use Rattle.model.specs.Store.{fresh}
 use Rattle.model.specs.Refusals.{Step}
 use Rattle.model.specs.Log.{Command, Opening, Asking}
 use Rattle.model.specs.Replay.{stops, most_room, replay}
-use Rattle.log.specs.Layout.{bytes_of}
+use Rattle.log_records.specs.Layout.{bytes_of}
 use Rattle.model_in_turn.specs.InTurn.{turn_of}
 use Rattle.log_in_turn.specs.Told.{commands_in, lines_in, told, says_done, reads_told, reads_in_turn}
 

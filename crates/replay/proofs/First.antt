@@ -14,11 +14,11 @@ use Rattle.model.specs.Machine.{can_open}
 use Rattle.model.specs.Replay.{Replayed, malformed, opens, replay}
 use Rattle.base_protocol.specs.declared.Sizes.{Sizes}
 use Rattle.base_protocol.specs.View.{sizes_view}
-use Rattle.log.specs.declared.Command.{Command}
-use Rattle.log.specs.declared.Command.TheVariants.{Open, Ask, Malformed}
-use Rattle.log.specs.declared.Decoded.{Decoded}
-use Rattle.log.specs.Records.{decoded_of}
-use Rattle.log.proofs.Reading.{NoOpen, not-open, Reads, reads, read-malformed, read-open, read-ask}
+use Rattle.log_records.specs.declared.Command.{Command}
+use Rattle.log_records.specs.declared.Command.TheVariants.{Open, Ask, Malformed}
+use Rattle.log_records.specs.declared.Decoded.{Decoded}
+use Rattle.log_records.specs.Records.{decoded_of}
+use Rattle.log_records.proofs.Reading.{NoOpen, not-open, Reads, reads, read-malformed, read-open, read-ask}
 use Rattle.report.specs.declared.Wrote.TheVariants.{Next, Full}
 use Rattle.report.specs.Written.{Written, written_at}
 use Rattle.report.specs.Lines.{bad_line, open_line}

@@ -24,11 +24,11 @@ use Rattle.step_bridge.proofs.Placed.{after}
 use Rattle.step_bridge.proofs.Same.{Same}
 use Rattle.step_bridge.proofs.Stepping.{step_same}
 use Rattle.step_bridge.proofs.Running.{Stands, step-stands, step-view}
-use Rattle.log.specs.declared.Command.{Command}
-use Rattle.log.specs.declared.Command.TheVariants.{Open, Ask, Malformed}
-use Rattle.log.specs.declared.Decoded.{Decoded}
-use Rattle.log.specs.Records.{decoded_of}
-use Rattle.log.proofs.Reading.{NoStep, not_step, Reads, reads, read-malformed, read-open, read-ask, read-on}
+use Rattle.log_records.specs.declared.Command.{Command}
+use Rattle.log_records.specs.declared.Command.TheVariants.{Open, Ask, Malformed}
+use Rattle.log_records.specs.declared.Decoded.{Decoded}
+use Rattle.log_records.specs.Records.{decoded_of}
+use Rattle.log_records.proofs.Reading.{NoStep, not_step, Reads, reads, read-malformed, read-open, read-ask, read-on}
 use Rattle.report.specs.declared.Wrote.TheVariants.{Next, Full}
 use Rattle.report.specs.Written.{Written, written_at}
 use Rattle.report.specs.Lines.{bad_line, line_for}

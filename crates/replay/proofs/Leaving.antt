@@ -10,10 +10,10 @@ use lib.Dec.{leb, ltb}
 use lib.ListN.{length}
 use Rattle.base_protocol.specs.declared.Step.{Step}
 use Rattle.step.specs.Words.{Words, words_after}
-use Rattle.log.specs.declared.Command.{Command}
-use Rattle.log.specs.declared.Command.TheVariants.{Open, Ask, Malformed}
-use Rattle.log.specs.Records.{decoded_of}
-use Rattle.log.proofs.Reading.{NoStep, not_step}
+use Rattle.log_records.specs.declared.Command.{Command}
+use Rattle.log_records.specs.declared.Command.TheVariants.{Open, Ask, Malformed}
+use Rattle.log_records.specs.Records.{decoded_of}
+use Rattle.log_records.proofs.Reading.{NoStep, not_step}
 use Rattle.replay.specs.Lent.{line_after, where_asked, words_for}
 
 -- a record that asks for no step leaves the words

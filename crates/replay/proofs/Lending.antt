@@ -22,11 +22,11 @@ use Rattle.step.specs.Steps.{Tables}
 use Rattle.shape.specs.Shape.{tables_lent}
 use Rattle.call.specs.Calls as Opening
 use Rattle.call.specs.Calls.{open_of}
-use Rattle.log.specs.declared.Command.{Command}
-use Rattle.log.specs.declared.Command.TheVariants.{Open, Ask, Malformed}
-use Rattle.log.specs.declared.Decoded.{Decoded}
-use Rattle.log.specs.Records.{decoded_of}
-use Rattle.log.proofs.Reading.{NoOpen, not-open, read_none, Reads, reads, read-malformed, read-open, read-ask}
+use Rattle.log_records.specs.declared.Command.{Command}
+use Rattle.log_records.specs.declared.Command.TheVariants.{Open, Ask, Malformed}
+use Rattle.log_records.specs.declared.Decoded.{Decoded}
+use Rattle.log_records.specs.Records.{decoded_of}
+use Rattle.log_records.proofs.Reading.{NoOpen, not-open, read_none, Reads, reads, read-malformed, read-open, read-ask}
 use Rattle.report_answers.specs.Answers.{number_of}
 use Rattle.report.specs.declared.Wrote.TheVariants.{Next, Full}
 use Rattle.report.specs.Written.{Written, written_at}

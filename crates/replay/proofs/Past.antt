@@ -26,12 +26,12 @@ use Rattle.step_bridge.proofs.Slotted.{past-test, still, found-long}
 use Rattle.step_bridge.proofs.Past.{past-kept, past-then}
 use Rattle.call.specs.Calls.{open_of}
 use Rattle.call.proofs.Opened.{fresh-past}
-use Rattle.log.specs.declared.Command.{Command}
-use Rattle.log.specs.declared.Command.TheVariants.{Open, Ask, Malformed}
-use Rattle.log.specs.Records.{decoded_of}
-use Rattle.log.specs.Layout.{fields_in, Fit, none_left, one-fits, Bytes}
-use Rattle.log.proofs.Reading.{reads, read-open}
-use Rattle.log.proofs.Exact.{read-exact}
+use Rattle.log_records.specs.declared.Command.{Command}
+use Rattle.log_records.specs.declared.Command.TheVariants.{Open, Ask, Malformed}
+use Rattle.log_records.specs.Records.{decoded_of}
+use Rattle.log_records.specs.Layout.{fields_in, Fit, none_left, one-fits, Bytes}
+use Rattle.log_records.proofs.Reading.{reads, read-open}
+use Rattle.log_records.proofs.Exact.{read-exact}
 use Rattle.report.specs.Lines.{open_line}
 use Rattle.replay.specs.Lent.{Lent, line_after, where_asked, words_for, words_opened, lent_left, opens_over}
 use Rattle.replay.specs.Past.{four_of, LentPast}

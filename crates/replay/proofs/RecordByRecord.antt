@@ -15,7 +15,7 @@ use Rattle.model.specs.Machine.{step, can_open}
 use Rattle.model.specs.Log.{Command, Opening, Asking, length_in, whole, read_record}
 use Rattle.model.specs.Report.{open_word, bad_word, line, answer_line}
 use Rattle.model.specs.Replay.{Replayed, stops, write_then, obeys, reads, record_then, replay_for, replay_from}
-use Rattle.log.proofs.Reading.{whole-facts, read_whole, read_none}
+use Rattle.log_records.proofs.Reading.{whole-facts, read_whole, read_none}
 
 -- a record that is read leaves less of the log
 less_by : (l : List ℕ) (b : Bool) → whole l ≡ b → (c : Command × List ℕ) → read_record l ≡ some c → length c.1 < length l

@@ -13,9 +13,9 @@ use Rattle.step.specs.Steps.{Tables}
 use Rattle.step.specs.Words.{Words, moved_by, words_after}
 use Rattle.shape.specs.Shape.{tables_lent}
 use Rattle.call.specs.Calls.{open_of}
-use Rattle.log.specs.declared.Command.{Command}
-use Rattle.log.specs.declared.Command.TheVariants.{Open, Ask, Malformed}
-use Rattle.log.specs.Records.{decoded_of, sizes_told}
+use Rattle.log_records.specs.declared.Command.{Command}
+use Rattle.log_records.specs.declared.Command.TheVariants.{Open, Ask, Malformed}
+use Rattle.log_records.specs.Records.{decoded_of, sizes_told}
 use Rattle.report.specs.Lines.{open_line, line_for}
 
 -- the lent tables

@@ -3,8 +3,8 @@ use Rattle.std.specs.Prelude.{ℕ, ◌≡◌, true, false, List, []}
 use Rattle.base_protocol.specs.declared.Sizes.{Sizes}
 use Rattle.step.specs.Steps.{Tables}
 use Rattle.step.specs.Past.{PastKept}
-use Rattle.log.specs.declared.Command.TheVariants.{Open}
-use Rattle.log.specs.Records.{decoded_of}
+use Rattle.log_records.specs.declared.Command.TheVariants.{Open}
+use Rattle.log_records.specs.Records.{decoded_of}
 use Rattle.replay.specs.Lent.{Lent, opens_over, lent_left}
 
 -- the four tables, with no row list

@@ -9,7 +9,7 @@ ghost use Rattle.replay.specs.Lent.{Opens, fresh_in, words_from, replayed_in, le
 use base_limits::{MOST_BUCKETS, MOST_LIVE, MOST_ROWS, MOST_VERSIONS};
 use base_protocol::{Answer, Extent, NO_ROOM, Sizes};
 use call::open;
-use log::{Command, decode_at};
+use log_records::{Command, decode_at};
 use report::{Wrote, answer_line, open_line};
 use step::{Beside, keeps, step_keeping, step_placing};
 use stop::{Stopped, stop_malformed, stop_unopened};

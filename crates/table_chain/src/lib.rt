@@ -1,4 +1,6 @@
 // Chains of versions, and what a snapshot sees of them.
+#![tactic(auto)]
+
 ghost use Rattle.std.specs.Prelude.{◌≡◌, not, ◌||◌, ◌+◌, ◌*◌, ◌<◌, ◌≤◌, eqb, length, take};
 ghost use Rattle.table.specs.Words.{field};
 ghost use Rattle.table.specs.Fields.{version_words, xmin_of, xmax_of};

@@ -1,4 +1,6 @@
 // The list of a key: which of its rows a collect keeps, and how the posting of a row moves from one list to another.
+#![tactic(auto)]
+
 ghost use Rattle.std.specs.Prelude.{◌≡◌, cond, [], ◌∷◌, ◌+◌, ◌*◌, ◌<◌, ◌≤◌, length};
 ghost use Rattle.base_limits.specs.Limits.{last_number};
 ghost use Rattle.table.specs.Fields.{row_words, later_of};

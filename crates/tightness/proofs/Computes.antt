@@ -32,7 +32,7 @@ use Rattle.shape_postings.specs.Told.{told_within}
 use Rattle.shape_txn.specs.TxnShape.{ranges_fit, heads_fit, txn_fits, place_fits}
 use Rattle.shape.specs.Shape.{tables_fit}
 use Rattle.call.specs.Calls.{swept_for, cleared, open_of}
-use Rattle.log.specs.Records.{decoded_of}
+use Rattle.log_records.specs.Records.{decoded_of}
 use Rattle.report.specs.Written.{written_at}
 use Rattle.replay.specs.Lent.{words_for, lent_left, lent_of}
 

@@ -6,10 +6,10 @@ use mathlib.Core.List.{List, [], ◌∷◌}
 use lib.ListN.{length, drop}
 use denote.Ref.{Bor}
 use Rattle.model.specs.Log.{length_in}
-use Rattle.log.specs.declared.Decoded.{Decoded}
-use Rattle.log.specs.declared.Reader.{Reader}
-use Rattle.log.specs.declared.Taken.{Taken}
-use Rattle.log.specs.Records.{decoded_of, reader_at, taken_by}
+use Rattle.log_records.specs.declared.Decoded.{Decoded}
+use Rattle.log_records.specs.declared.Reader.{Reader}
+use Rattle.log_records.specs.declared.Taken.{Taken}
+use Rattle.log_records.specs.Records.{decoded_of, reader_at, taken_by}
 use Rattle.tightness.specs.Wrong.{Excludes}
 use Rattle.tightness.proofs.Apart.{apart}
 use Rattle.tightness.proofs.Computes.{computes}

@@ -11,7 +11,7 @@ use Rattle.model.specs.Log.{Command, Opening, Asking, fields, command_of, read_r
 use Rattle.model.specs.Replay.{Replayed, replay, packed, reported}
 use Rattle.table.specs.Fields.{row_words}
 use Rattle.table.specs.Lists.{writes}
-use Rattle.log.specs.Records.{decoded_of}
+use Rattle.log_records.specs.Records.{decoded_of}
 use Rattle.report.specs.Lines.{open_line}
 use Rattle.replay.specs.Lent.{Lent, long_enough, LeftLent, lent_left, lent_of}
 use Rattle.tightness.specs.Wrong.{Excludes}

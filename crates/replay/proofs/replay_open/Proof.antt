@@ -11,7 +11,7 @@ use Rattle.base_limits.specs.Limits.{most_rows}
 use Rattle.base_protocol.specs.declared.Sizes.{Sizes}
 use Rattle.step.specs.Steps.{Tables}
 use Rattle.call.specs.Calls.{Left, open_of}
-use Rattle.log.specs.declared.Command.TheVariants.{Open}
+use Rattle.log_records.specs.declared.Command.TheVariants.{Open}
 use Rattle.report_answers.specs.Answers.{number_of}
 use Rattle.report.specs.declared.Wrote.TheVariants.{Next, Full}
 use Rattle.replay.specs.Lent.{Lent, lent_in, opened_in, Opens, fresh_in, words_from}

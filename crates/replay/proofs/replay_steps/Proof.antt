@@ -13,7 +13,7 @@ use Rattle.model.specs.Replay.{Replayed}
 use Rattle.base_protocol.specs.declared.Step.{Step}
 use Rattle.step.specs.Steps.{Tables, keeps_of}
 use Rattle.step.specs.Words.{Words, others_in}
-use Rattle.log.specs.declared.Command.TheVariants.{Ask}
+use Rattle.log_records.specs.declared.Command.TheVariants.{Ask}
 use Rattle.report.specs.declared.Wrote.TheVariants.{Next, Full}
 use Rattle.replay.specs.Replay.{Leaves, opened_from}
 use Rattle.replay.specs.Lent.{fresh_in, words_from}

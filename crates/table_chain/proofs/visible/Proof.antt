@@ -9,14 +9,14 @@ seen-requires : tie.Need-seen-requires
 seen-requires c κs = search rules
 
 -- no number is below 0
-not-ended-requires : tie.Need-not-ended-requires
+not-ended-requires : tie.Need-not_ended-requires
 not-ended-requires c κs = λ n l. absurd (omega arith)
 
-returns : tie.Need-returns
-returns c = rw (← c.before.before.seen.ensures, c.before.if1.true, ← c.not-ended.ensures)
+returns : tie.Need-returns-then-seen
+returns c = rw (← c.seen.ensures, c.if-seen.true, ← c.not_ended.ensures)
 
-returns-2 : tie.Need-returns-2
-returns-2 c = rw (← c.before.seen.ensures, c.if1.false)
+returns-2 : tie.Need-returns-else-seen
+returns-2 c = rw (← c.seen.ensures, c.if-seen.false)
 
-pub visible-spec : {M : Type 1} → statement M
-visible-spec = tie.close (tie.spec seen-requires not-ended-requires returns returns-2)
+pub visible_spec : {M : Type 1} → statement M
+visible_spec = tie.close (tie.spec seen-requires not-ended-requires returns returns-2)

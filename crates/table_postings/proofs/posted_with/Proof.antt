@@ -6,19 +6,19 @@ use mathlib.Core.Bool.{and-false, and-true}
 use Rattle.table_postings.proofs.posted_with.Statement.{statement}
 use Rattle.table_postings.proofs.posted_with.Tie as tie
 
-posted-key-at-requires : tie.Need-posted-key-at-requires
+posted-key-at-requires : tie.Need-posted_key_at-requires
 posted-key-at-requires c κs = search rules
 
-returns : tie.Need-returns
-returns c = rw (← c.before.posted-key-at.ensures, ne_eqb _ _ c.if1.true, and-false)
+returns : tie.Need-returns-then-posted_key_at-key
+returns c = rw (← c.posted_key_at.ensures, ne_eqb _ _ c.if-posted_key_at-key.true, and-false)
 
-posted-at-requires : tie.Need-posted-at-requires
+posted-at-requires : tie.Need-posted_at-requires
 posted-at-requires c κs = search rules
 
-returns-2 : tie.Need-returns-2
+returns-2 : tie.Need-returns
 returns-2 c =
-    let tested = c.before in
-    rw (← tested.before.posted-key-at.ensures, eq-eqb _ _ tested.if1.false, and-true, ← c.posted-at.ensures)
+    let tested = c in
+    rw (← tested.posted_key_at.ensures, eq-eqb _ _ tested.if-posted_key_at-key.false, and-true, ← c.posted_at.ensures)
 
-pub posted-with-spec : {M : Type 1} → statement M
-posted-with-spec = tie.close (tie.spec posted-key-at-requires returns posted-at-requires returns-2)
+pub posted_with_spec : {M : Type 1} → statement M
+posted_with_spec = tie.close (tie.spec posted-key-at-requires returns posted-at-requires returns-2)

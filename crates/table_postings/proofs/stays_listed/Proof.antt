@@ -10,44 +10,44 @@ use Rattle.table_postings.proofs.stays_listed.Statement.{statement}
 use Rattle.table_postings.proofs.stays_listed.Tie as tie
 
 -- the parameters
-abbrev start : tie.Else1 → tie.Start
+abbrev start : tie.Else-posted_at-eq0 → tie.Start
 start c = c.before.before.before
 
 -- past its test the row is posted
-posted-not : (c : tie.Else1) → eqb (posted_of (start c).args.rows.now (start c).args.row) 0 ≡ false
-posted-not c = rw (← c.before.posted-at.ensures) (ne_eqb _ _ c.if1.false)
+posted-not : (c : tie.Else-posted_at-eq0) → eqb (posted_of (start c).args.rows.now (start c).args.row) 0 ≡ false
+posted-not c = rw (← c.posted_at.ensures) (ne_eqb _ _ c.if-posted_at-eq0.false)
 
-posted-at-requires : tie.Need-posted-at-requires
+posted-at-requires : tie.Need-posted_at-requires
 posted-at-requires c κs = search rules
 
-returns : tie.Need-returns
-returns c = rw (← c.before.posted-at.ensures, eq-eqb _ _ c.if1.true)
+returns : tie.Need-returns-then-posted_at-eq0
+returns c = rw (← c.posted_at.ensures, eq-eqb _ _ c.if-posted_at-eq0.true)
 
-returns-2 : tie.Need-returns-2
-returns-2 c = rw (posted-not c.before, eq-eqb _ _ c.if2.true)
+returns-2 : tie.Need-returns-then-keyed-eq0
+returns-2 c = rw (posted-not c.before, eq-eqb _ _ c.if-keyed-eq0.true)
 
-posted-key-at-requires : tie.Need-posted-key-at-requires
+posted-key-at-requires : tie.Need-posted_key_at-old-requires
 posted-key-at-requires c κs = search rules
 
-returns-3 : tie.Need-returns-3
+returns-3 : tie.Need-returns-then-old-key
 returns-3 c =
-    let keyed = c.before.before in
-    rw (posted-not keyed.before, ne_eqb _ _ keyed.if2.false, ← c.before.posted-key-at.ensures, c.if3.true, eq-eqb _ _ refl)
+    let keyed = c in
+    rw (posted-not keyed.before.before.before, ne_eqb _ _ keyed.if-keyed-eq0.false, ← c.posted_key_at-old.ensures, c.if-old-key.true, eq-eqb _ _ refl)
 
-list-for-requires : tie.Need-list-for-requires
+list-for-requires : tie.Need-list_for-requires
 list-for-requires c κs = search rules
 
-list-for-requires-2 : tie.Need-list-for-requires-2
+list-for-requires-2 : tie.Need-list_for-requires-2
 list-for-requires-2 c κs = search rules
 
-returns-4 : tie.Need-returns-4
+returns-4 : tie.Need-returns
 returns-4 c =
-    let old = c.before.before.before in
-    let keyed = old.before in
-    rw (posted-not keyed.before, ne_eqb _ _ keyed.if2.false, ← old.posted-key-at.ensures, ← c.before.list-for.ensures, ← c.list-for2.ensures)
+    let old = c in
+    let keyed = old in
+    rw (posted-not keyed.before.before.before.before.before, ne_eqb _ _ keyed.if-keyed-eq0.false, ← old.posted_key_at-old.ensures, ← c.list_for.ensures, ← c.list_for-2.ensures)
 
-pub stays-listed-spec : {M : Type 1} → statement M
-stays-listed-spec =
+pub stays_listed_spec : {M : Type 1} → statement M
+stays_listed_spec =
     tie.close
     (tie.spec
     posted-at-requires

@@ -7,40 +7,40 @@ use Rattle.table.specs.Words.{field}
 use Rattle.table_postings.proofs.whole_posted_with.Statement.{statement}
 use Rattle.table_postings.proofs.whole_posted_with.Tie as tie
 
-mul-if1 : tie.Need-overflow-mul-if1
+mul-if1 : tie.Need-overflow_mul-row
 mul-if1 c = search rules
 
-add-if1 : tie.Need-overflow-add-if1
+add-if1 : tie.Need-overflow_add-row
 add-if1 c = search rules
 
-mul-if1-2 : tie.Need-overflow-mul-if1-2
+mul-if1-2 : tie.Need-offset_bounds-rows-row
 mul-if1-2 c = search rules
 
-shared-slice-read-if1 : tie.Need-shared-slice-read-if1
+shared-slice-read-if1 : tie.Need-bounds-rows-row
 shared-slice-read-if1 c = search rules
 
-returns : tie.Need-returns
+returns : tie.Need-returns-then-rows-row
 unfolding field
-returns c = rw (ne_eqb _ _ c.if1.true, and-false)
+returns c = rw (ne_eqb _ _ c.if-rows-row.true, and-false)
 
-mul-result : tie.Need-overflow-mul-result
+mul-result : tie.Need-overflow_mul-result
 mul-result c = search rules
 
-add-result : tie.Need-overflow-add-result
+add-result : tie.Need-overflow_add-result
 add-result c = search rules
 
-mul-result-2 : tie.Need-overflow-mul-result-2
+mul-result-2 : tie.Need-offset_bounds-rows-row-2
 mul-result-2 c = search rules
 
-shared-slice-read-result : tie.Need-shared-slice-read-result
+shared-slice-read-result : tie.Need-bounds-rows-row-2
 shared-slice-read-result c = search rules
 
-returns-2 : tie.Need-returns-2
+returns-2 : tie.Need-returns
 unfolding field
-returns-2 c = rw (eq-eqb _ _ c.before.if1.false, and-true)
+returns-2 c = rw (eq-eqb _ _ c.if-rows-row.false, and-true)
 
-pub whole-posted-with-spec : {M : Type 1} → statement M
-whole-posted-with-spec =
+pub whole_posted_with_spec : {M : Type 1} → statement M
+whole_posted_with_spec =
     tie.close
     (tie.spec
     mul-if1
