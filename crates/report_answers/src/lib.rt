@@ -1,4 +1,6 @@
 // An answer in numbers: document 01's number, and the values behind it.
+#![tactic(auto)]
+
 ghost use Rattle.std.specs.Prelude.{◌≡◌, ◌≤◌};
 ghost use Rattle.report_answers.specs.Answers.{verdict_held, number_held, value_held, held_of};
 

@@ -7,5 +7,5 @@ use Rattle.report_answers.proofs.number_alone.Tie as tie
 returns : tie.Need-returns
 returns c = search rules
 
-pub number-alone-spec : {M : Type 1} → statement M
-number-alone-spec = tie.close (tie.spec returns)
+pub number_alone_spec : {M : Type 1} → statement M
+number_alone_spec = tie.close (tie.spec returns)
