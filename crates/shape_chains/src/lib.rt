@@ -1,4 +1,6 @@
 // Pointers in range: heads at most the last used pointer, each next below its own.
+#![tactic(auto)]
+
 ghost use Rattle.std.specs.Prelude.{◌≡◌, true, ◌+◌, ◌*◌, ◌<◌, ◌≤◌, leb, ltb, length};
 ghost use Rattle.table.specs.Fields.{row_words, version_words, head_of, next_of};
 ghost use Rattle.shape_chains.specs.ChainsShape.{heads_in, nexts_fall, chains_fit};

@@ -6,38 +6,38 @@ use Rattle.shape_chains.proofs.four_heads_in.Statement.{statement}
 use Rattle.shape_chains.proofs.four_heads_in.Tie as tie
 
 -- the parameters
-abbrev start : tie.After-head-in → tie.Start
+abbrev start : tie.After-head_in → tie.Start
 start c = c.before.before
 
-head-in-requires : tie.Need-head-in-requires
+head-in-requires : tie.Need-head_in-requires
 head-in-requires c κs = search rules
 
-add-head-in : tie.Need-overflow-add-head-in
+add-head-in : tie.Need-overflow_add-r
 add-head-in c = search rules
 
-head-in-requires-2 : tie.Need-head-in-requires-2
+head-in-requires-2 : tie.Need-head_in-requires-2
 head-in-requires-2 c κs = search rules
 
-add-head-in-2 : tie.Need-overflow-add-head-in-2
+add-head-in-2 : tie.Need-overflow_add-r-2
 add-head-in-2 c = search rules
 
-head-in-requires-3 : tie.Need-head-in-requires-3
+head-in-requires-3 : tie.Need-head_in-requires-3
 head-in-requires-3 c κs = search rules
 
-add-head-in-3 : tie.Need-overflow-add-head-in-3
+add-head-in-3 : tie.Need-overflow_add-r-3
 add-head-in-3 c = search rules
 
-head-in-requires-4 : tie.Need-head-in-requires-4
+head-in-requires-4 : tie.Need-head_in-requires-4
 head-in-requires-4 c κs = search rules
 
 returns : tie.Need-returns
 returns c =
-    let first = c.before.before.before in
-    every-four _ (start first).args.r (start first).requires.1 first.head_in.ensures c.before.before.head-in2.ensures
-    c.before.head-in3.ensures c.head-in4.ensures
+    let first = c in
+    every-four _ (start first.before.before.before).args.r (start first.before.before.before).requires.1 first.head_in.ensures c.head_in-2.ensures
+    c.head_in-3.ensures c.head_in-4.ensures
 
-pub four-heads-in-spec : {M : Type 1} → statement M
-four-heads-in-spec =
+pub four_heads_in_spec : {M : Type 1} → statement M
+four_heads_in_spec =
     tie.close
     (tie.spec
     head-in-requires

@@ -8,47 +8,47 @@ use Rattle.shape_chains.proofs.four_nexts_fall.Statement.{statement}
 use Rattle.shape_chains.proofs.four_nexts_fall.Tie as tie
 
 -- the parameters
-abbrev start : tie.After-next-falls → tie.Start
+abbrev start : tie.After-next_falls → tie.Start
 start c = c.before.before
 
-add-next-falls : tie.Need-overflow-add-next-falls
+add-next-falls : tie.Need-overflow_add-p
 add-next-falls c = search rules
 
-next-falls-requires : tie.Need-next-falls-requires
+next-falls-requires : tie.Need-next_falls-requires
 next-falls-requires c κs = search rules
 
-add-next-falls-2 : tie.Need-overflow-add-next-falls-2
+add-next-falls-2 : tie.Need-overflow_add-p-2
 add-next-falls-2 c = search rules
 
-next-falls-requires-2 : tie.Need-next-falls-requires-2
+next-falls-requires-2 : tie.Need-next_falls-requires-2
 next-falls-requires-2 c κs = search rules
 
-add-next-falls-3 : tie.Need-overflow-add-next-falls-3
+add-next-falls-3 : tie.Need-overflow_add-p-3
 add-next-falls-3 c = search rules
 
-next-falls-requires-3 : tie.Need-next-falls-requires-3
+next-falls-requires-3 : tie.Need-next_falls-requires-3
 next-falls-requires-3 c κs = search rules
 
-add-next-falls-4 : tie.Need-overflow-add-next-falls-4
+add-next-falls-4 : tie.Need-overflow_add-p-4
 add-next-falls-4 c = search rules
 
-next-falls-requires-4 : tie.Need-next-falls-requires-4
+next-falls-requires-4 : tie.Need-next_falls-requires-4
 next-falls-requires-4 c κs = search rules
 
 returns : tie.Need-returns
 returns c =
-    let first = c.before.before.before in
-    let a = (start first).args in
+    let first = c in
+    let a = (start first.before.before.before).args in
     let v = a.versions.now in
     let p = a.p in
-    every-four _ p (start first).requires.1
-    (falls-behind v p (p + 1) (omega arith) first.next-falls.ensures)
-    (falls-behind v (p + 1) (p + 2) (omega arith) c.before.before.next-falls2.ensures)
-    (falls-behind v (p + 2) (p + 3) (omega arith) c.before.next-falls3.ensures)
-    (falls-behind v (p + 3) (p + 4) (omega arith) c.next-falls4.ensures)
+    every-four _ p (start first.before.before.before).requires.1
+    (falls-behind v p (p + 1) (omega arith) first.next_falls.ensures)
+    (falls-behind v (p + 1) (p + 2) (omega arith) c.next_falls-2.ensures)
+    (falls-behind v (p + 2) (p + 3) (omega arith) c.next_falls-3.ensures)
+    (falls-behind v (p + 3) (p + 4) (omega arith) c.next_falls-4.ensures)
 
-pub four-nexts-fall-spec : {M : Type 1} → statement M
-four-nexts-fall-spec =
+pub four_nexts_fall_spec : {M : Type 1} → statement M
+four_nexts_fall_spec =
     tie.close
     (tie.spec
     add-next-falls

@@ -10,75 +10,75 @@ use Rattle.shape_chains.proofs.Laws.{every-none, every-past, every-fewer, passed
 use Rattle.shape_chains.proofs.nexts_fall.Statement.{statement}
 use Rattle.shape_chains.proofs.nexts_fall.Tie as tie
 
-abbrev invariant-loop : tie.invariant-loop
+abbrev invariant-loop : tie.invariant-loop-i
 invariant-loop versions used last end fours i₀ i =
     (i ≤ fours) × (nexts_fall versions (4 * i) ≡ true)
 
-abbrev decreases-loop : tie.decreases-loop
+abbrev decreases-loop : tie.decreases-loop-i
 decreases-loop versions used last end fours i₀ i = fours - i
 
 -- the parameters
-abbrev start : tie.At-loop invariant-loop decreases-loop → tie.Start invariant-loop decreases-loop
+abbrev start : tie.At-loop-i invariant-loop decreases-loop → tie.Start invariant-loop decreases-loop
 start c = c.before.before.before.before
 
-returns : tie.Need-returns invariant-loop decreases-loop
+returns : tie.Need-returns-then-versions-le-NEXT invariant-loop decreases-loop
 returns c =
-    let a = c.before.before.args in
+    let a = c.args in
     sym (every-none _)
     ∙ every-past _ 0 a.used (omega arith) (λ p h k. next_past a.versions.now (suc p) (omega arith) (omega arith))
 
-sub-last : tie.Need-overflow-sub-last invariant-loop decreases-loop
+sub-last : tie.Need-overflow_sub-last invariant-loop decreases-loop
 sub-last c = search rules
 
-sub-last-2 : tie.Need-overflow-sub-last-2 invariant-loop decreases-loop
+sub-last-2 : tie.Need-overflow_sub-last-2 invariant-loop decreases-loop
 sub-last-2 c = search rules
 
-lesser-u64-requires : tie.Need-lesser-u64-requires invariant-loop decreases-loop
+lesser-u64-requires : tie.Need-lesser_u64-end-requires invariant-loop decreases-loop
 lesser-u64-requires c κs = search rules
 
-loop-holds : tie.Need-loop-init invariant-loop decreases-loop
+loop-holds : tie.Need-loop-i-init invariant-loop decreases-loop
 loop-holds c = (search rules, every-none _)
 
-mul-four-nexts-fall : tie.Need-overflow-mul-four-nexts-fall invariant-loop decreases-loop
+mul-four-nexts-fall : tie.Need-overflow_mul-i invariant-loop decreases-loop
 mul-four-nexts-fall c = search rules
 
-four-nexts-fall-requires : tie.Need-four-nexts-fall-requires invariant-loop decreases-loop
-four-nexts-fall-requires c κs = (omega arith, c.before.loop.invariant.1)
+four-nexts-fall-requires : tie.Need-four_nexts_fall-requires invariant-loop decreases-loop
+four-nexts-fall-requires c κs = (omega arith, c.loop-i.invariant.1)
 
-returns-2 : tie.Need-returns-2 invariant-loop decreases-loop
+returns-2 : tie.Need-returns-then-not-four_nexts_fall invariant-loop decreases-loop
 returns-2 c =
-    let at = c.before.before.before in
-    every-fewer _ (4 * at.loop.i + 4) (start at).args.used (omega arith) (failed c.before.four-nexts-fall.ensures c.if2.true)
+    let at = c in
+    every-fewer _ (4 * at.loop-i.i + 4) (start at.before.before.before).args.used (omega arith) (failed c.four_nexts_fall.ensures c.if-not-four_nexts_fall.true-raw)
 
-add-i : tie.Need-overflow-add-i invariant-loop decreases-loop
+add-i : tie.Need-overflow_add-i invariant-loop decreases-loop
 add-i c = search rules
 
-loop-less : tie.Need-loop-smaller invariant-loop decreases-loop
+loop-less : tie.Need-loop-i-smaller invariant-loop decreases-loop
 loop-less c = search rules
 
-loop-again : tie.Need-loop-preserved invariant-loop decreases-loop
+loop-again : tie.Need-loop-i-preserved invariant-loop decreases-loop
 loop-again c =
-    let i = c.before.before.before.loop.i in
+    let i = c.loop-i.i in
     let e : 4 * (i + 1) ≡ 4 * i + 4 = omega arith in
-    (omega arith, rw e (passed c.before.four-nexts-fall.ensures c.if2.false))
+    (omega arith, rw e (passed c.four_nexts_fall.ensures c.if-not-four_nexts_fall.false-raw))
 
-mul-nexts-from : tie.Need-overflow-mul-nexts-from invariant-loop decreases-loop
+mul-nexts-from : tie.Need-overflow_mul-fours invariant-loop decreases-loop
 mul-nexts-from c = search rules
 
-nexts-from-requires : tie.Need-nexts-from-requires invariant-loop decreases-loop
+nexts-from-requires : tie.Need-nexts_from-requires invariant-loop decreases-loop
 nexts-from-requires c κs =
-    let at = c.before in
-    let e : 4 * at.loop.i ≡ 4 * (at.before.lesser-u64.result / 4) = omega arith in
-    (omega arith, omega arith, rw (← e) at.loop.invariant.1)
+    let at = c in
+    let e : 4 * at.loop-i.i ≡ 4 * (at.lesser_u64-end.result / 4) = omega arith in
+    (omega arith, omega arith, rw (← e) at.loop-i.invariant.1)
 
-returns-3 : tie.Need-returns-3 invariant-loop decreases-loop
+returns-3 : tie.Need-returns invariant-loop decreases-loop
 returns-3 c =
     let a = (start c.before.before).args in
-    c.nexts-from.ensures
+    c.nexts_from.ensures
     ∙ every-past _ _ a.used (omega arith) (λ p h k. next_past a.versions.now (suc p) (omega arith) (omega arith))
 
-pub nexts-fall-spec : {M : Type 1} → statement M
-nexts-fall-spec =
+pub nexts_fall_spec : {M : Type 1} → statement M
+nexts_fall_spec =
     tie.close
     (tie.spec
     invariant-loop
