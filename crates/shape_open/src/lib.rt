@@ -1,4 +1,6 @@
 // What an open tests.
+#![tactic(auto)]
+
 ghost use Rattle.model.specs.Shape as model;
 ghost use Rattle.std.specs.Prelude.{◌≡◌};
 ghost use Rattle.model.specs.Machine.{can_open};

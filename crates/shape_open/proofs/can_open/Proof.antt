@@ -6,16 +6,16 @@ use borrow.Author.Rules.{rules}
 use Rattle.shape_open.proofs.can_open.Statement.{statement}
 use Rattle.shape_open.proofs.can_open.Tie as tie
 
-good-sizes-requires : tie.Need-good-sizes-requires
+good-sizes-requires : tie.Need-good_sizes-requires
 good-sizes-requires c κs = search rules
 
-returns : tie.Need-returns
+returns : tie.Need-returns-then-not-good_sizes
 unfolding can_open
-returns c = rw (← c.before.good-sizes.ensures, not-true c.before.good-sizes.result c.if1.true)
+returns c = rw (← c.good_sizes.ensures, not-true c.good_sizes.result c.if-not-good_sizes.true-raw)
 
-returns-2 : tie.Need-returns-2
+returns-2 : tie.Need-returns
 unfolding can_open
-returns-2 c = rw (← c.before.good-sizes.ensures, not-false c.before.good-sizes.result c.if1.false)
+returns-2 c = rw (← c.good_sizes.ensures, not-false c.good_sizes.result c.if-not-good_sizes.false-raw)
 
-pub can-open-spec : {M : Type 1} → statement M
-can-open-spec = tie.close (tie.spec good-sizes-requires returns returns-2)
+pub can_open_spec : {M : Type 1} → statement M
+can_open_spec = tie.close (tie.spec good-sizes-requires returns returns-2)
