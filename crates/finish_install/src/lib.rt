@@ -11,7 +11,7 @@ use txn::{PREPARED, Phase, Transaction, phase_rank};
 use txn_needs::versions::{MOST_PENDING, version_rows};
 
 // What install leaves beside the tables.
-#[derive(Drop)]
+#[derive(Clone, Copy)]
 pub struct Installed {
     pub answer: Answer,
     pub txn: Transaction,

@@ -9,7 +9,7 @@ use table_scans::{Found, latest_pending};
 use txn::Transaction;
 
 // How a row matches the key: not, through its last pending write, or through the version that the walk finds.
-#[derive(Drop)]
+#[derive(Clone, Copy)]
 pub enum Match {
     No,
     Write,
@@ -17,7 +17,7 @@ pub enum Match {
 }
 
 // Who reads what: the transaction, the key, the last used pointer, and the room for the rows.
-#[derive(Drop)]
+#[derive(Clone, Copy)]
 pub struct Reading {
     pub txn: Transaction,
     pub key: u64,

@@ -10,7 +10,7 @@ use table::{set_word, word, xmin_at};
 use table_scans::{active_contains, read_already_recorded};
 
 // How many read records there are then; TooMany where they would be more than 128.
-#[derive(Drop)]
+#[derive(Clone, Copy)]
 pub enum Recorded {
     TooMany,
     Kept(u32),

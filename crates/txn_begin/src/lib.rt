@@ -9,7 +9,7 @@ use table_chain::Snapshot;
 use txn::{Phase, Transaction};
 
 // The active numbers kept so far, and how many they are.
-#[derive(Drop)]
+#[derive(Clone, Copy)]
 pub struct Kept {
     pub active: [u64; MOST_ACTIVE],
     pub n: usize,
@@ -17,7 +17,7 @@ pub struct Kept {
 }
 
 // What begin leaves.
-#[derive(Drop)]
+#[derive(Clone, Copy)]
 pub struct Begun {
     pub answer: Answer,
     pub txn: Transaction,

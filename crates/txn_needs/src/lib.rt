@@ -17,14 +17,14 @@ use txn::{INSTALLED, Phase, Transaction, by_another, phase_rank};
 pub mod versions; // versions.rt: the rows that get a version
 
 // A key, or none where `keyed` is 0.
-#[derive(Drop)]
+#[derive(Clone, Copy)]
 pub struct Key {
     pub keyed: u64,
     pub key: u64,
 }
 
 // The old and the new key of a pending row.
-#[derive(Drop)]
+#[derive(Clone, Copy)]
 pub struct Keys {
     pub old: Key,
     pub new: Key,

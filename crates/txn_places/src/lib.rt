@@ -8,7 +8,7 @@ use base_protocol::Step;
 use txn::{ENDED, PREPARED, Transaction, idle};
 
 // Of each place: its number, 0 where it is free; its number while it is active; how many pending writes it has reserved versions for.
-#[derive(Drop)]
+#[derive(Clone, Copy)]
 pub struct Others {
     pub numbers: [u64; MOST_LIVE],
     pub active: [u64; MOST_LIVE],
