@@ -1,4 +1,6 @@
 // The read records that a read adds: one for each version whose pointer is not yet recorded.
+#![tactic(auto)]
+
 ghost use Rattle.std.specs.Prelude.{◌≡◌, cond, ◌+◌, ◌≤◌, ◌<◌, eqb, take, get_or};
 ghost use Rattle.base_limits.specs.Limits.{most_records, last_number};
 ghost use Rattle.read_record.specs.Recording.{known_pointers, planned, records_for, put_records, recorded_of};

@@ -1,4 +1,6 @@
 // Begin: a number from the clock, and the snapshot that is kept with it.
+#![tactic(auto)]
+
 ghost use Rattle.std.specs.Prelude.{◌≡◌};
 ghost use Rattle.txn_begin.specs.Begin.{keep_active, snapshot_of, spent, begin_of};
 

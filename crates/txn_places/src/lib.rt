@@ -1,4 +1,6 @@
 // The eight places of the live transactions: which one a step goes to, and what a step needs to know of the others.
+#![tactic(auto)]
+
 ghost use Rattle.std.specs.Prelude.{◌≡◌, ◌<◌};
 ghost use Rattle.base_limits.specs.Limits.{last_number};
 ghost use Rattle.txn_places.specs.Places.{wanted_of, is_begin, misses_of, place_in, active_by, prepared_by, one_live, live_in, free_places};
