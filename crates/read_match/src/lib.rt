@@ -1,4 +1,6 @@
 // The matching rule: how a row matches a transaction's key.
+#![tactic(auto)]
+
 ghost use Rattle.std.specs.Prelude.{◌≡◌};
 ghost use Rattle.read_match.specs.Matching.{look, carries, by_version, by_write, match_of};
 
