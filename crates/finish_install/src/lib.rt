@@ -1,4 +1,6 @@
 // Install: for each distinct pending row that gets a version, ascending, one from its last write.
+#![tactic(auto)]
+
 ghost use Rattle.std.specs.Prelude.{◌≡◌, take};
 ghost use Rattle.finish_install.specs.Install.{last_write_of, version_stored, pushed_row, pushed_rows, install_of};
 
