@@ -1,4 +1,6 @@
 // A log replayed into a report, over tables of its own or lent ones: the functions that a host calls.
+#![tactic(auto)]
+
 ghost use Rattle.std.specs.Prelude.{◌≡◌, ◌≤◌, min, length};
 ghost use Rattle.step.specs.Steps.{Tables};
 ghost use Rattle.model.specs.Replay.{replay, packed, reported, most_room};
@@ -224,8 +226,7 @@ fn replay_open(
 }
 
 // Replays a log into a report, over lent tables, whatever stands in them: status × 4,294,967,296 + bytes written.
-#[unsafe(no_mangle)]
-pub extern "C" fn toruxeng_replay_lent(
+pub fn toruxeng_replay_lent(
     log: &[u8],
     report: &mut [u8],
     rows: &mut [u64],
@@ -246,8 +247,7 @@ pub extern "C" fn toruxeng_replay_lent(
 }
 
 // The same over tables of its own, of the greatest size.
-#[unsafe(no_mangle)]
-pub extern "C" fn toruxeng_replay(log: &[u8], report: &mut [u8]) -> u64
+pub fn toruxeng_replay(log: &[u8], report: &mut [u8]) -> u64
     ensures { (result ≡ packed (replay log.now (length report.old)))
         × (report.new ≡ reported (replay log.now (length report.old)) report.old) }
 {
