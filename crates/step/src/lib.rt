@@ -14,7 +14,7 @@ use txn_places::{Others, live_count, misses};
 use write_prepare::{prepare, validate};
 
 // What a step finds beside the tables: how far the store reaches, the other places, and the transaction at its own.
-#[derive(Drop)]
+#[derive(Clone, Copy)]
 pub struct Place {
     pub extent: Extent,
     pub others: Others,
@@ -22,14 +22,14 @@ pub struct Place {
 }
 
 // The same without the transaction.
-#[derive(Drop)]
+#[derive(Clone, Copy)]
 pub struct Beside {
     pub extent: Extent,
     pub others: Others,
 }
 
 // What a step leaves beside the tables.
-#[derive(Drop)]
+#[derive(Clone, Copy)]
 pub struct Stepped {
     pub answer: Answer,
     pub txn: Transaction,
@@ -38,7 +38,7 @@ pub struct Stepped {
 }
 
 // What a step leaves beside the tables that keeps its transaction: clock, number and snapshot stay.
-#[derive(Drop)]
+#[derive(Clone, Copy)]
 pub struct Kept {
     pub answer: Answer,
     pub rest: Rest,
