@@ -1,4 +1,6 @@
 // One step: the transaction at its place, the lent tables, and what the step needs to know of the other places.
+#![tactic(auto)]
+
 ghost use Rattle.std.specs.Prelude.{◌≡◌, []};
 ghost use Rattle.txn.specs.Methods.{whole_of};
 ghost use Rattle.step.specs.Steps.{with_clock, with_begun, kept_by, kept_installed, with_kept, clock_after, publish_step, keeps_of, in_published};
