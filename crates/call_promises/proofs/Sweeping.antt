@@ -10,7 +10,7 @@ use native.Mathlib.Omega.{arith}
 use lib.Dec.{eqb}
 use lib.ListN.{length}
 use Rattle.base_lists.specs.Lists.{member, Among}
-use Rattle.base_lists.specs.Table.{cond-elim}
+use Rattle.base_lists.proofs.TableLaws.{cond-elim}
 use Rattle.base_lists.proofs.ListLaws.{among-left, among-right, among-last}
 use Rattle.model.specs.Store as model
 use Rattle.model.specs.Steps.{release, freed}
