@@ -1,7 +1,7 @@
 // What a store is asked for, and what it answers.
 
 // The sizes that a store is opened with.
-#[derive(Drop)]
+#[derive(Clone, Copy)]
 pub struct Sizes {
     pub rows: u64,
     pub versions: u64,
@@ -9,7 +9,7 @@ pub struct Sizes {
 }
 
 // How far a store reaches: its sizes, its clock, its last used pointer.
-#[derive(Drop)]
+#[derive(Clone, Copy)]
 pub struct Extent {
     pub sizes: Sizes,
     pub clock: u64,
@@ -17,7 +17,7 @@ pub struct Extent {
 }
 
 // The steps of document 01; `number` is the transaction's.
-#[derive(Drop)]
+#[derive(Clone, Copy)]
 pub enum Step {
     Begin,
     Capture {
@@ -62,7 +62,7 @@ pub enum Step {
 }
 
 // No conflict; a bucket with its captured and its present stamp; a row with the pointer it was read at; the mark.
-#[derive(Drop)]
+#[derive(Clone, Copy)]
 pub enum Verdict {
     Clear,
     Bucket {
@@ -78,7 +78,7 @@ pub enum Verdict {
 }
 
 // What a step answers. The rows that were found stand in the lent list; a refusal carries its number.
-#[derive(Drop)]
+#[derive(Clone, Copy)]
 pub enum Answer {
     Done,
     Number(u64),

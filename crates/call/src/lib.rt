@@ -13,7 +13,7 @@ use table::{BUCKET_WORDS, ROW_WORDS, VERSION_WORDS, release_every, unclaim_every
 use txn_places::{free_places, place_of, wanted};
 
 // An answer, with the machine that goes back.
-#[derive(Drop)]
+#[derive(Clone, Copy)]
 pub struct Called {
     pub answer: Answer,
     pub machine: Machine,

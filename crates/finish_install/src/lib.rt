@@ -1,4 +1,6 @@
 // Install: for each distinct pending row that gets a version, ascending, one from its last write.
+#![tactic(auto)]
+
 ghost use Rattle.std.specs.Prelude.{◌≡◌, take};
 ghost use Rattle.finish_install.specs.Install.{last_write_of, version_stored, pushed_row, pushed_rows, install_of};
 
@@ -11,7 +13,7 @@ use txn::{PREPARED, Phase, Transaction, phase_rank};
 use txn_needs::versions::{MOST_PENDING, version_rows};
 
 // What install leaves beside the tables.
-#[derive(Drop)]
+#[derive(Clone, Copy)]
 pub struct Installed {
     pub answer: Answer,
     pub txn: Transaction,

@@ -1,4 +1,6 @@
 // End, publish and abort: a transaction's last steps.
+#![tactic(auto)]
+
 ghost use Rattle.std.specs.Prelude.{◌≡◌};
 ghost use Rattle.txn_needs.specs.Needs.{written_by};
 ghost use Rattle.finish_publish.specs.Publish.{end_of, posted_one, posted_all, stamped_in, held_into, publish_of, abort_of};

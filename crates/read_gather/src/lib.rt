@@ -1,4 +1,6 @@
 // The rows that a read looks at: candidates joined with own pending rows.
+#![tactic(auto)]
+
 ghost use Rattle.std.specs.Prelude.{◌≡◌, ◌≤◌, ◌<◌};
 ghost use Rattle.base_limits.specs.Limits.{most_rows};
 ghost use Rattle.read_gather.specs.Gathering.{candidate_rows, written_rows, wanted_rows, most_wanted, keep_below, copied};

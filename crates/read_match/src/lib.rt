@@ -1,4 +1,6 @@
 // The matching rule: how a row matches a transaction's key.
+#![tactic(auto)]
+
 ghost use Rattle.std.specs.Prelude.{◌≡◌};
 ghost use Rattle.read_match.specs.Matching.{look, carries, by_version, by_write, match_of};
 
@@ -9,7 +11,7 @@ use table_scans::{Found, latest_pending};
 use txn::Transaction;
 
 // How a row matches the key: not, through its last pending write, or through the version that the walk finds.
-#[derive(Drop)]
+#[derive(Clone, Copy)]
 pub enum Match {
     No,
     Write,
@@ -17,7 +19,7 @@ pub enum Match {
 }
 
 // Who reads what: the transaction, the key, the last used pointer, and the room for the rows.
-#[derive(Drop)]
+#[derive(Clone, Copy)]
 pub struct Reading {
     pub txn: Transaction,
     pub key: u64,

@@ -1,4 +1,6 @@
 // The read records that a read adds: one for each version whose pointer is not yet recorded.
+#![tactic(auto)]
+
 ghost use Rattle.std.specs.Prelude.{◌≡◌, cond, ◌+◌, ◌≤◌, ◌<◌, eqb, take, get_or};
 ghost use Rattle.base_limits.specs.Limits.{most_records, last_number};
 ghost use Rattle.read_record.specs.Recording.{known_pointers, planned, records_for, put_records, recorded_of};
@@ -10,7 +12,7 @@ use table::{set_word, word, xmin_at};
 use table_scans::{active_contains, read_already_recorded};
 
 // How many read records there are then; TooMany where they would be more than 128.
-#[derive(Drop)]
+#[derive(Clone, Copy)]
 pub enum Recorded {
     TooMany,
     Kept(u32),

@@ -24,7 +24,7 @@ mod stop; // stop.rt: how a replay stops
 const HALF: u64 = 4294967296;
 
 // A replay behind its open: the sizes and the clock that it was opened with, where its next record stands, the bytes of its report so far.
-#[derive(Drop)]
+#[derive(Clone, Copy)]
 struct Opened {
     sizes: Sizes,
     clock: u64,

@@ -6,7 +6,7 @@ use base_protocol::{MALFORMED, NO_ROOM};
 use report::{Wrote, bad_line, open_line};
 
 // How a replay stops: its status, and how many bytes of the report it wrote.
-#[derive(Drop)]
+#[derive(Clone, Copy)]
 pub struct Stopped {
     pub status: u64,
     pub wrote: usize,

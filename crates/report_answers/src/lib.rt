@@ -7,7 +7,7 @@ ghost use Rattle.report_answers.specs.Answers.{verdict_held, number_held, value_
 use base_protocol::{Answer, Verdict};
 
 // An answer in numbers: the first `count` of the list, and then the first `rows` of the lent rows.
-#[derive(Drop)]
+#[derive(Clone, Copy)]
 pub struct Numbers {
     pub list: [u64; 5],
     pub count: usize,

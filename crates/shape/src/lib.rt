@@ -19,7 +19,7 @@ use txn_needs::versions::reserved;
 use txn_places::{Others, active_number, live_count, prepared_count};
 
 // A store beside its lent tables: sizes, clock, last used pointer, and the eight records.
-#[derive(Drop)]
+#[derive(Clone, Copy)]
 pub struct Machine {
     pub sizes: Sizes,
     pub clock: u64,

@@ -1,4 +1,6 @@
 // Whether each list has exactly the rows posted with its keys, ascending.
+#![tactic(auto)]
+
 ghost use Rattle.std.specs.Prelude.{◌≡◌, true, ◌+◌, ◌<◌};
 ghost use Rattle.base_lists.specs.Lists.{every};
 ghost use Rattle.table_postings.specs.Links.{named_before, ends_at};

@@ -1,4 +1,6 @@
 // What the shape asks of one transaction's record and its lists.
+#![tactic(auto)]
+
 ghost use Rattle.std.specs.Prelude.{◌≡◌};
 ghost use Rattle.shape_txn.specs.TxnShape.{counts_fit, writes_in, record_in, records_in, candidates_in, reads_in, ranges_fit, row_fits, rows_headed, heads_fit};
 ghost use Rattle.shape_txn.specs.TxnShape.{txn_fits, place_fits};

@@ -1,4 +1,6 @@
 // One step: the transaction at its place, the lent tables, and what the step needs to know of the other places.
+#![tactic(auto)]
+
 ghost use Rattle.std.specs.Prelude.{◌≡◌, []};
 ghost use Rattle.txn.specs.Methods.{whole_of};
 ghost use Rattle.step.specs.Steps.{with_clock, with_begun, kept_by, kept_installed, with_kept, clock_after, publish_step, keeps_of, in_published};
@@ -14,7 +16,7 @@ use txn_places::{Others, live_count, misses};
 use write_prepare::{prepare, validate};
 
 // What a step finds beside the tables: how far the store reaches, the other places, and the transaction at its own.
-#[derive(Drop)]
+#[derive(Clone, Copy)]
 pub struct Place {
     pub extent: Extent,
     pub others: Others,
@@ -22,14 +24,14 @@ pub struct Place {
 }
 
 // The same without the transaction.
-#[derive(Drop)]
+#[derive(Clone, Copy)]
 pub struct Beside {
     pub extent: Extent,
     pub others: Others,
 }
 
 // What a step leaves beside the tables.
-#[derive(Drop)]
+#[derive(Clone, Copy)]
 pub struct Stepped {
     pub answer: Answer,
     pub txn: Transaction,
@@ -38,7 +40,7 @@ pub struct Stepped {
 }
 
 // What a step leaves beside the tables that keeps its transaction: clock, number and snapshot stay.
-#[derive(Drop)]
+#[derive(Clone, Copy)]
 pub struct Kept {
     pub answer: Answer,
     pub rest: Rest,

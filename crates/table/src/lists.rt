@@ -27,13 +27,13 @@ pub const CANDIDATES_AT: usize = RECORDS_AT + RECORD_WORDS * (MOST_RECORDS as us
 pub const SLOT_WORDS: usize = CANDIDATES_AT + CANDIDATE_WORDS * MOST_ROWS;
 
 // An index read, a pending write (keyed 0 for an erase), a read record.
-#[derive(Drop)]
+#[derive(Clone, Copy)]
 pub struct IndexRead {
     pub bucket: u64,
     pub stamp: u64,
 }
 
-#[derive(Drop)]
+#[derive(Clone, Copy)]
 pub struct Write {
     pub row: u64,
     pub keyed: u64,
@@ -41,7 +41,7 @@ pub struct Write {
     pub payload: u64,
 }
 
-#[derive(Drop)]
+#[derive(Clone, Copy)]
 pub struct ReadRecord {
     pub row: u64,
     pub ptr: u64,

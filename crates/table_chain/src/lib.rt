@@ -11,7 +11,7 @@ use table::{NEXT, VERSION_WORDS, XMAX, XMIN};
 use table_scans::{active_contains, least_of};
 
 // The active numbers are the first active_n of `active`; xmin is the least of them and of the own number.
-#[derive(Drop)]
+#[derive(Clone, Copy)]
 pub struct Snapshot {
     pub xmin: u64,
     pub xmax: u64,
@@ -20,7 +20,7 @@ pub struct Snapshot {
 }
 
 // The pointer of a version, or none.
-#[derive(Drop)]
+#[derive(Clone, Copy)]
 pub enum Pointer {
     At(u64),
     Nothing,

@@ -10,7 +10,7 @@ use base_numbers::{lesser_u32, lesser_u64};
 use table::lists::{read_bucket_at, record_ptr_at, write_row_at};
 
 // A place in a list, counted from 0, or none.
-#[derive(Drop)]
+#[derive(Clone, Copy)]
 pub enum Found {
     At(u32),
     Nothing,

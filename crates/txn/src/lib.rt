@@ -1,4 +1,6 @@
 // The transaction's record: it goes in by value and comes back; its lists stand in its slot of the lent lists.
+#![tactic(auto)]
+
 ghost use Rattle.std.specs.Prelude.{◌≡◌, false};
 ghost use Rattle.model.specs.Store.{rank, bucket_in, key_in};
 ghost use Rattle.txn.specs.View.{phase_view};
@@ -15,7 +17,7 @@ use table_postings::keep_posted;
 use table_scans::{Found, find_read_prefix};
 
 // The phase carries its bucket and key.
-#[derive(Drop)]
+#[derive(Clone, Copy)]
 pub enum Phase {
     Open,
     Holding { bucket: u64, key: u64 },
@@ -26,7 +28,7 @@ pub enum Phase {
 }
 
 // Number 0 marks a free place.
-#[derive(Drop)]
+#[derive(Clone, Copy)]
 pub struct Transaction {
     pub number: u64,
     pub snapshot: Snapshot,
@@ -40,7 +42,7 @@ pub struct Transaction {
 }
 
 // A record without its number, its snapshot and its slot, in words: what a step may change that keeps its transaction.
-#[derive(Drop)]
+#[derive(Clone, Copy)]
 pub struct Rest {
     pub marked: u64,
     pub rank: u64,
@@ -53,7 +55,7 @@ pub struct Rest {
 }
 
 // A record in parts.
-#[derive(Drop)]
+#[derive(Clone, Copy)]
 pub struct Parts {
     pub number: u64,
     pub snapshot: Snapshot,
@@ -62,7 +64,7 @@ pub struct Parts {
 }
 
 // An answer, with the record that goes back.
-#[derive(Drop)]
+#[derive(Clone, Copy)]
 pub struct Answered {
     pub answer: Answer,
     pub txn: Transaction,

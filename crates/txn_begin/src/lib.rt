@@ -1,4 +1,6 @@
 // Begin: a number from the clock, and the snapshot that is kept with it.
+#![tactic(auto)]
+
 ghost use Rattle.std.specs.Prelude.{◌≡◌};
 ghost use Rattle.txn_begin.specs.Begin.{keep_active, snapshot_of, spent, begin_of};
 
@@ -9,7 +11,7 @@ use table_chain::Snapshot;
 use txn::{Phase, Transaction};
 
 // The active numbers kept so far, and how many they are.
-#[derive(Drop)]
+#[derive(Clone, Copy)]
 pub struct Kept {
     pub active: [u64; MOST_ACTIVE],
     pub n: usize,
@@ -17,7 +19,7 @@ pub struct Kept {
 }
 
 // What begin leaves.
-#[derive(Drop)]
+#[derive(Clone, Copy)]
 pub struct Begun {
     pub answer: Answer,
     pub txn: Transaction,

@@ -1,4 +1,6 @@
 // Holders of buckets and claims of rows: what a transaction needs, whether another has it, taking it and freeing it.
+#![tactic(auto)]
+
 ghost use Rattle.std.specs.Prelude.{◌≡◌, take};
 ghost use Rattle.model.specs.Store.{same_key};
 ghost use Rattle.txn_needs.specs.Keys.{gets_version_of, headed_by, key_of, version_key, is_installed, old_key_of, new_key_of, keys_of, changed_keys};
@@ -17,14 +19,14 @@ use txn::{INSTALLED, Phase, Transaction, by_another, phase_rank};
 pub mod versions; // versions.rt: the rows that get a version
 
 // A key, or none where `keyed` is 0.
-#[derive(Drop)]
+#[derive(Clone, Copy)]
 pub struct Key {
     pub keyed: u64,
     pub key: u64,
 }
 
 // The old and the new key of a pending row.
-#[derive(Drop)]
+#[derive(Clone, Copy)]
 pub struct Keys {
     pub old: Key,
     pub new: Key,

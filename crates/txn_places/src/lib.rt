@@ -1,4 +1,6 @@
 // The eight places of the live transactions: which one a step goes to, and what a step needs to know of the others.
+#![tactic(auto)]
+
 ghost use Rattle.std.specs.Prelude.{◌≡◌, ◌<◌};
 ghost use Rattle.base_limits.specs.Limits.{last_number};
 ghost use Rattle.txn_places.specs.Places.{wanted_of, is_begin, misses_of, place_in, active_by, prepared_by, one_live, live_in, free_places};
@@ -8,7 +10,7 @@ use base_protocol::Step;
 use txn::{ENDED, PREPARED, Transaction, idle};
 
 // Of each place: its number, 0 where it is free; its number while it is active; how many pending writes it has reserved versions for.
-#[derive(Drop)]
+#[derive(Clone, Copy)]
 pub struct Others {
     pub numbers: [u64; MOST_LIVE],
     pub active: [u64; MOST_LIVE],

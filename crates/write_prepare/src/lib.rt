@@ -1,4 +1,6 @@
 // Validate and prepare: the verdict once nobody else has what the transaction needs; then it takes it all.
+#![tactic(auto)]
+
 ghost use Rattle.std.specs.Prelude.{◌≡◌};
 ghost use Rattle.write_prepare.specs.Prepare.{reads_taken_in, validate_of, is_clear, lacks, needed_into, prepare_of};
 

@@ -1,4 +1,6 @@
 // The verdict on a transaction: the mark, the first index read whose bucket changed, the first read record that changed.
+#![tactic(auto)]
+
 ghost use Rattle.std.specs.Prelude.{◌≡◌};
 ghost use Rattle.txn.specs.View.{read_view};
 ghost use Rattle.model.specs.Verdict.{bad_read};

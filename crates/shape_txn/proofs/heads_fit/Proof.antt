@@ -6,19 +6,19 @@ use borrow.Author.Rules.{rules}
 use Rattle.shape_txn.proofs.heads_fit.Statement.{statement}
 use Rattle.shape_txn.proofs.heads_fit.Tie as tie
 
-phase-rank-requires : tie.Need-phase-rank-requires
+phase-rank-requires : tie.Need-phase_rank-requires
 phase-rank-requires c κs = search rules
 
-returns : tie.Need-returns
+returns : tie.Need-returns-then-phase_rank-lt-INSTALLED
 unfolding heads_fit
-returns c = rw (← c.before.phase-rank.ensures, lt-ltb _ _ c.if1.true)
+returns c = rw (← c.phase_rank.ensures, lt-ltb _ _ c.if-phase_rank-lt-INSTALLED.true)
 
-rows-headed-requires : tie.Need-rows-headed-requires
+rows-headed-requires : tie.Need-rows_headed-requires
 rows-headed-requires c κs = search rules
 
-returns-2 : tie.Need-returns-2
+returns-2 : tie.Need-returns
 unfolding heads_fit
-returns-2 c = rw (← c.before.before.phase-rank.ensures, le-ltb _ _ c.before.if1.false, ← c.rows-headed.ensures)
+returns-2 c = rw (← c.phase_rank.ensures, le-ltb _ _ c.if-phase_rank-lt-INSTALLED.false, ← c.rows_headed.ensures)
 
-pub heads-fit-spec : {M : Type 1} → statement M
-heads-fit-spec = tie.close (tie.spec phase-rank-requires returns rows-headed-requires returns-2)
+pub heads_fit_spec : {M : Type 1} → statement M
+heads_fit_spec = tie.close (tie.spec phase-rank-requires returns rows-headed-requires returns-2)

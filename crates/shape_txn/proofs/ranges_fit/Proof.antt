@@ -28,65 +28,65 @@ abbrev bucket : tie.Start → Bool
 bucket s = let a = s.args in ltb (bucket_in (phase_view a.t.phase)) a.extent.sizes.buckets
 
 -- what was given, from each place
-abbrev given1 : tie.Else1 → tie.Start
+abbrev given1 : tie.Else-not-writes_in → tie.Start
 given1 c = c.before.before.before.before
 
-abbrev given2 : tie.Else2 → tie.Start
-given2 c = given1 c.before.before
+abbrev given2 : tie.Else-not-records_in → tie.Start
+given2 c = c.before.before.before.before.before.before
 
-abbrev given3 : tie.Else3 → tie.Start
-given3 c = given2 c.before.before
+abbrev given3 : tie.Else-not-candidates_in → tie.Start
+given3 c = c.before.before.before.before.before.before.before.before
 
-abbrev given4 : tie.Else4 → tie.Start
-given4 c = given3 c.before.before
+abbrev given4 : tie.Else-not-reads_in → tie.Start
+given4 c = c.before.before.before.before.before.before.before.before.before.before
 
 -- what is left past each test
-past-writes : (c : tie.Else1) → let s = given1 c in ranges s ≡ records s && candidates s && reads s && bucket s
+past-writes : (c : tie.Else-not-writes_in) → let s = given1 c in ranges s ≡ records s && candidates s && reads s && bucket s
 unfolding ranges_fit
-past-writes c = rw (passed c.before.writes-in.ensures c.if1.false)
+past-writes c = rw (passed c.writes_in.ensures c.if-not-writes_in.false-raw)
 
-past-records : (c : tie.Else2) → let s = given2 c in ranges s ≡ candidates s && reads s && bucket s
-past-records c = past-writes c.before.before ∙ rw (passed c.before.records-in.ensures c.if2.false)
+past-records : (c : tie.Else-not-records_in) → let s = given2 c in ranges s ≡ candidates s && reads s && bucket s
+past-records c = past-writes c.before.before ∙ rw (passed c.records_in.ensures c.if-not-records_in.false-raw)
 
-past-candidates : (c : tie.Else3) → let s = given3 c in ranges s ≡ reads s && bucket s
-past-candidates c = past-records c.before.before ∙ rw (passed c.before.candidates-in.ensures c.if3.false)
+past-candidates : (c : tie.Else-not-candidates_in) → let s = given3 c in ranges s ≡ reads s && bucket s
+past-candidates c = past-records c.before.before ∙ rw (passed c.candidates_in.ensures c.if-not-candidates_in.false-raw)
 
-past-reads : (c : tie.Else4) → ranges (given4 c) ≡ bucket (given4 c)
-past-reads c = past-candidates c.before.before ∙ rw (passed c.before.reads_in.ensures c.if4.false)
+past-reads : (c : tie.Else-not-reads_in) → ranges (given4 c) ≡ bucket (given4 c)
+past-reads c = past-candidates c.before.before ∙ rw (passed c.reads_in.ensures c.if-not-reads_in.false-raw)
 
-writes-in-requires : tie.Need-writes-in-requires
+writes-in-requires : tie.Need-writes_in-requires
 writes-in-requires c κs = search rules
 
-returns : tie.Need-returns
+returns : tie.Need-returns-then-not-writes_in
 unfolding ranges_fit
-returns c = rw (failed c.before.writes-in.ensures c.if1.true)
+returns c = rw (failed c.writes_in.ensures c.if-not-writes_in.true-raw)
 
-records-in-requires : tie.Need-records-in-requires
+records-in-requires : tie.Need-records_in-requires
 records-in-requires c κs = search rules
 
-returns-2 : tie.Need-returns-2
-returns-2 c = rw (past-writes c.before.before, failed c.before.records-in.ensures c.if2.true)
+returns-2 : tie.Need-returns-then-not-records_in
+returns-2 c = rw (past-writes c.before.before, failed c.records_in.ensures c.if-not-records_in.true-raw)
 
-candidates-in-requires : tie.Need-candidates-in-requires
+candidates-in-requires : tie.Need-candidates_in-requires
 candidates-in-requires c κs = search rules
 
-returns-3 : tie.Need-returns-3
-returns-3 c = rw (past-records c.before.before, failed c.before.candidates-in.ensures c.if3.true)
+returns-3 : tie.Need-returns-then-not-candidates_in
+returns-3 c = rw (past-records c.before.before, failed c.candidates_in.ensures c.if-not-candidates_in.true-raw)
 
-reads-in-requires : tie.Need-reads-in-requires
+reads-in-requires : tie.Need-reads_in-requires
 reads-in-requires c κs = search rules
 
-returns-4 : tie.Need-returns-4
-returns-4 c = rw (past-candidates c.before.before, failed c.before.reads_in.ensures c.if4.true)
+returns-4 : tie.Need-returns-then-not-reads_in
+returns-4 c = rw (past-candidates c.before.before, failed c.reads_in.ensures c.if-not-reads_in.true-raw)
 
-bucket-in-requires : tie.Need-bucket-in-requires
+bucket-in-requires : tie.Need-bucket_in-requires
 bucket-in-requires c κs = search rules
 
-returns-5 : tie.Need-returns-5
-returns-5 c = rw (past-reads c.before.before, ← c.before.bucket-in.ensures)
+returns-5 : tie.Need-returns
+returns-5 c = rw (past-reads c.before.before, ← c.bucket_in.ensures)
 
-pub ranges-fit-spec : {M : Type 1} → statement M
-ranges-fit-spec =
+pub ranges_fit_spec : {M : Type 1} → statement M
+ranges_fit_spec =
     tie.close
     (tie.spec
     writes-in-requires

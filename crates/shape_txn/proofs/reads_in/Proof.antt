@@ -13,56 +13,45 @@ use Rattle.table.specs.Lists.{read_at}
 use Rattle.shape_txn.proofs.reads_in.Statement.{statement}
 use Rattle.shape_txn.proofs.reads_in.Tie as tie
 
-abbrev invariant-loop : tie.invariant-loop
+abbrev invariant-loop : tie.invariant-loop-i
 invariant-loop lists t bucket-count i₀ i = (i ≤ t.reads_n) × (every i (λ j. ltb (read_at lists t.slot j).bucket bucket-count) ≡ true)
 
-abbrev decreases-loop : tie.decreases-loop
+abbrev decreases-loop : tie.decreases-loop-i
 decreases-loop lists t bucket-count i₀ i = t.reads_n - i
 
 -- the parameters, and the test of one entry
-abbrev entered : tie.At-loop invariant-loop decreases-loop → tie.Start invariant-loop decreases-loop
+abbrev entered : tie.At-loop-i invariant-loop decreases-loop → tie.Start invariant-loop decreases-loop
 entered c = c.before.before
 
-abbrev fits : tie.At-loop invariant-loop decreases-loop → ℕ → Bool
-fits c j = let a = (entered c).args in ltb (read_at a.lists.now a.t.slot j).bucket a.bucket-count
+abbrev fits : tie.At-loop-i invariant-loop decreases-loop → ℕ → Bool
+fits c j = let a = (entered c).args in ltb (read_at a.lists.now a.t.slot j).bucket a.bucket_count
 
-loop-holds : tie.Need-loop-init invariant-loop decreases-loop
+loop-holds : tie.Need-loop-i-init invariant-loop decreases-loop
 loop-holds c = (search rules, every-none _)
 
-read-bucket-at-requires : tie.Need-read-bucket-at-requires invariant-loop decreases-loop
+read-bucket-at-requires : tie.Need-read_bucket_at-requires invariant-loop decreases-loop
 read-bucket-at-requires c κs = search rules
 
-returns : tie.Need-returns invariant-loop decreases-loop
+returns : tie.Need-returns-then-read_bucket_at-bucket_count invariant-loop decreases-loop
 returns c =
-    let at = c.before.before.before.before in
-    every-fails (fits at) at.loop.i (entered at).args.t.reads_n (omega arith) (rw (← c.before.read-bucket-at.ensures) (le-ltb _ _ c.if2.true))
+    let at = c in
+    every-fails (fits at.before.before.before.before) at.loop-i.i (entered at.before.before.before.before).args.t.reads_n (omega arith) (rw (← c.read_bucket_at.ensures) (le-ltb _ _ c.if-read_bucket_at-bucket_count.true))
 
-add-i : tie.Need-overflow-add-i invariant-loop decreases-loop
+add-i : tie.Need-overflow_add-i invariant-loop decreases-loop
 add-i c = search rules
 
-loop-less : tie.Need-loop-smaller invariant-loop decreases-loop
+loop-less : tie.Need-loop-i-smaller invariant-loop decreases-loop
 loop-less c = search rules
 
-loop-again : tie.Need-loop-preserved invariant-loop decreases-loop
+loop-again : tie.Need-loop-i-preserved invariant-loop decreases-loop
 loop-again c =
-    let at = c.before.before.before.before in
-    (omega arith, every-next (fits at) at.loop.i at.loop.invariant.1 (rw (← c.before.read-bucket-at.ensures) (lt-ltb _ _ c.if2.false)))
+    let at = c in
+    (omega arith, every-next (fits at.before.before.before.before) at.loop-i.i at.loop-i.invariant.1 (rw (← c.read_bucket_at.ensures) (lt-ltb _ _ c.if-read_bucket_at-bucket_count.false)))
 
-returns-2 : tie.Need-returns-2 invariant-loop decreases-loop
+returns-2 : tie.Need-returns invariant-loop decreases-loop
 returns-2 c =
-    let at = c.before.before in
-    every-done (fits at) at.loop.i (entered at).args.t.reads_n (omega arith) (omega arith) at.loop.invariant.1
+    let at = c in
+    every-done (fits at.before.before) at.loop-i.i (entered at.before.before).args.t.reads_n (omega arith) (omega arith) at.loop-i.invariant.1
 
-pub reads-in-spec : {M : Type 1} → statement M
-reads-in-spec =
-    tie.close
-    (tie.spec
-    invariant-loop
-    decreases-loop
-    loop-holds
-    read-bucket-at-requires
-    returns
-    add-i
-    loop-less
-    loop-again
-    returns-2)
+pub reads_in_spec : {M : Type 1} → statement M
+reads_in_spec = tie.close (tie.spec invariant-loop decreases-loop loop-holds read-bucket-at-requires returns add-i loop-less loop-again returns-2)

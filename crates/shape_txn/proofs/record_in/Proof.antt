@@ -5,14 +5,14 @@ use borrow.Author.Rules.{rules}
 use Rattle.shape_txn.proofs.record_in.Statement.{statement}
 use Rattle.shape_txn.proofs.record_in.Tie as tie
 
-returns : tie.Need-returns
-returns c = rw (le-ltb _ _ c.if1.true)
+returns : tie.Need-returns-then-row-row_count
+returns c = rw (le-ltb _ _ c.if-row-row_count.true)
 
 within-requires : tie.Need-within-requires
 within-requires c κs = search rules
 
-returns-2 : tie.Need-returns-2
-returns-2 c = rw (lt-ltb _ _ c.before.if1.false, ← c.within.ensures)
+returns-2 : tie.Need-returns
+returns-2 c = rw (lt-ltb _ _ c.if-row-row_count.false, ← c.within.ensures)
 
-pub record-in-spec : {M : Type 1} → statement M
-record-in-spec = tie.close (tie.spec returns within-requires returns-2)
+pub record_in_spec : {M : Type 1} → statement M
+record_in_spec = tie.close (tie.spec returns within-requires returns-2)

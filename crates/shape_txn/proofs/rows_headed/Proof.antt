@@ -13,55 +13,55 @@ use Rattle.shape_txn.specs.TxnShape.{row_fits}
 use Rattle.shape_txn.proofs.rows_headed.Statement.{statement}
 use Rattle.shape_txn.proofs.rows_headed.Tie as tie
 
-abbrev invariant-loop : tie.invariant-loop
+abbrev invariant-loop : tie.invariant-loop-i
 invariant-loop rows versions lists t i₀ i = (i ≤ t.writes_n) × (every i (λ j. row_fits rows versions lists t (write_at lists t.slot j).row) ≡ true)
 
-abbrev decreases-loop : tie.decreases-loop
+abbrev decreases-loop : tie.decreases-loop-i
 decreases-loop rows versions lists t i₀ i = t.writes_n - i
 
 -- the parameters, and the test of one entry
-abbrev entered : tie.At-loop invariant-loop decreases-loop → tie.Start invariant-loop decreases-loop
+abbrev entered : tie.At-loop-i invariant-loop decreases-loop → tie.Start invariant-loop decreases-loop
 entered c = c.before.before.before.before
 
-abbrev fits : tie.At-loop invariant-loop decreases-loop → ℕ → Bool
+abbrev fits : tie.At-loop-i invariant-loop decreases-loop → ℕ → Bool
 fits c j = let a = (entered c).args in row_fits a.rows.now a.versions.now a.lists.now a.t (write_at a.lists.now a.t.slot j).row
 
-loop-holds : tie.Need-loop-init invariant-loop decreases-loop
+loop-holds : tie.Need-loop-i-init invariant-loop decreases-loop
 loop-holds c = (search rules, every-none _)
 
-write-row-at-requires : tie.Need-write-row-at-requires invariant-loop decreases-loop
+write-row-at-requires : tie.Need-write_row_at-requires invariant-loop decreases-loop
 write-row-at-requires c κs = search rules
 
-row-fits-requires : tie.Need-row-fits-requires invariant-loop decreases-loop
+row-fits-requires : tie.Need-row_fits-requires invariant-loop decreases-loop
 row-fits-requires c κs = search rules
 
-returns : tie.Need-returns invariant-loop decreases-loop
+returns : tie.Need-returns-then-not-row_fits invariant-loop decreases-loop
 returns c =
-    let at = c.before.before.before.before.before in
-    every-fails (fits at) at.loop.i (entered at).args.t.writes_n (omega arith)
-    (rw (← c.before.before.write-row-at.ensures, ← c.before.row-fits.ensures) (not-true c.before.row-fits.result c.if2.true))
+    let at = c in
+    every-fails (fits at.before.before.before.before.before) at.loop-i.i (entered at.before.before.before.before.before).args.t.writes_n (omega arith)
+    (rw (← c.write_row_at.ensures, ← c.row_fits.ensures) (not-true c.row_fits.result c.if-not-row_fits.true-raw))
 
-add-i : tie.Need-overflow-add-i invariant-loop decreases-loop
+add-i : tie.Need-overflow_add-i invariant-loop decreases-loop
 add-i c = search rules
 
-loop-less : tie.Need-loop-smaller invariant-loop decreases-loop
+loop-less : tie.Need-loop-i-smaller invariant-loop decreases-loop
 loop-less c = search rules
 
-loop-again : tie.Need-loop-preserved invariant-loop decreases-loop
+loop-again : tie.Need-loop-i-preserved invariant-loop decreases-loop
 loop-again c =
-    let at = c.before.before.before.before.before in (
+    let at = c in (
       omega arith,
-      every-next (fits at) at.loop.i at.loop.invariant.1
-          (rw (← c.before.before.write-row-at.ensures, ← c.before.row-fits.ensures) (not-false c.before.row-fits.result c.if2.false)),
+      every-next (fits at.before.before.before.before.before) at.loop-i.i at.loop-i.invariant.1
+          (rw (← c.write_row_at.ensures, ← c.row_fits.ensures) (not-false c.row_fits.result c.if-not-row_fits.false-raw)),
     )
 
-returns-2 : tie.Need-returns-2 invariant-loop decreases-loop
+returns-2 : tie.Need-returns invariant-loop decreases-loop
 returns-2 c =
-    let at = c.before.before in
-    every-done (fits at) at.loop.i (entered at).args.t.writes_n (omega arith) (omega arith) at.loop.invariant.1
+    let at = c in
+    every-done (fits at.before.before) at.loop-i.i (entered at.before.before).args.t.writes_n (omega arith) (omega arith) at.loop-i.invariant.1
 
-pub rows-headed-spec : {M : Type 1} → statement M
-rows-headed-spec =
+pub rows_headed_spec : {M : Type 1} → statement M
+rows_headed_spec =
     tie.close
     (tie.spec
     invariant-loop

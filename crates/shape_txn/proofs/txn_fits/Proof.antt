@@ -24,68 +24,68 @@ abbrev heads : tie.Start → Bool
 heads s = let a = s.args in heads_fit a.rows.now a.versions.now a.lists.now a.t
 
 -- what was given, from each place
-abbrev entered : tie.After-snapshot → tie.Start
+abbrev entered : tie.After-snapshot-1 → tie.Start
 entered c = c.before.before.before.before
 
-abbrev given1 : tie.Else1 → tie.Start
-given1 c = entered c.before.before.before.before
+abbrev given1 : tie.Else-t-extent → tie.Start
+given1 c = c.before.before.before.before.before.before.before.before
 
-abbrev given2 : tie.Else2 → tie.Start
-given2 c = given1 c.before.before.before
+abbrev given2 : tie.Else-snapshot-least_of → tie.Start
+given2 c = c.before.before.before.before.before.before.before.before.before.before.before
 
-abbrev given3 : tie.Else3 → tie.Start
-given3 c = given2 c.before.before
+abbrev given3 : tie.Else-not-counts_fit → tie.Start
+given3 c = c.before.before.before.before.before.before.before.before.before.before.before.before.before
 
-abbrev given4 : tie.Else4 → tie.Start
-given4 c = given3 c.before.before
+abbrev given4 : tie.Else-not-ranges_fit → tie.Start
+given4 c = c.before.before.before.before.before.before.before.before.before.before.before.before.before.before.before
 
 -- what is left past each test
-past-number : (c : tie.Else1) → let s = given1 c in fits s ≡ least s && counts_fit s.args.t && ranges s && heads s
+past-number : (c : tie.Else-t-extent) → let s = given1 c in fits s ≡ least s && counts_fit s.args.t && ranges s && heads s
 unfolding txn_fits
-past-number c = rw (lt-ltb _ _ c.if1.false)
+past-number c = rw (lt-ltb _ _ c.if-t-extent.false)
 
-is-least : (c : tie.Else2) → least (given2 c) ≡ true
-is-least c = rw (← c.before.before.least-of.ensures) (eq-eqb _ _ c.if2.false)
+is-least : (c : tie.Else-snapshot-least_of) → least (given2 c) ≡ true
+is-least c = rw (← c.least_of.ensures) (eq-eqb _ _ c.if-snapshot-least_of.false)
 
-past-least : (c : tie.Else2) → let s = given2 c in fits s ≡ counts_fit s.args.t && ranges s && heads s
+past-least : (c : tie.Else-snapshot-least_of) → let s = given2 c in fits s ≡ counts_fit s.args.t && ranges s && heads s
 past-least c = past-number c.before.before.before ∙ rw (is-least c)
 
-past-counts : (c : tie.Else3) → let s = given3 c in fits s ≡ ranges s && heads s
-past-counts c = past-least c.before.before ∙ rw (passed c.before.counts-fit.ensures c.if3.false)
+past-counts : (c : tie.Else-not-counts_fit) → let s = given3 c in fits s ≡ ranges s && heads s
+past-counts c = past-least c.before.before ∙ rw (passed c.counts_fit.ensures c.if-not-counts_fit.false-raw)
 
-past-ranges : (c : tie.Else4) → fits (given4 c) ≡ heads (given4 c)
-past-ranges c = past-counts c.before.before ∙ rw (passed c.before.ranges-fit.ensures c.if4.false)
+past-ranges : (c : tie.Else-not-ranges_fit) → fits (given4 c) ≡ heads (given4 c)
+past-ranges c = past-counts c.before.before ∙ rw (passed c.ranges_fit.ensures c.if-not-ranges_fit.false-raw)
 
-returns : tie.Need-returns
+returns : tie.Need-returns-then-t-extent
 unfolding txn_fits
-returns c = rw (le-ltb _ _ c.if1.true)
+returns c = rw (le-ltb _ _ c.if-t-extent.true)
 
-least-of-requires : tie.Need-least-of-requires
+least-of-requires : tie.Need-least_of-requires
 least-of-requires c κs = search rules
 
-returns-2 : tie.Need-returns-2
-returns-2 c = rw (past-number c.before.before.before, ← c.before.before.least-of.ensures, ne_eqb _ _ c.if2.true)
+returns-2 : tie.Need-returns-then-snapshot-least_of
+returns-2 c = rw (past-number c.before.before.before, ← c.least_of.ensures, ne_eqb _ _ c.if-snapshot-least_of.true)
 
-counts-fit-requires : tie.Need-counts-fit-requires
+counts-fit-requires : tie.Need-counts_fit-requires
 counts-fit-requires c κs = search rules
 
-returns-3 : tie.Need-returns-3
-returns-3 c = rw (past-least c.before.before, failed c.before.counts-fit.ensures c.if3.true)
+returns-3 : tie.Need-returns-then-not-counts_fit
+returns-3 c = rw (past-least c.before.before, failed c.counts_fit.ensures c.if-not-counts_fit.true-raw)
 
-ranges-fit-requires : tie.Need-ranges-fit-requires
+ranges-fit-requires : tie.Need-ranges_fit-requires
 ranges-fit-requires c κs = search rules
 
-returns-4 : tie.Need-returns-4
-returns-4 c = rw (past-counts c.before.before, failed c.before.ranges-fit.ensures c.if4.true)
+returns-4 : tie.Need-returns-then-not-ranges_fit
+returns-4 c = rw (past-counts c.before.before, failed c.ranges_fit.ensures c.if-not-ranges_fit.true-raw)
 
-heads-fit-requires : tie.Need-heads-fit-requires
+heads-fit-requires : tie.Need-heads_fit-requires
 heads-fit-requires c κs = search rules
 
-returns-5 : tie.Need-returns-5
-returns-5 c = rw (past-ranges c.before, ← c.heads-fit.ensures)
+returns-5 : tie.Need-returns
+returns-5 c = rw (past-ranges c.before, ← c.heads_fit.ensures)
 
-pub txn-fits-spec : {M : Type 1} → statement M
-txn-fits-spec =
+pub txn_fits_spec : {M : Type 1} → statement M
+txn_fits_spec =
     tie.close
     (tie.spec
     returns

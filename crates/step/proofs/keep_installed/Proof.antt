@@ -4,11 +4,11 @@ use borrow.Author.Rules.{rules}
 use Rattle.step.proofs.keep_installed.Statement.{statement}
 use Rattle.step.proofs.keep_installed.Tie as tie
 
-rest-of-requires : tie.Need-rest-of-requires
+rest-of-requires : tie.Need-rest_of-rest-requires
 rest-of-requires c κs = search rules
 
 returns : tie.Need-returns
-returns c = rw c.rest_of.ensures
+returns c = rw c.rest_of-rest.ensures
 
-pub keep-installed-spec : {M : Type 1} → statement M
-keep-installed-spec = tie.close (tie.spec rest-of-requires returns)
+pub keep_installed_spec : {M : Type 1} → statement M
+keep_installed_spec = tie.close (tie.spec rest-of-requires returns)

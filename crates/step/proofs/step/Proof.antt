@@ -13,72 +13,72 @@ use Rattle.step.proofs.step.Statement.{statement}
 use Rattle.step.proofs.step.Tie as tie
 
 abbrev start : tie.After-keeps → tie.Start
-start c = let lent = c.before.before.before.before in lent.before.before.before.before.before
+start c = c.before.before.before.before.before.before.before.before.before
 
 keeps-requires : tie.Need-keeps-requires
 keeps-requires c κs = search rules
 
-parts-of-requires : tie.Need-parts-of-requires
+parts-of-requires : tie.Need-parts_of-parts-requires
 parts-of-requires c κs = search rules
 
-step-keeping-requires : tie.Need-step-keeping-requires
+step-keeping-requires : tie.Need-step_keeping-k-requires
 step-keeping-requires c κs = search rules
 
-with-kept-requires : tie.Need-with-kept-requires
+with-kept-requires : tie.Need-with_kept-requires
 with-kept-requires c κs = search rules
 
-same_length : tie.Need-same-length
+same_length : tie.Need-shape_of-rows-then-keeps
 same_length c = search rules
 
-same-length-2 : tie.Need-same-length-2
+same-length-2 : tie.Need-shape_of-versions-then-keeps
 same-length-2 c = search rules
 
-same-length-3 : tie.Need-same-length-3
+same-length-3 : tie.Need-shape_of-buckets-then-keeps
 same-length-3 c = search rules
 
-same-length-4 : tie.Need-same-length-4
+same-length-4 : tie.Need-shape_of-lists-then-keeps
 same-length-4 c = search rules
 
-same-length-5 : tie.Need-same-length-5
+same-length-5 : tie.Need-shape_of-found-then-keeps
 same-length-5 c = search rules
 
-returns : tie.Need-returns
+returns : tie.Need-returns-then-keeps
 returns c =
-    let tables = c.before.before.before.before.before in
-    let done = tables.before.before.before.before.before.before in
-    let parted = done.before.before.before.before.before.before in
-    let kept = parted.before in
-    let a = (start kept.before).args in
+    let tables = c in
+    let done = tables in
+    let parted = done in
+    let kept = parted in
+    let a = (start kept.before.before.before.before.before.before.before.before.before.before.before.before.before.before.before.before.before.before.before).args in
     let b : Tables = record { rows = a.rows.now; versions = a.versions.now; buckets = a.buckets.now; lists = a.lists.now; found = a.found.now } in
-    let q : keeps_of a.s ≡ true = rw (← kept.before.keeps.ensures) kept.if1.true in
-    let whole : kept_in (keeping_of b (record { extent = a.place.extent; others = a.place.others; txn = whole_of parted.parts-of.result }) a.s)
-    ≡ kept_in (step_of b a.place a.s) = rw (q, parted.parts-of.ensures, whole_parts a.place.txn) in
-    together (step_of b a.place a.s) a.place.txn (done.step-keeping.ensures ∙ whole) c.with-kept.ensures parted.parts-of.ensures
+    let q : keeps_of a.s ≡ true = rw (← kept.keeps.ensures) kept.if-keeps.true in
+    let whole : kept_in (keeping_of b (record { extent = a.place.extent; others = a.place.others; txn = whole_of parted.parts_of-parts.result }) a.s)
+    ≡ kept_in (step_of b a.place a.s) = rw (q, parted.parts_of-parts.ensures, whole_parts a.place.txn) in
+    together (step_of b a.place a.s) a.place.txn (done.step_keeping-k.ensures ∙ whole) c.with_kept.ensures parted.parts_of-parts.ensures
     (kept-stepped b a.place a.s q)
 
-step-placing-requires : tie.Need-step-placing-requires
+step-placing-requires : tie.Need-step_placing-requires
 step-placing-requires c κs = search rules
 
-same-length-6 : tie.Need-same-length-6
+same-length-6 : tie.Need-shape_of-rows
 same-length-6 c = search rules
 
-same-length-7 : tie.Need-same-length-7
+same-length-7 : tie.Need-shape_of-versions
 same-length-7 c = search rules
 
-same-length-8 : tie.Need-same-length-8
+same-length-8 : tie.Need-shape_of-buckets
 same-length-8 c = search rules
 
-same-length-9 : tie.Need-same-length-9
+same-length-9 : tie.Need-shape_of-lists
 same-length-9 c = search rules
 
-returns-2 : tie.Need-returns-2
+returns-2 : tie.Need-returns
 returns-2 c =
-    let done = c.before.before.before.before in
-    let other = done.before.before.before.before.before in
-    let a = (start other.before).args in
-    let e : keeps_of a.s ≡ false = rw (← other.before.keeps.ensures) other.if1.false in
+    let done = c in
+    let other = done in
+    let a = (start other.before.before.before.before.before.before.before.before).args in
+    let e : keeps_of a.s ≡ false = rw (← other.keeps.ensures) other.if-keeps.false in
     let b : Tables = record { rows = a.rows.now; versions = a.versions.now; buckets = a.buckets.now; lists = a.lists.now; found = [] } in
-    let placed : in_published _ b ≡ step_of b a.place a.s = done.step-placing.ensures ∙ rw e in
+    let placed : in_published _ b ≡ step_of b a.place a.s = done.step_placing.ensures ∙ rw e in
     ap (beside a.found.now) placed ∙ found-kept a.found.now b a.place a.s e
 
 pub step_spec : {M : Type 1} → statement M

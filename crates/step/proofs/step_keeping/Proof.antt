@@ -9,15 +9,15 @@ use Rattle.step.proofs.Laws.{same_way, places}
 use Rattle.step.proofs.step_keeping.Statement.{statement}
 use Rattle.step.proofs.step_keeping.Tie as tie
 
-abbrev lent : tie.After-misses → tie.After-slice-known5
+abbrev lent : tie.After-misses → tie.After-slice_known-5-1
 lent c = c.before.before.before.before.before
 
 abbrev start : tie.After-misses → tie.Start
-start c = (lent c).before.before.before.before.before
+start c = c.before.before.before.before.before.before.before.before.before.before
 
 -- the step names the transaction, past the first test
-named : (c : tie.Else1) → let a = (start c.before).args in misses_of a.parts.number a.s ≡ false
-named c = rw (← c.before.misses.ensures) c.if1.false
+named : (c : tie.Else-misses) → let a = (start c.before).args in misses_of a.parts.number a.s ≡ false
+named c = rw (← c.misses.ensures) c.if-misses.false
 
 misses-requires : tie.Need-misses-requires
 misses-requires c κs = search rules
@@ -31,274 +31,274 @@ refused-requires c κs = search rules
 keep-requires : tie.Need-keep-requires
 keep-requires c κs = search rules
 
-returns : tie.Need-returns
+returns : tie.Need-returns-then-misses
 unfolding step_of
 returns c =
-    let missed = c.before.before.before in
-    let a = (start missed.before).args in
-    rw (c.keep.ensures, c.before.refused.ensures, c.before.before.whole.ensures, ← missed.before.misses.ensures, missed.if1.true)
+    let missed = c in
+    let a = (start missed.before.before.before.before).args in
+    rw (c.keep.ensures, c.refused.ensures, c.whole.ensures, ← missed.misses.ensures, missed.if-misses.true)
     (ap kept_in (sym (same_way (keeps_of a.s) _)))
 
-enum-known-s : tie.Need-enum-known-s
+enum-known-s : tie.Need-enum_known-s
 enum-known-s c = search rules
 
-whole-requires-2 : tie.Need-whole-requires-2
+whole-requires-2 : tie.Need-whole-requires-in-Capture
 whole-requires-2 c κs = search rules
 
 capture-requires : tie.Need-capture-requires
 capture-requires c κs = search rules
 
-keep-requires-2 : tie.Need-keep-requires-2
+keep-requires-2 : tie.Need-keep-requires-in-Capture
 keep-requires-2 c κs = search rules
 
-enum_told : tie.Need-enum-told
+enum_told : tie.Need-enum_told-1
 enum_told c = search rules
 
-whole-requires-3 : tie.Need-whole-requires-3
+whole-requires-3 : tie.Need-whole-requires-in-Collect
 whole-requires-3 c κs = search rules
 
 collect-requires : tie.Need-collect-requires
 collect-requires c κs = search rules
 
-keep-requires-3 : tie.Need-keep-requires-3
+keep-requires-3 : tie.Need-keep-requires-in-Collect
 keep-requires-3 c κs = search rules
 
-enum-known-s-2 : tie.Need-enum-known-s-2
+enum-known-s-2 : tie.Need-enum_known-s-in-Rows-1
 enum-known-s-2 c = search rules
 
-whole-requires-4 : tie.Need-whole-requires-4
+whole-requires-4 : tie.Need-whole-requires-in-Rows
 whole-requires-4 c κs = search rules
 
 rows-requires : tie.Need-rows-requires
 rows-requires c κs = search rules
 
-keep-requires-4 : tie.Need-keep-requires-4
+keep-requires-4 : tie.Need-keep-requires-in-Rows
 keep-requires-4 c κs = search rules
 
-enum-known-s-3 : tie.Need-enum-known-s-3
+enum-known-s-3 : tie.Need-enum_known-s-in-Put-1
 enum-known-s-3 c = search rules
 
-whole-requires-5 : tie.Need-whole-requires-5
+whole-requires-5 : tie.Need-whole-requires-in-Put
 whole-requires-5 c κs = search rules
 
 put-requires : tie.Need-put-requires
 put-requires c κs = search rules
 
-keep-requires-5 : tie.Need-keep-requires-5
+keep-requires-5 : tie.Need-keep-requires-in-Put
 keep-requires-5 c κs = search rules
 
-enum-known-s-4 : tie.Need-enum-known-s-4
+enum-known-s-4 : tie.Need-enum_known-s-in-Erase-1
 enum-known-s-4 c = search rules
 
-whole-requires-6 : tie.Need-whole-requires-6
+whole-requires-6 : tie.Need-whole-requires-in-Erase
 whole-requires-6 c κs = search rules
 
 erase-requires : tie.Need-erase-requires
 erase-requires c κs = search rules
 
-keep-requires-6 : tie.Need-keep-requires-6
+keep-requires-6 : tie.Need-keep-requires-in-Erase
 keep-requires-6 c κs = search rules
 
-enum-told-2 : tie.Need-enum-told-2
+enum-told-2 : tie.Need-enum_told-in-Prepare
 enum-told-2 c = search rules
 
-whole-requires-7 : tie.Need-whole-requires-7
+whole-requires-7 : tie.Need-whole-requires-in-Prepare
 whole-requires-7 c κs = search rules
 
 prepare-requires : tie.Need-prepare-requires
 prepare-requires c κs = search rules
 
-keep-requires-7 : tie.Need-keep-requires-7
+keep-requires-7 : tie.Need-keep-requires-in-Prepare
 keep-requires-7 c κs = search rules
 
-enum-told-3 : tie.Need-enum-told-3
+enum-told-3 : tie.Need-enum_told-in-Install
 enum-told-3 c = search rules
 
-whole-requires-8 : tie.Need-whole-requires-8
+whole-requires-8 : tie.Need-whole-requires-in-Install
 whole-requires-8 c κs = search rules
 
 install-requires : tie.Need-install-requires
 install-requires c κs = search rules
 
-keep-installed-requires : tie.Need-keep-installed-requires
+keep-installed-requires : tie.Need-keep_installed-requires
 keep-installed-requires c κs = search rules
 
-enum-told-4 : tie.Need-enum-told-4
+enum-told-4 : tie.Need-enum_told-in-End
 enum-told-4 c = search rules
 
-whole-requires-9 : tie.Need-whole-requires-9
+whole-requires-9 : tie.Need-whole-requires-in-End
 whole-requires-9 c κs = search rules
 
 end-requires : tie.Need-end-requires
 end-requires c κs = search rules
 
-keep-requires-8 : tie.Need-keep-requires-8
+keep-requires-8 : tie.Need-keep-requires-in-End
 keep-requires-8 c κs = search rules
 
-enum-told-5 : tie.Need-enum-told-5
+enum-told-5 : tie.Need-enum_told-in-Validate
 enum-told-5 c = search rules
 
-whole-requires-10 : tie.Need-whole-requires-10
+whole-requires-10 : tie.Need-whole-requires-in-Validate
 whole-requires-10 c κs = search rules
 
 validate-requires : tie.Need-validate-requires
 validate-requires c κs = search rules
 
-keep-requires-9 : tie.Need-keep-requires-9
+keep-requires-9 : tie.Need-keep-requires-in-Validate
 keep-requires-9 c κs = search rules
 
-whole-requires-11 : tie.Need-whole-requires-11
+whole-requires-11 : tie.Need-whole-requires-in_default
 whole-requires-11 c κs = search rules
 
-refused-requires-2 : tie.Need-refused-requires-2
+refused-requires-2 : tie.Need-refused-requires-in_default
 refused-requires-2 c κs = search rules
 
-keep-requires-10 : tie.Need-keep-requires-10
+keep-requires-10 : tie.Need-keep-requires-in_default
 keep-requires-10 c κs = search rules
 
-same_length : tie.Need-same-length
+same_length : tie.Need-shape_of-buckets-in-Capture
 same_length c = search rules
 
-same-length-2 : tie.Need-same-length-2
+same-length-2 : tie.Need-shape_of-lists-in-Capture
 same-length-2 c = search rules
 
-returns-2 : tie.Need-returns-2
+returns-2 : tie.Need-returns-in-Capture
 unfolding step_of
 returns-2 c =
-    let done = c.before.before.before.before.before in
-    let made = done.before.before.before in
-    let arm = made.before.before in
-    rw (named arm.before.before, arm.s.given.1, c.keep2.ensures, ← made.whole2.ensures, ← done.capture.ensures)
+    let done = c in
+    let made = done in
+    let arm = made in
+    rw (named arm.before.before.before.before.before.before.before.before.before.before, arm.in-Capture.is, c.keep-in-Capture.ensures, ← made.whole-in-Capture.ensures, ← done.capture.ensures)
 
-same-length-3 : tie.Need-same-length-3
+same-length-3 : tie.Need-shape_of-rows-in-Collect
 same-length-3 c = search rules
 
-same-length-4 : tie.Need-same-length-4
+same-length-4 : tie.Need-shape_of-buckets-in-Collect
 same-length-4 c = search rules
 
-same-length-5 : tie.Need-same-length-5
+same-length-5 : tie.Need-shape_of-lists-in-Collect
 same-length-5 c = search rules
 
-returns-3 : tie.Need-returns-3
+returns-3 : tie.Need-returns-in-Collect
 unfolding step_of
 returns-3 c =
-    let done = c.before.before.before.before.before in
-    let made = done.before.before.before.before in
-    let arm = made.before in
-    rw (named arm.before.before, arm.enum_told.given.1, c.keep3.ensures, ← made.whole3.ensures, ← done.collect.ensures)
+    let done = c in
+    let made = done in
+    let arm = made in
+    rw (named arm.before.before.before.before.before.before.before.before.before.before, arm.in-Collect.is, c.keep-in-Collect.ensures, ← made.whole-in-Collect.ensures, ← done.collect.ensures)
 
-same-length-6 : tie.Need-same-length-6
+same-length-6 : tie.Need-shape_of-rows-in-Rows
 same-length-6 c = search rules
 
-same-length-7 : tie.Need-same-length-7
+same-length-7 : tie.Need-shape_of-versions-in-Rows
 same-length-7 c = search rules
 
-same-length-8 : tie.Need-same-length-8
+same-length-8 : tie.Need-shape_of-lists-in-Rows
 same-length-8 c = search rules
 
-same-length-9 : tie.Need-same-length-9
+same-length-9 : tie.Need-shape_of-found
 same-length-9 c = search rules
 
-returns-4 : tie.Need-returns-4
+returns-4 : tie.Need-returns-in-Rows
 unfolding step_of
 returns-4 c =
-    let done = c.before.before.before.before.before in
-    let made = done.before in
-    let arm = made.before.before.before.before.before.before in
-    rw (named arm.before.before, arm.s2.given.1, c.keep4.ensures, ← made.whole4.ensures, ← done.rows.ensures)
+    let done = c in
+    let made = done in
+    let arm = made in
+    rw (named arm.before.before.before.before.before.before.before.before.before.before, arm.in-Rows.is, c.keep-in-Rows.ensures, ← made.whole-in-Rows.ensures, ← done.rows.ensures)
 
-same-length-10 : tie.Need-same-length-10
+same-length-10 : tie.Need-shape_of-lists-in-Put
 same-length-10 c = search rules
 
-returns-5 : tie.Need-returns-5
+returns-5 : tie.Need-returns-in-Put
 unfolding step_of
 returns-5 c =
-    let done = c.before.before.before in
-    let made = done.before.before in
-    let arm = made.before.before in
-    rw (named arm.before.before, arm.s3.given.1, c.keep5.ensures, ← made.whole5.ensures, ← done.put.ensures)
+    let done = c in
+    let made = done in
+    let arm = made in
+    rw (named arm.before.before.before.before.before.before.before, arm.in-Put.is, c.keep-in-Put.ensures, ← made.whole-in-Put.ensures, ← done.put.ensures)
 
-same-length-11 : tie.Need-same-length-11
+same-length-11 : tie.Need-shape_of-lists-in-Erase
 same-length-11 c = search rules
 
-returns-6 : tie.Need-returns-6
+returns-6 : tie.Need-returns-in-Erase
 unfolding step_of
 returns-6 c =
-    let done = c.before.before.before in
-    let made = done.before.before in
-    let arm = made.before.before in
-    rw (named arm.before.before, arm.s4.given.1, c.keep6.ensures, ← made.whole6.ensures, ← done.erase.ensures)
+    let done = c in
+    let made = done in
+    let arm = made in
+    rw (named arm.before.before.before.before.before.before.before, arm.in-Erase.is, c.keep-in-Erase.ensures, ← made.whole-in-Erase.ensures, ← done.erase.ensures)
 
-same-length-12 : tie.Need-same-length-12
+same-length-12 : tie.Need-shape_of-rows-in-Prepare
 same-length-12 c = search rules
 
-same-length-13 : tie.Need-same-length-13
+same-length-13 : tie.Need-shape_of-versions-in-Prepare
 same-length-13 c = search rules
 
-same-length-14 : tie.Need-same-length-14
+same-length-14 : tie.Need-shape_of-buckets-in-Prepare
 same-length-14 c = search rules
 
-same-length-15 : tie.Need-same-length-15
+same-length-15 : tie.Need-shape_of-lists-in-Prepare
 same-length-15 c = search rules
 
-returns-7 : tie.Need-returns-7
+returns-7 : tie.Need-returns-in-Prepare
 unfolding step_of
 returns-7 c =
-    let done = c.before.before.before.before.before in
-    let made = done.before in
-    let arm = made.before.before.before.before.before in
-    rw (named arm.before.before, arm.enum-told2.given.1, c.keep7.ensures, ← made.whole7.ensures, ← done.prepare.ensures)
+    let done = c in
+    let made = done in
+    let arm = made in
+    rw (named arm.before.before.before.before.before.before.before.before.before.before, arm.in-Prepare.is, c.keep-in-Prepare.ensures, ← made.whole-in-Prepare.ensures, ← done.prepare.ensures)
 
-same-length-16 : tie.Need-same-length-16
+same-length-16 : tie.Need-shape_of-rows-in-Install
 same-length-16 c = search rules
 
-same-length-17 : tie.Need-same-length-17
+same-length-17 : tie.Need-shape_of-versions-in-Install
 same-length-17 c = search rules
 
-same-length-18 : tie.Need-same-length-18
+same-length-18 : tie.Need-shape_of-lists-in-Install
 same-length-18 c = search rules
 
-returns-8 : tie.Need-returns-8
+returns-8 : tie.Need-returns-in-Install
 unfolding step_of
 returns-8 c =
-    let done = c.before.before.before.before.before in
-    let made = done.before in
-    let arm = made.before.before.before.before in
-    rw (named arm.before.before, arm.enum-told3.given.1, c.keep-installed.ensures, ← made.whole8.ensures, ← done.install.ensures)
+    let done = c in
+    let made = done in
+    let arm = made in
+    rw (named arm.before.before.before.before.before.before.before.before.before.before, arm.in-Install.is, c.keep_installed.ensures, ← made.whole-in-Install.ensures, ← done.install.ensures)
 
-returns-9 : tie.Need-returns-9
+returns-9 : tie.Need-returns-in-End
 unfolding step_of
 returns-9 c =
-    let done = c.before in
-    let made = done.before in
-    let arm = made.before in
-    rw (named arm.before.before, arm.enum-told4.given.1, c.keep8.ensures, ← made.whole9.ensures, ← done.end.ensures)
+    let done = c in
+    let made = done in
+    let arm = made in
+    rw (named arm.before.before.before.before, arm.in-End.is, c.keep-in-End.ensures, ← made.whole-in-End.ensures, ← done.end.ensures)
 
-same-length-19 : tie.Need-same-length-19
+same-length-19 : tie.Need-shape_of-versions-in-Validate
 same-length-19 c = search rules
 
-same-length-20 : tie.Need-same-length-20
+same-length-20 : tie.Need-shape_of-buckets-in-Validate
 same-length-20 c = search rules
 
-same-length-21 : tie.Need-same-length-21
+same-length-21 : tie.Need-shape_of-lists-in-Validate
 same-length-21 c = search rules
 
-returns-10 : tie.Need-returns-10
+returns-10 : tie.Need-returns-in-Validate
 unfolding step_of
 returns-10 c =
-    let done = c.before in
-    let made = done.before in
-    let arm = made.before.before.before.before in
-    rw (named arm.before.before, arm.enum-told5.given.1, c.keep9.ensures, ← made.whole10.ensures, ← done.validate.ensures)
+    let done = c in
+    let made = done in
+    let arm = made in
+    rw (named arm.before.before.before.before, arm.in-Validate.is, c.keep-in-Validate.ensures, ← made.whole-in-Validate.ensures, ← done.validate.ensures)
 
-returns-11 : tie.Need-returns-11
+returns-11 : tie.Need-returns-in_default
 returns-11 c =
-    let last = c.before.before.before in
-    let a = (start last.before.before).args in
-    rw (places a.s last.match.keys10, c.keep10.ensures, c.before.refused2.ensures, c.before.before.whole11.ensures)
+    let last = c in
+    let a = (start last.before.before.before.before.before).args in
+    rw (places a.s last.in_default.in_default-own.keys10, c.keep-in_default.ensures, c.refused-in_default.ensures, c.whole-in_default.ensures)
 
-pub step-keeping-spec : {M : Type 1} → statement M
-step-keeping-spec =
+pub step_keeping_spec : {M : Type 1} → statement M
+step_keeping_spec =
     tie.close
     (tie.spec
     misses-requires

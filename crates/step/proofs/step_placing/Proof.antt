@@ -9,15 +9,15 @@ use Rattle.step.proofs.Laws.{keeps, same_way}
 use Rattle.step.proofs.step_placing.Statement.{statement}
 use Rattle.step.proofs.step_placing.Tie as tie
 
-abbrev lent : tie.After-misses → tie.After-shared-slice-known2
+abbrev lent : tie.After-misses → tie.After-shared_slice_known-2-1
 lent c = c.before.before.before.before.before.before
 
 abbrev start : tie.After-misses → tie.Start
-start c = (lent c).before.before.before.before
+start c = c.before.before.before.before.before.before.before.before.before.before
 
 -- the step names the transaction, past the first test
-named : (c : tie.Else1) → let a = (start c.before).args in misses_of a.t.number a.s ≡ false
-named c = rw (← c.before.misses.ensures) c.if1.false
+named : (c : tie.Else-misses) → let a = (start c.before).args in misses_of a.t.number a.s ≡ false
+named c = rw (← c.misses.ensures) c.if-misses.false
 
 misses-requires : tie.Need-misses-requires
 misses-requires c κs = search rules
@@ -25,90 +25,90 @@ misses-requires c κs = search rules
 refused-requires : tie.Need-refused-requires
 refused-requires c κs = search rules
 
-with-clock-requires : tie.Need-with-clock-requires
+with-clock-requires : tie.Need-with_clock-requires
 with-clock-requires c κs = search rules
 
-returns : tie.Need-returns
+returns : tie.Need-returns-then-misses
 unfolding step_of
 returns c =
-    let missed = c.before.before in
-    let a = (start missed.before).args in
-    rw (← missed.before.misses.ensures, missed.if1.true, same_way (keeps_of a.s), c.with-clock.ensures, c.before.refused.ensures)
+    let missed = c in
+    let a = (start missed.before.before.before).args in
+    rw (← missed.misses.ensures, missed.if-misses.true, same_way (keeps_of a.s), c.with_clock.ensures, c.refused.ensures)
 
-enum_told : tie.Need-enum-told
+enum_told : tie.Need-enum_told-1
 enum_told c = search rules
 
-live-count-requires : tie.Need-live-count-requires
+live-count-requires : tie.Need-live_count-requires
 live-count-requires c κs = search rules
 
 begin-requires : tie.Need-begin-requires
 begin-requires c κs = search rules
 
-with-begun-requires : tie.Need-with-begun-requires
+with-begun-requires : tie.Need-with_begun-requires
 with-begun-requires c κs = search rules
 
-enum-told-2 : tie.Need-enum-told-2
+enum-told-2 : tie.Need-enum_told-in-Publish
 enum-told-2 c = search rules
 
-step-publish-requires : tie.Need-step-publish-requires
+step-publish-requires : tie.Need-step_publish-requires
 step-publish-requires c κs = search rules
 
-enum-told-3 : tie.Need-enum-told-3
+enum-told-3 : tie.Need-enum_told-in-Abort
 enum-told-3 c = search rules
 
 abort-requires : tie.Need-abort-requires
 abort-requires c κs = search rules
 
-with-clock-requires-2 : tie.Need-with-clock-requires-2
+with-clock-requires-2 : tie.Need-with_clock-requires-in-Abort
 with-clock-requires-2 c κs = search rules
 
-refused-requires-2 : tie.Need-refused-requires-2
+refused-requires-2 : tie.Need-refused-requires-in_default
 refused-requires-2 c κs = search rules
 
-with-clock-requires-3 : tie.Need-with-clock-requires-3
+with-clock-requires-3 : tie.Need-with_clock-requires-in_default
 with-clock-requires-3 c κs = search rules
 
-returns-2 : tie.Need-returns-2
+returns-2 : tie.Need-returns-in-Begin
 unfolding step_of
 returns-2 c =
-    let arm = c.before.before.before in
-    rw (named arm.before.before, arm.enum_told.given.1, c.with-begun.ensures, c.before.begin.ensures, c.before.before.live-count.ensures)
+    let arm = c in
+    rw (named arm.before.before.before.before, arm.in-Begin.is, c.with_begun.ensures, c.begin.ensures, c.live_count.ensures)
 
-same_length : tie.Need-same-length
+same_length : tie.Need-shape_of-rows-in-Publish
 same_length c = search rules
 
-same-length-2 : tie.Need-same-length-2
+same-length-2 : tie.Need-shape_of-buckets-in-Publish
 same-length-2 c = search rules
 
-returns-3 : tie.Need-returns-3
+returns-3 : tie.Need-returns-in-Publish
 unfolding step_of
 returns-3 c =
-    let done = c.before.before.before.before in
-    let arm = done.before.before.before in
-    rw (named arm.before.before, arm.enum-told2.given.1, ← done.step-publish.ensures)
+    let done = c in
+    let arm = done in
+    rw (named arm.before.before.before.before.before.before.before.before, arm.in-Publish.is, ← done.step_publish.ensures)
 
-same-length-3 : tie.Need-same-length-3
+same-length-3 : tie.Need-shape_of-rows-in-Abort
 same-length-3 c = search rules
 
-same-length-4 : tie.Need-same-length-4
+same-length-4 : tie.Need-shape_of-buckets-in-Abort
 same-length-4 c = search rules
 
-returns-4 : tie.Need-returns-4
+returns-4 : tie.Need-returns-in-Abort
 unfolding step_of
 returns-4 c =
-    let done = c.before.before.before.before.before in
-    let arm = done.before.before.before in
-    rw (named arm.before.before, arm.enum-told3.given.1, c.with-clock2.ensures, ← done.abort.ensures)
+    let done = c in
+    let arm = done in
+    rw (named arm.before.before.before.before.before.before.before.before.before, arm.in-Abort.is, c.with_clock-in-Abort.ensures, ← done.abort.ensures)
 
-returns-5 : tie.Need-returns-5
+returns-5 : tie.Need-returns-in_default
 unfolding step_of
 returns-5 c =
-    let last = c.before.before in
-    let a = (start last.before.before).args in
-    rw (keeps a.s last.match.keys4, c.with-clock3.ensures, c.before.refused2.ensures)
+    let last = c in
+    let a = (start last.before.before.before.before).args in
+    rw (keeps a.s last.in_default.in_default-own.keys4, c.with_clock-in_default.ensures, c.refused-in_default.ensures)
 
-pub step-placing-spec : {M : Type 1} → statement M
-step-placing-spec =
+pub step_placing_spec : {M : Type 1} → statement M
+step_placing_spec =
     tie.close
     (tie.spec
     misses-requires

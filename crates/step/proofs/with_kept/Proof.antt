@@ -4,15 +4,11 @@ use borrow.Author.Rules.{rules}
 use Rattle.step.proofs.with_kept.Statement.{statement}
 use Rattle.step.proofs.with_kept.Tie as tie
 
-whole-requires : tie.Need-whole-requires
+whole-requires : tie.Need-whole-txn-requires
 whole-requires c κs = search rules
 
 returns : tie.Need-returns
-returns c = rw c.whole.ensures
+returns c = rw c.whole-txn.ensures
 
-pub with-kept-spec : {M : Type 1} → statement M
-with-kept-spec =
-    tie.close
-    (tie.spec
-    whole-requires
-    returns)
+pub with_kept_spec : {M : Type 1} → statement M
+with_kept_spec = tie.close (tie.spec whole-requires returns)

@@ -7,30 +7,29 @@ use Rattle.txn_begin.specs.Begin.{keep_active}
 use Rattle.txn_begin.proofs.keep_active.Statement.{statement}
 use Rattle.txn_begin.proofs.keep_active.Tie as tie
 
-returns : tie.Need-returns
+returns : tie.Need-returns-then-number-eq0
 unfolding keep_active
-returns c = rw (eq-eqb _ _ c.if1.true)
+returns c = rw (eq-eqb _ _ c.if-number-eq0.true)
 
-returns-2 : tie.Need-returns-2
+returns-2 : tie.Need-returns-then-n-ge-MOST_ACTIVE
 unfolding keep_active
-returns-2 c = rw (ne_eqb _ _ c.before.if1.false, le-leb _ _ c.if2.true)
+returns-2 c = rw (ne_eqb _ _ c.if-number-eq0.false, le-leb _ _ c.if-n-ge-MOST_ACTIVE.true)
 
-mul-kept : tie.Need-overflow-mul-kept
+mul-kept : tie.Need-offset_bounds-kept-n
 mul-kept c = search rules
 
-element-write-kept : tie.Need-element-write-kept
+element-write-kept : tie.Need-bounds-kept-n
 element-write-kept c = search rules
 
-add_kept : tie.Need-overflow-add-kept
+add_kept : tie.Need-overflow_add-kept
 add_kept c = search rules
 
-lesser-u64-requires : tie.Need-lesser-u64-requires
+lesser-u64-requires : tie.Need-lesser_u64-requires
 lesser-u64-requires c κs = search rules
 
-returns-3 : tie.Need-returns-3
+returns-3 : tie.Need-returns
 unfolding keep_active
-returns-3 c = rw (ne_eqb _ _ c.before.before.if1.false, lt-leb _ _ c.before.if2.false, c.lesser-u64.ensures)
+returns-3 c = rw (ne_eqb _ _ c.if-number-eq0.false, lt-leb _ _ c.if-n-ge-MOST_ACTIVE.false, c.lesser_u64.ensures)
 
-pub keep-active-spec : {M : Type 1} → statement M
-keep-active-spec =
-    tie.close (tie.spec returns returns-2 mul-kept element-write-kept add_kept lesser-u64-requires returns-3)
+pub keep_active_spec : {M : Type 1} → statement M
+keep_active_spec = tie.close (tie.spec returns returns-2 mul-kept element-write-kept add_kept lesser-u64-requires returns-3)

@@ -14,76 +14,76 @@ use Rattle.txn_needs.specs.Taken.{any_claimed}
 use Rattle.txn_needs.proofs.any_claimed.Statement.{statement}
 use Rattle.txn_needs.proofs.any_claimed.Tie as tie
 
-abbrev invariant-loop : tie.invariant-loop
+abbrev invariant-loop : tie.invariant-loop-i
 invariant-loop rows lists t i₀ i =
     (i ≤ t.writes_n) × (any_claimed rows lists t ≡ some_of (λ r. taken_by (claim_of rows r) t.number) (drop i (written_by lists t)))
 
-abbrev decreases-loop : tie.decreases-loop
+abbrev decreases-loop : tie.decreases-loop-i
 decreases-loop rows lists t i₀ i = t.writes_n - i
 
 -- the parameters
-abbrev entered : tie.At-loop invariant-loop decreases-loop → tie.Start invariant-loop decreases-loop
+abbrev entered : tie.At-loop-i invariant-loop decreases-loop → tie.Start invariant-loop decreases-loop
 entered c = c.before.before.before
 
-loop-holds : tie.Need-loop-init invariant-loop decreases-loop
+loop-holds : tie.Need-loop-i-init invariant-loop decreases-loop
 loop-holds c = (search rules, refl)
 
-write-row-at-requires : tie.Need-write-row-at-requires invariant-loop decreases-loop
+write-row-at-requires : tie.Need-write_row_at-requires invariant-loop decreases-loop
 write-row-at-requires c κs = search rules
 
-claim-at-requires : tie.Need-claim-at-requires invariant-loop decreases-loop
+claim-at-requires : tie.Need-claim_at-requires invariant-loop decreases-loop
 claim-at-requires c κs = search rules
 
-by-another-requires : tie.Need-by-another-requires invariant-loop decreases-loop
+by-another-requires : tie.Need-by_another-requires invariant-loop decreases-loop
 by-another-requires c κs = search rules
 
-returns : tie.Need-returns invariant-loop decreases-loop
+returns : tie.Need-returns-then-by_another invariant-loop decreases-loop
 unfolding some_of
 returns c =
-    let read = c.before.before.before in
-    let at = read.before.before.before in
-    let a = (entered at).args in
-    let l = at.loop in
+    let read = c in
+    let at = read in
+    let a = (entered at.before.before.before.before.before.before).args in
+    let l = at.loop-i in
     rw (
       l.invariant.1,
-      rows_next a.lists.now a.t l.i read.write-row-at.result (omega arith) read.write-row-at.ensures,
-      ← c.before.before.claim-at.ensures,
-      ← c.before.by-another.ensures,
-      c.if2.true,
+      rows_next a.lists.now a.t l.i read.write_row_at.result (omega arith) read.write_row_at.ensures,
+      ← c.claim_at.ensures,
+      ← c.by_another.ensures,
+      c.if-by_another.true,
     )
 
-add-i : tie.Need-overflow-add-i invariant-loop decreases-loop
+add-i : tie.Need-overflow_add-i invariant-loop decreases-loop
 add-i c = search rules
 
-loop-less : tie.Need-loop-smaller invariant-loop decreases-loop
+loop-less : tie.Need-loop-i-smaller invariant-loop decreases-loop
 loop-less c = search rules
 
-loop-again : tie.Need-loop-preserved invariant-loop decreases-loop
+loop-again : tie.Need-loop-i-preserved invariant-loop decreases-loop
 unfolding some_of
 loop-again c =
-    let read = c.before.before.before in
-    let at = read.before.before.before in
-    let a = (entered at).args in
-    let l = at.loop in (
+    let read = c in
+    let at = read in
+    let a = (entered at.before.before.before.before.before.before).args in
+    let l = at.loop-i in (
       omega arith,
       l.invariant.1
           ∙ rw (
-            rows_next a.lists.now a.t l.i read.write-row-at.result (omega arith) read.write-row-at.ensures,
-            ← c.before.before.claim-at.ensures,
-            ← c.before.by-another.ensures,
-            c.if2.false,
+            rows_next a.lists.now a.t l.i read.write_row_at.result (omega arith) read.write_row_at.ensures,
+            ← c.claim_at.ensures,
+            ← c.by_another.ensures,
+            c.if-by_another.false,
           ),
     )
 
-returns-2 : tie.Need-returns-2 invariant-loop decreases-loop
+returns-2 : tie.Need-returns invariant-loop decreases-loop
 unfolding some_of
 returns-2 c =
     let a = (entered c.before.before).args in
-    let l = c.before.before.loop in
+    let l = c.loop-i in
     rw (l.invariant.1, rows-done a.lists.now a.t l.i (omega arith))
 
-pub any-claimed-spec : {M : Type 1} → statement M
-any-claimed-spec =
+pub any_claimed_spec : {M : Type 1} → statement M
+any_claimed_spec =
     tie.close
     (tie.spec
     invariant-loop

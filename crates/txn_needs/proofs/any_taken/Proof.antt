@@ -11,80 +11,80 @@ use Rattle.txn_needs.specs.Taken.{any_taken}
 use Rattle.txn_needs.proofs.any_taken.Statement.{statement}
 use Rattle.txn_needs.proofs.any_taken.Tie as tie
 
-abbrev invariant-loop : tie.invariant-loop
+abbrev invariant-loop : tie.invariant-loop-i
 invariant-loop buckets list n number i₀ i =
     (i ≤ length list) × (any_taken buckets (take n list) number ≡ any_taken buckets (drop i (take n list)) number)
 
-abbrev decreases-loop : tie.decreases-loop
+abbrev decreases-loop : tie.decreases-loop-i
 decreases-loop buckets list n number i₀ i = length list - i
 
-loop-holds : tie.Need-loop-init invariant-loop decreases-loop
+loop-holds : tie.Need-loop-i-init invariant-loop decreases-loop
 loop-holds c = (search rules, refl)
 
-returns : tie.Need-returns invariant-loop decreases-loop
+returns : tie.Need-returns-then-n-i invariant-loop decreases-loop
 unfolding some_of
 returns c =
-    let c5 = c.before.before.before.before.before in
-    let l = c.before.before.loop in
+    let c5 = c in
+    let l = c.loop-i in
     rw (l.invariant.1, left_end c5.args.list.now c5.args.n l.i (omega arith))
 
-mul-holder-at : tie.Need-overflow-mul-holder-at invariant-loop decreases-loop
+mul-holder-at : tie.Need-offset_bounds-list-i invariant-loop decreases-loop
 mul-holder-at c = search rules
 
-shared-slice-read-holder-at : tie.Need-shared-slice-read-holder-at invariant-loop decreases-loop
+shared-slice-read-holder-at : tie.Need-bounds-list-i invariant-loop decreases-loop
 shared-slice-read-holder-at c = search rules
 
-holder-at-requires : tie.Need-holder-at-requires invariant-loop decreases-loop
+holder-at-requires : tie.Need-holder_at-requires invariant-loop decreases-loop
 holder-at-requires c κs = search rules
 
-by-another-requires : tie.Need-by-another-requires invariant-loop decreases-loop
+by-another-requires : tie.Need-by_another-requires invariant-loop decreases-loop
 by-another-requires c κs = search rules
 
-returns-2 : tie.Need-returns-2 invariant-loop decreases-loop
+returns-2 : tie.Need-returns-then-by_another invariant-loop decreases-loop
 unfolding some_of
 returns-2 c =
-    let c6 = c.before.before.before.before.before.before in
-    let c9 = c6.before.before.before in
-    let l = c6.loop in
+    let c6 = c in
+    let c9 = c6 in
+    let l = c6.loop-i in
     rw (
       l.invariant.1,
       left-next c9.args.list.now c9.args.n l.i (omega arith) (omega arith),
-      ← c.before.before.holder-at.ensures,
-      ← c.before.by-another.ensures,
-      c.if2.true,
+      ← c.holder_at.ensures,
+      ← c.by_another.ensures,
+      c.if-by_another.true,
     )
 
-add-i : tie.Need-overflow-add-i invariant-loop decreases-loop
+add-i : tie.Need-overflow_add-i invariant-loop decreases-loop
 add-i c = search rules
 
-loop-less : tie.Need-loop-smaller invariant-loop decreases-loop
+loop-less : tie.Need-loop-i-smaller invariant-loop decreases-loop
 loop-less c = search rules
 
-loop-again : tie.Need-loop-preserved invariant-loop decreases-loop
+loop-again : tie.Need-loop-i-preserved invariant-loop decreases-loop
 unfolding some_of
 loop-again c =
-    let c6 = c.before.before.before.before.before.before in
-    let c9 = c6.before.before.before in
-    let l = c6.loop in (
+    let c6 = c in
+    let c9 = c6 in
+    let l = c6.loop-i in (
       omega arith,
       l.invariant.1
           ∙ rw (
             left-next c9.args.list.now c9.args.n l.i (omega arith) (omega arith),
-            ← c.before.before.holder-at.ensures,
-            ← c.before.by-another.ensures,
-            c.if2.false,
+            ← c.holder_at.ensures,
+            ← c.by_another.ensures,
+            c.if-by_another.false,
           ),
     )
 
-returns-3 : tie.Need-returns-3 invariant-loop decreases-loop
+returns-3 : tie.Need-returns invariant-loop decreases-loop
 unfolding some_of
 returns-3 c =
-    let c4 = c.before.before.before.before in
-    let l = c.before.loop in
+    let c4 = c in
+    let l = c.loop-i in
     rw (l.invariant.1, left_end c4.args.list.now c4.args.n l.i (omega arith))
 
-pub any-taken-spec : {M : Type 1} → statement M
-any-taken-spec =
+pub any_taken_spec : {M : Type 1} → statement M
+any_taken_spec =
     tie.close
     (tie.spec
     invariant-loop

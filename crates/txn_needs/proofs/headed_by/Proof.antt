@@ -6,19 +6,19 @@ use Rattle.txn_needs.specs.Keys.{headed_by}
 use Rattle.txn_needs.proofs.headed_by.Statement.{statement}
 use Rattle.txn_needs.proofs.headed_by.Tie as tie
 
-head-at-requires : tie.Need-head-at-requires
+head-at-requires : tie.Need-head_at-head-requires
 head-at-requires c κs = search rules
 
-returns : tie.Need-returns
+returns : tie.Need-returns-then-head-lt1
 unfolding headed_by
-returns c = rw (← c.before.head_at.ensures, lt-leb _ _ c.if1.true)
+returns c = rw (← c.head_at-head.ensures, lt-leb _ _ c.if-head-lt1.true)
 
-xmin-at-requires : tie.Need-xmin-at-requires
+xmin-at-requires : tie.Need-xmin_at-requires
 xmin-at-requires c κs = search rules
 
-returns-2 : tie.Need-returns-2
+returns-2 : tie.Need-returns
 unfolding headed_by
-returns-2 c = rw (← c.before.before.head_at.ensures, le-leb _ _ c.before.if1.false, ← c.xmin-at.ensures)
+returns-2 c = rw (← c.head_at-head.ensures, le-leb _ _ c.if-head-lt1.false, ← c.xmin_at.ensures)
 
-pub headed-by-spec : {M : Type 1} → statement M
-headed-by-spec = tie.close (tie.spec head-at-requires returns xmin-at-requires returns-2)
+pub headed_by_spec : {M : Type 1} → statement M
+headed_by_spec = tie.close (tie.spec head-at-requires returns xmin-at-requires returns-2)

@@ -6,25 +6,25 @@ use borrow.Author.Rules.{rules}
 use Rattle.txn_needs.proofs.push.Statement.{statement}
 use Rattle.txn_needs.proofs.push.Tie as tie
 
-mul-out : tie.Need-overflow-mul-out
+mul-out : tie.Need-offset_bounds-out-n
 mul-out c = search rules
 
-slice-write-out : tie.Need-slice-write-out
+slice-write-out : tie.Need-bounds-out-n
 slice-write-out c = search rules
 
-add-result : tie.Need-overflow-add-result
+add-result : tie.Need-overflow_add-result
 add-result c = search rules
 
-same_length : tie.Need-same-length
+same_length : tie.Need-shape_of-out-then-n-out
 same_length c = search rules
 
-returns : tie.Need-returns
+returns : tie.Need-returns-then-n-out
 unfolding push_one
-returns c = rw (lt-ltb _ _ c.if1.true)
+returns c = rw (lt-ltb _ _ c.if-n-out.true)
 
-returns-2 : tie.Need-returns-2
+returns-2 : tie.Need-returns
 unfolding push_one
-returns-2 c = rw (le-ltb _ _ c.if1.false)
+returns-2 c = rw (le-ltb _ _ c.if-n-out.false)
 
 pub push_spec : {M : Type 1} → statement M
 push_spec = tie.close (tie.spec mul-out slice-write-out add-result same_length returns returns-2)

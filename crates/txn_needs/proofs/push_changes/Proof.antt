@@ -11,65 +11,65 @@ use Rattle.txn_needs.specs.Needs.{push_all, written_by, write_changes}
 use Rattle.txn_needs.proofs.push_changes.Statement.{statement}
 use Rattle.txn_needs.proofs.push_changes.Tie as tie
 
-abbrev invariant-loop : tie.invariant-loop
+abbrev invariant-loop : tie.invariant-loop-i
 invariant-loop rows versions lists bucket-count t out₀ n₀ i₀ out n i =
     (i ≤ t.writes_n)
     × (length out ≡ length out₀)
     × (push_all (record { out = out₀; n = 0 }) (join (write_changes rows versions lists bucket-count t) (written_by lists t))
     ≡ push_all (record { out = out; n = n }) (join (write_changes rows versions lists bucket-count t) (drop i (written_by lists t))))
 
-abbrev decreases-loop : tie.decreases-loop
+abbrev decreases-loop : tie.decreases-loop-i
 decreases-loop rows versions lists bucket-count t out₀ n₀ i₀ out n i = t.writes_n - i
 
 -- the parameters
-abbrev entered : tie.At-loop invariant-loop decreases-loop → tie.Start invariant-loop decreases-loop
+abbrev entered : tie.At-loop-i invariant-loop decreases-loop → tie.Start invariant-loop decreases-loop
 entered c = c.before.before.before.before.before
 
-loop-holds : tie.Need-loop-init invariant-loop decreases-loop
+loop-holds : tie.Need-loop-i-init invariant-loop decreases-loop
 loop-holds c = (search rules, refl, refl)
 
-write-row-at-requires : tie.Need-write-row-at-requires invariant-loop decreases-loop
+write-row-at-requires : tie.Need-write_row_at-requires invariant-loop decreases-loop
 write-row-at-requires c κs = search rules
 
-changed-keys-requires : tie.Need-changed-keys-requires invariant-loop decreases-loop
+changed-keys-requires : tie.Need-changed_keys-keys-requires invariant-loop decreases-loop
 changed-keys-requires c κs = search rules
 
-push-keys-requires : tie.Need-push-keys-requires invariant-loop decreases-loop
+push-keys-requires : tie.Need-push_keys-n-requires invariant-loop decreases-loop
 push-keys-requires c κs = search rules
 
-add-i : tie.Need-overflow-add-i invariant-loop decreases-loop
+add-i : tie.Need-overflow_add-i invariant-loop decreases-loop
 add-i c = search rules
 
-loop-less : tie.Need-loop-smaller invariant-loop decreases-loop
+loop-less : tie.Need-loop-i-smaller invariant-loop decreases-loop
 loop-less c = search rules
 
-loop-again : tie.Need-loop-preserved invariant-loop decreases-loop
+loop-again : tie.Need-loop-i-preserved invariant-loop decreases-loop
 loop-again c =
-    let pushed = c.before.before in
-    let told = pushed.before.before in
-    let read = told.before in
-    let at = read.before.before.before in
-    let a = (entered at).args in
-    let l = at.loop in (
+    let pushed = c in
+    let told = pushed in
+    let read = told in
+    let at = read in
+    let a = (entered at.before.before.before.before.before.before.before.before).args in
+    let l = at.loop-i in (
       omega arith,
-      pushed.push-keys.auto.0 ∙ l.invariant.1,
+      pushed.push_keys-n.auto.out ∙ l.invariant.1,
       l.invariant.2
-          ∙ join-turn _ (record { out = l.out; n = l.n }) _ (written_by a.lists.now a.t) l.i read.write-row-at.result
-          (rows_next a.lists.now a.t l.i read.write-row-at.result (omega arith) read.write-row-at.ensures)
-          (rw (← told.changed-keys.ensures) pushed.push-keys.ensures),
+          ∙ join-turn _ (record { out = l.out; n = l.n }) _ (written_by a.lists.now a.t) l.i read.write_row_at.result
+          (rows_next a.lists.now a.t l.i read.write_row_at.result (omega arith) read.write_row_at.ensures)
+          (rw (← told.changed_keys-keys.ensures) pushed.push_keys-n.ensures),
     )
 
-same_length : tie.Need-same-length invariant-loop decreases-loop
-same_length c = c.before.before.loop.invariant.1
+same_length : tie.Need-shape_of-out invariant-loop decreases-loop
+same_length c = c.loop-i.invariant.1
 
 returns : tie.Need-returns invariant-loop decreases-loop
 returns c =
     let a = (entered c.before.before).args in
-    let l = c.before.before.loop in
+    let l = c.loop-i in
     sym (l.invariant.2 ∙ join-none _ _ _ (rows-done a.lists.now a.t l.i (omega arith)))
 
-pub push-changes-spec : {M : Type 1} → statement M
-push-changes-spec =
+pub push_changes_spec : {M : Type 1} → statement M
+push_changes_spec =
     tie.close
     (tie.spec
     invariant-loop

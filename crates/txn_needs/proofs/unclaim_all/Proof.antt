@@ -14,64 +14,64 @@ use Rattle.txn_needs.proofs.Laws.{rows_next, rows-done}
 use Rattle.txn_needs.proofs.unclaim_all.Statement.{statement}
 use Rattle.txn_needs.proofs.unclaim_all.Tie as tie
 
-abbrev invariant-loop : tie.invariant-loop
+abbrev invariant-loop : tie.invariant-loop-i
 invariant-loop rows₀ lists t i₀ rows i =
     (i ≤ t.writes_n) × (length rows ≡ length rows₀)
     × (clear_claims rows₀ t.number (written_by lists t) ≡ clear_claims rows t.number (drop i (written_by lists t)))
 
-abbrev decreases-loop : tie.decreases-loop
+abbrev decreases-loop : tie.decreases-loop-i
 decreases-loop rows₀ lists t i₀ rows i = t.writes_n - i
 
 -- the parameters
-abbrev entered : tie.At-loop invariant-loop decreases-loop → tie.Start invariant-loop decreases-loop
+abbrev entered : tie.At-loop-i invariant-loop decreases-loop → tie.Start invariant-loop decreases-loop
 entered c = c.before.before.before
 
 -- past the last write
-passed : (c : tie.At-loop invariant-loop decreases-loop) → let a = (entered c).args in a.t.writes_n ≤ c.loop.i
-    → c.loop.rows ≡ clear_claims a.rows.now a.t.number (written_by a.lists.now a.t)
+passed : (c : tie.At-loop-i invariant-loop decreases-loop) → let a = (entered c).args in a.t.writes_n ≤ c.loop-i.i
+    → c.loop-i.rows ≡ clear_claims a.rows.now a.t.number (written_by a.lists.now a.t)
 passed c h =
     let a = (entered c).args in
-    sym (c.loop.invariant.2 ∙ clear_none _ _ _ _ _ (rows-done a.lists.now a.t c.loop.i h))
+    sym (c.loop-i.invariant.2 ∙ clear_none _ _ _ _ _ (rows-done a.lists.now a.t c.loop-i.i h))
 
 -- one write more
-again : (c : tie.At-loop invariant-loop decreases-loop) → let a = (entered c).args in c.loop.i < a.t.writes_n
-    → (row : ℕ) → row ≡ (write_at a.lists.now a.t.slot c.loop.i).row → (rows : List ℕ) → rows ≡ unclaimed c.loop.rows row a.t.number
+again : (c : tie.At-loop-i invariant-loop decreases-loop) → let a = (entered c).args in c.loop-i.i < a.t.writes_n
+    → (row : ℕ) → row ≡ (write_at a.lists.now a.t.slot c.loop-i.i).row → (rows : List ℕ) → rows ≡ unclaimed c.loop-i.rows row a.t.number
     → clear_claims a.rows.now a.t.number (written_by a.lists.now a.t)
-    ≡ clear_claims rows a.t.number (drop (c.loop.i + 1) (written_by a.lists.now a.t))
+    ≡ clear_claims rows a.t.number (drop (c.loop-i.i + 1) (written_by a.lists.now a.t))
 again c h row e rows d =
     let a = (entered c).args in
-    c.loop.invariant.2 ∙ clear_next _ _ _ _ _ _ _ _ (rows_next a.lists.now a.t c.loop.i row h e) d
+    c.loop-i.invariant.2 ∙ clear_next _ _ _ _ _ _ _ _ (rows_next a.lists.now a.t c.loop-i.i row h e) d
 
-loop-holds : tie.Need-loop-init invariant-loop decreases-loop
+loop-holds : tie.Need-loop-i-init invariant-loop decreases-loop
 loop-holds c = (search rules, refl, refl)
 
-write-row-at-requires : tie.Need-write-row-at-requires invariant-loop decreases-loop
+write-row-at-requires : tie.Need-write_row_at-requires invariant-loop decreases-loop
 write-row-at-requires c κs = search rules
 
 unclaim-requires : tie.Need-unclaim-requires invariant-loop decreases-loop
 unclaim-requires c κs = search rules
 
-add-i : tie.Need-overflow-add-i invariant-loop decreases-loop
+add-i : tie.Need-overflow_add-i invariant-loop decreases-loop
 add-i c = search rules
 
-loop-less : tie.Need-loop-smaller invariant-loop decreases-loop
+loop-less : tie.Need-loop-i-smaller invariant-loop decreases-loop
 loop-less c = search rules
 
-loop-again : tie.Need-loop-preserved invariant-loop decreases-loop
+loop-again : tie.Need-loop-i-preserved invariant-loop decreases-loop
 loop-again c =
-    let done = c.before.before in
-    let read = done.before in
-    let at = read.before.before.before.before in
-    (omega arith, done.unclaim.auto.0 ∙ at.loop.invariant.1, again at (omega arith) _ read.write-row-at.ensures _ done.unclaim.ensures)
+    let done = c in
+    let read = done in
+    let at = read in
+    (omega arith, done.unclaim.auto.rows ∙ at.loop-i.invariant.1, again at.before.before.before.before.before.before.before (omega arith) _ read.write_row_at.ensures _ done.unclaim.ensures)
 
-same_length : tie.Need-same-length invariant-loop decreases-loop
-same_length c = c.before.before.loop.invariant.1
+same_length : tie.Need-shape_of-rows invariant-loop decreases-loop
+same_length c = c.loop-i.invariant.1
 
 returns : tie.Need-returns invariant-loop decreases-loop
 returns c = passed c.before.before (omega arith)
 
-pub unclaim-all-spec : {M : Type 1} → statement M
-unclaim-all-spec =
+pub unclaim_all_spec : {M : Type 1} → statement M
+unclaim_all_spec =
     tie.close
     (tie.spec
     invariant-loop

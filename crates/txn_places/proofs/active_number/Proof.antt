@@ -4,11 +4,11 @@ use borrow.Author.Tests.{eq-eqb, ne_eqb}
 use Rattle.txn_places.proofs.active_number.Statement.{statement}
 use Rattle.txn_places.proofs.active_number.Tie as tie
 
-returns : tie.Need-returns
-returns c = rw (eq-eqb _ _ c.if1.true)
+returns : tie.Need-returns-then-rank-eq-ENDED
+returns c = rw (eq-eqb _ _ c.if-rank-eq-ENDED.true)
 
-returns-2 : tie.Need-returns-2
-returns-2 c = rw (ne_eqb _ _ c.if1.false)
+returns-2 : tie.Need-returns
+returns-2 c = rw (ne_eqb _ _ c.if-rank-eq-ENDED.false)
 
-pub active-number-spec : {M : Type 1} → statement M
-active-number-spec = tie.close (tie.spec returns returns-2)
+pub active_number_spec : {M : Type 1} → statement M
+active_number_spec = tie.close (tie.spec returns returns-2)

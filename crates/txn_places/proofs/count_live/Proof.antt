@@ -6,14 +6,14 @@ use Prim.Native.Nat.{◌-◌}
 use Rattle.txn_places.proofs.count_live.Statement.{statement}
 use Rattle.txn_places.proofs.count_live.Tie as tie
 
-returns : tie.Need-returns
-returns c = rw (eq-eqb _ _ c.if1.true)
+returns : tie.Need-returns-then-number-eq0
+returns c = rw (eq-eqb _ _ c.if-number-eq0.true)
 
-add-result : tie.Need-overflow-add-result
+add-result : tie.Need-overflow_add-result
 add-result c = search rules
 
-returns-2 : tie.Need-returns-2
-returns-2 c = rw (ne_eqb _ _ c.if1.false)
+returns-2 : tie.Need-returns
+returns-2 c = rw (ne_eqb _ _ c.if-number-eq0.false)
 
-pub count-live-spec : {M : Type 1} → statement M
-count-live-spec = tie.close (tie.spec returns add-result returns-2)
+pub count_live_spec : {M : Type 1} → statement M
+count_live_spec = tie.close (tie.spec returns add-result returns-2)

@@ -12,55 +12,55 @@ use Rattle.txn_places.proofs.place_of.Statement.{statement}
 use Rattle.txn_places.proofs.place_of.Tie as tie
 
 -- the place among those from i on
-abbrev invariant-loop : tie.invariant-loop
+abbrev invariant-loop : tie.invariant-loop-i
 invariant-loop numbers number place₀ i₀ place i = (i ≤ length numbers) × (place ≡ place_from i (drop i numbers) number)
 
-abbrev decreases-loop : tie.decreases-loop
+abbrev decreases-loop : tie.decreases-loop-i
 decreases-loop numbers number place₀ i₀ place i = i
 
-loop-holds : tie.Need-loop-init invariant-loop decreases-loop
+loop-holds : tie.Need-loop-i-init invariant-loop decreases-loop
 loop-holds c =
     let numbers = c.args.numbers.now in
     (omega arith, sym (place_end numbers (length numbers) c.args.number (omega arith)))
 
-sub-i : tie.Need-overflow-sub-i invariant-loop decreases-loop
+sub-i : tie.Need-overflow_sub-i invariant-loop decreases-loop
 sub-i c = search rules
 
-mul-if1 : tie.Need-overflow-mul-if1 invariant-loop decreases-loop
+mul-if1 : tie.Need-offset_bounds-numbers-i invariant-loop decreases-loop
 mul-if1 c = search rules
 
-shared-slice-read-if1 : tie.Need-shared-slice-read-if1 invariant-loop decreases-loop
+shared-slice-read-if1 : tie.Need-bounds-numbers-i invariant-loop decreases-loop
 shared-slice-read-if1 c = search rules
 
-loop-less : tie.Need-loop-smaller invariant-loop decreases-loop
+loop-less : tie.Need-loop-i-smaller-then-numbers-i invariant-loop decreases-loop
 loop-less c = search rules
 
-loop-again : tie.Need-loop-preserved invariant-loop decreases-loop
+loop-again : tie.Need-loop-i-preserved-then-numbers-i invariant-loop decreases-loop
 loop-again c =
-    let at = c.before.before.before in
-    let l = at.loop in
-    let a = at.before.args in
-    (omega arith, rw (place-next a.numbers.now (l.i - 1) a.number (omega arith), eq-eqb _ _ c.if1.true))
+    let at = c in
+    let l = at.loop-i in
+    let a = at.args in
+    (omega arith, rw (place-next a.numbers.now (l.i - 1) a.number (omega arith), eq-eqb _ _ c.if-numbers-i.true))
 
-loop-less-2 : tie.Need-loop-smaller-2 invariant-loop decreases-loop
+loop-less-2 : tie.Need-loop-i-smaller invariant-loop decreases-loop
 loop-less-2 c = search rules
 
-loop-again-2 : tie.Need-loop-preserved-2 invariant-loop decreases-loop
+loop-again-2 : tie.Need-loop-i-preserved invariant-loop decreases-loop
 loop-again-2 c =
-    let at = c.before.before.before in
-    let l = at.loop in
-    let a = at.before.args in
+    let at = c in
+    let l = at.loop-i in
+    let a = at.args in
     let behind : l.i - 1 + 1 ≡ l.i = omega arith in
-    (omega arith, rw (place-next a.numbers.now (l.i - 1) a.number (omega arith), ne_eqb _ _ c.if1.false, behind) l.invariant.1)
+    (omega arith, rw (place-next a.numbers.now (l.i - 1) a.number (omega arith), ne_eqb _ _ c.if-numbers-i.false, behind) l.invariant.1)
 
 returns : tie.Need-returns invariant-loop decreases-loop
 returns c =
-    let l = c.before.loop in
+    let l = c.loop-i in
     let first : l.i ≡ 0 = omega arith in
     rw first at l.invariant.1
 
-pub place-of-spec : {M : Type 1} → statement M
-place-of-spec =
+pub place_of_spec : {M : Type 1} → statement M
+place_of_spec =
     tie.close
     (tie.spec
     invariant-loop

@@ -4,14 +4,14 @@ use borrow.Author.Tests.{eq-eqb, ne_eqb}
 use Rattle.txn_places.proofs.prepared_count.Statement.{statement}
 use Rattle.txn_places.proofs.prepared_count.Tie as tie
 
-returns : tie.Need-returns
-returns c = rw (eq-eqb _ _ c.if1.true)
+returns : tie.Need-returns-then-number-eq0
+returns c = rw (eq-eqb _ _ c.if-number-eq0.true)
 
-returns-2 : tie.Need-returns-2
-returns-2 c = rw (ne_eqb _ _ c.before.if1.false, eq-eqb _ _ c.if2.true)
+returns-2 : tie.Need-returns-then-rank-eq-PREPARED
+returns-2 c = rw (ne_eqb _ _ c.if-number-eq0.false, eq-eqb _ _ c.if-rank-eq-PREPARED.true)
 
-returns-3 : tie.Need-returns-3
-returns-3 c = rw (ne_eqb _ _ c.before.if1.false, ne_eqb _ _ c.if2.false)
+returns-3 : tie.Need-returns
+returns-3 c = rw (ne_eqb _ _ c.if-number-eq0.false, ne_eqb _ _ c.if-rank-eq-PREPARED.false)
 
-pub prepared-count-spec : {M : Type 1} → statement M
-prepared-count-spec = tie.close (tie.spec returns returns-2 returns-3)
+pub prepared_count_spec : {M : Type 1} → statement M
+prepared_count_spec = tie.close (tie.spec returns returns-2 returns-3)

@@ -6,20 +6,19 @@ use Rattle.write_prepare.proofs.Laws.{needed-made}
 use Rattle.write_prepare.proofs.push_needed.Statement.{statement}
 use Rattle.write_prepare.proofs.push_needed.Tie as tie
 
-push-reads-requires : tie.Need-push-reads-requires
+push-reads-requires : tie.Need-push_reads-read-requires
 push-reads-requires c κs = search rules
 
-push-writes-requires : tie.Need-push-writes-requires
+push-writes-requires : tie.Need-push_writes-requires
 push-writes-requires c κs = search rules
 
-same_length : tie.Need-same-length
+same_length : tie.Need-shape_of-out
 same_length c = search rules
 
 returns : tie.Need-returns
 returns c =
-    let listed = c.before.before in
-    needed-made _ _ _ _ _ _ _ _ listed.before.before.before.before.push-reads.ensures listed.push-writes.ensures
+    let listed = c in
+    needed-made _ _ _ _ _ _ _ _ listed.push_reads-read.ensures listed.push_writes.ensures
 
-pub push-needed-spec : {M : Type 1} → statement M
-push-needed-spec =
-    tie.close (tie.spec push-reads-requires push-writes-requires same_length returns)
+pub push_needed_spec : {M : Type 1} → statement M
+push_needed_spec = tie.close (tie.spec push-reads-requires push-writes-requires same_length returns)

@@ -5,17 +5,17 @@ use borrow.Author.Rules.{rules}
 use Rattle.write_verdict.proofs.changed_outright.Statement.{statement}
 use Rattle.write_verdict.proofs.changed_outright.Tie as tie
 
-xmin-at-requires : tie.Need-xmin-at-requires
+xmin-at-requires : tie.Need-xmin_at-requires
 xmin-at-requires c κs = search rules
 
-returns : tie.Need-returns
-returns c = rw (← c.before.before.xmin-at.ensures, ne_eqb _ _ c.if1.true)
+returns : tie.Need-returns-then-xmin_at-read
+returns c = rw (← c.xmin_at.ensures, ne_eqb _ _ c.if-xmin_at-read.true)
 
-returns-2 : tie.Need-returns-2
-returns-2 c = rw (← c.before.before.before.xmin-at.ensures, eq-eqb _ _ c.before.if1.false, eq-eqb _ _ c.if2.true)
+returns-2 : tie.Need-returns-then-ended-eq0
+returns-2 c = rw (← c.xmin_at.ensures, eq-eqb _ _ c.if-xmin_at-read.false, eq-eqb _ _ c.if-ended-eq0.true)
 
-returns-3 : tie.Need-returns-3
-returns-3 c = rw (← c.before.before.before.xmin-at.ensures, eq-eqb _ _ c.before.if1.false, ne_eqb _ _ c.if2.false)
+returns-3 : tie.Need-returns
+returns-3 c = rw (← c.xmin_at.ensures, eq-eqb _ _ c.if-xmin_at-read.false, ne_eqb _ _ c.if-ended-eq0.false)
 
-pub changed-outright-spec : {M : Type 1} → statement M
-changed-outright-spec = tie.close (tie.spec xmin-at-requires returns returns-2 returns-3)
+pub changed_outright_spec : {M : Type 1} → statement M
+changed_outright_spec = tie.close (tie.spec xmin-at-requires returns returns-2 returns-3)

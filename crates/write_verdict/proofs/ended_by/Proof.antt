@@ -5,14 +5,14 @@ use borrow.Author.Rules.{rules}
 use Rattle.write_verdict.proofs.ended_by.Statement.{statement}
 use Rattle.write_verdict.proofs.ended_by.Tie as tie
 
-xmax-at-requires : tie.Need-xmax-at-requires
+xmax-at-requires : tie.Need-xmax_at-xmax-requires
 xmax-at-requires c κs = search rules
 
-returns : tie.Need-returns
-returns c = rw (← c.before.xmax-at.ensures, eq-eqb _ _ c.if1.true)
+returns : tie.Need-returns-then-xmax-number
+returns c = rw (← c.xmax_at-xmax.ensures, eq-eqb _ _ c.if-xmax-number.true)
 
-returns-2 : tie.Need-returns-2
-returns-2 c = rw (← c.before.xmax-at.ensures, ne_eqb _ _ c.if1.false)
+returns-2 : tie.Need-returns
+returns-2 c = rw (← c.xmax_at-xmax.ensures, ne_eqb _ _ c.if-xmax-number.false)
 
-pub ended-by-spec : {M : Type 1} → statement M
-ended-by-spec = tie.close (tie.spec xmax-at-requires returns returns-2)
+pub ended_by_spec : {M : Type 1} → statement M
+ended_by_spec = tie.close (tie.spec xmax-at-requires returns returns-2)

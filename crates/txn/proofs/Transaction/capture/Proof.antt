@@ -17,233 +17,233 @@ use Rattle.txn.proofs.Transaction.capture.Tie as tie
 
 -- THE WAY BACK FROM EACH TEST
 
-abbrev start : tie.After-phase-rank → tie.Start
+abbrev start : tie.After-phase_rank → tie.Start
 start c = c.before.before.before
 
-abbrev found-bucket : tie.After-by-another → tie.After-bucket-of
-found-bucket c = c.before.before.before
+abbrev found-bucket : tie.After-by_another → tie.After-bucket_of-bucket
+found-bucket c = c.before.before
 
-abbrev past-mark : tie.After-by-another → tie.Else2
+abbrev past-mark : tie.After-by_another → tie.Else-self
 past-mark c = (found-bucket c).before
 
-abbrev past-holder : tie.After-stamp-precedes-snapshot → tie.Else3
-past-holder c = c.before.before.before
+abbrev past-holder : tie.After-stamp_precedes_snapshot → tie.Else-by_another
+past-holder c = c.before.before
 
-abbrev past-stamp : tie.After-too-many → tie.Else4
-past-stamp c = c.before.before.before
+abbrev past-stamp : tie.After-too_many → tie.Else-not-stamp_precedes_snapshot
+past-stamp c = c.before.before
 
-abbrev past-reads : tie.After-hold → tie.Else5
+abbrev past-reads : tie.After-hold-txn → tie.Else-too_many
 past-reads c = c.before.before.before.before.before.before
 
 -- the parameters, from each test
-abbrev start-mark : tie.Else2 → tie.Start
+abbrev start-mark : tie.Else-self → tie.Start
 start-mark c = start c.before.before
 
-abbrev start-holder : tie.After-by-another → tie.Start
+abbrev start-holder : tie.After-by_another → tie.Start
 start-holder c = start-mark (past-mark c)
 
-abbrev start-stamp : tie.After-stamp-precedes-snapshot → tie.Start
+abbrev start-stamp : tie.After-stamp_precedes_snapshot → tie.Start
 start-stamp c = start-holder (past-holder c).before
 
-abbrev start-reads : tie.After-too-many → tie.Start
+abbrev start-reads : tie.After-too_many → tie.Start
 start-reads c = start-stamp (past-stamp c).before
 
-abbrev bucket-stamp : (c : tie.After-stamp-precedes-snapshot) → tie.After-bucket-of
+abbrev bucket-stamp : (c : tie.After-stamp_precedes_snapshot) → tie.After-bucket_of-bucket
 bucket-stamp c = found-bucket (past-holder c).before
 
-abbrev bucket-reads : (c : tie.After-too-many) → tie.After-bucket-of
+abbrev bucket-reads : (c : tie.After-too_many) → tie.After-bucket_of-bucket
 bucket-reads c = bucket-stamp (past-stamp c).before
 
 -- WHAT EACH TEST TELLS
 
 -- the bucket's holder is another, or not
-told-holder : (c : tie.After-by-another)
-    → let a = (start-holder c).args in taken_by (holder_of a.buckets.now (a.key % a.bucket-count)) a.self.number ≡ c.by-another.result
-told-holder c = rw (← (found-bucket c).bucket-of.ensures, ← c.before.holder-at.ensures, ← c.by-another.ensures)
+told-holder : (c : tie.After-by_another)
+    → let a = (start-holder c).args in taken_by (holder_of a.buckets.now (a.key % a.bucket_count)) a.self.number ≡ c.by_another.result
+told-holder c = rw (← (found-bucket c).bucket_of-bucket.ensures, ← c.holder_at.ensures, ← c.by_another.ensures)
 
 -- the bucket's stamp
-told-stamp : (c : tie.After-stamp-precedes-snapshot)
-    → let a = (start-stamp c).args in stamp_of a.buckets.now (a.key % a.bucket-count) ≡ c.before.stamp-at.result
-told-stamp c = rw (← (bucket-stamp c).bucket-of.ensures, ← c.before.stamp-at.ensures)
+told-stamp : (c : tie.After-stamp_precedes_snapshot)
+    → let a = (start-stamp c).args in stamp_of a.buckets.now (a.key % a.bucket_count) ≡ c.stamp_at-stamp.result
+told-stamp c = rw (← (bucket-stamp c).bucket_of-bucket.ensures, ← c.stamp_at-stamp.ensures)
 
 -- it precedes the snapshot, or not
-told-precedes : (c : tie.After-stamp-precedes-snapshot)
-    → let a = (start-stamp c).args in precedes (stamp_of a.buckets.now (a.key % a.bucket-count)) a.self.number ≡ c.stamp-precedes-snapshot.result
-told-precedes c = rw (told-stamp c, ← c.stamp-precedes-snapshot.ensures)
+told-precedes : (c : tie.After-stamp_precedes_snapshot)
+    → let a = (start-stamp c).args in precedes (stamp_of a.buckets.now (a.key % a.bucket_count)) a.self.number ≡ c.stamp_precedes_snapshot.result
+told-precedes c = rw (told-stamp c, ← c.stamp_precedes_snapshot.ensures)
 
 -- the index read of the bucket
-told-read : (c : tie.After-too-many)
+told-read : (c : tie.After-too_many)
     → let a = (start-reads c).args in
-    read_prefix a.lists.now a.self.slot a.self.reads_n (a.key % a.bucket-count) ≡ c.before.find-read-prefix.result
-told-read c = rw (← (bucket-reads c).bucket-of.ensures, ← c.before.find-read-prefix.ensures)
+    read_prefix a.lists.now a.self.slot a.self.reads_n (a.key % a.bucket_count) ≡ c.find_read_prefix-found.result
+told-read c = rw (← (bucket-reads c).bucket_of-bucket.ensures, ← c.find_read_prefix-found.ensures)
 
 -- a bucket with no index read finds no place for one, or does
-told-many : (c : tie.After-too-many)
+told-many : (c : tie.After-too_many)
     → let a = (start-reads c).args in
-    too_many (read_prefix a.lists.now a.self.slot a.self.reads_n (a.key % a.bucket-count)) a.self.reads_n ≡ c.too_many.result
+    too_many (read_prefix a.lists.now a.self.slot a.self.reads_n (a.key % a.bucket_count)) a.self.reads_n ≡ c.too_many.result
 told-many c = rw (told-read c, ← c.too_many.ensures)
 
 -- the phase is open
-opened : (c : tie.Else1) → eqb (rank (phase_view (start c.before).args.self.phase)) phase_open ≡ true
-opened c = rw (← c.before.phase-rank.ensures) (eq-eqb _ _ c.if1.false)
+opened : (c : tie.Else-phase_rank-ne-OPEN) → eqb (rank (phase_view (start c.before).args.self.phase)) phase_open ≡ true
+opened c = rw (← c.phase_rank.ensures) (eq-eqb _ _ c.if-phase_rank-ne-OPEN.false)
 
 -- the transaction that holds the bucket, and its lists
-held : (c : tie.After-hold)
+held : (c : tie.After-hold-txn)
     → let a = (start-reads (past-reads c).before).args in
-    let b = a.key % a.bucket-count in
-    ◌≡◌ {A = WithLists} (record { txn = c.hold.result; lists = c.hold.new.1.0 })
+    let b = a.key % a.bucket_count in
+    ◌≡◌ {A = WithLists} (record { txn = c.hold-txn.result; lists = c.hold-txn.new.lists })
     (hold_of a.self a.lists.now (read_prefix a.lists.now a.self.slot a.self.reads_n b) b a.key (stamp_of a.buckets.now b))
 held c =
     let many = (past-reads c).before in
-    c.hold.ensures ∙ rw (told-read many, told-stamp (past-stamp many).before, ← (bucket-reads many).bucket-of.ensures)
+    c.hold-txn.ensures ∙ rw (told-read many, told-stamp (past-stamp many).before, ← (bucket-reads many).bucket_of-bucket.ensures)
 
 -- WHAT IS ASKED
 
-phase-rank-requires : tie.Need-phase-rank-requires
+phase-rank-requires : tie.Need-phase_rank-requires
 phase-rank-requires c κs = search rules
 
 refused-requires : tie.Need-refused-requires
 refused-requires c κs = search rules
 
-returns : tie.Need-returns
+returns : tie.Need-returns-then-phase_rank-ne-OPEN
 unfolding capture_at
-returns c = rw (c.refused.ensures, ← c.before.before.phase-rank.ensures, ne_eqb _ _ c.before.if1.true)
+returns c = rw (c.refused.ensures, ← c.phase_rank.ensures, ne_eqb _ _ c.if-phase_rank-ne-OPEN.true)
 
-refused-requires-2 : tie.Need-refused-requires-2
+refused-requires-2 : tie.Need-refused-requires-then-self
 refused-requires-2 c κs = search rules
 
-returns-2 : tie.Need-returns-2
+returns-2 : tie.Need-returns-then-self
 unfolding capture_at
-returns-2 c = rw (c.refused2.ensures, opened c.before.before, c.before.if2.true)
+returns-2 c = rw (c.refused-then-self.ensures, opened c.before.before, c.if-self.true)
 
-bucket-of-requires : tie.Need-bucket-of-requires
+bucket-of-requires : tie.Need-bucket_of-bucket-requires
 bucket-of-requires c κs = search rules
 
-holder-at-requires : tie.Need-holder-at-requires
+holder-at-requires : tie.Need-holder_at-requires
 holder-at-requires c κs = search rules
 
-by-another-requires : tie.Need-by-another-requires
+by-another-requires : tie.Need-by_another-requires
 by-another-requires c κs = search rules
 
-refused-requires-3 : tie.Need-refused-requires-3
+refused-requires-3 : tie.Need-refused-requires-then-by_another
 refused-requires-3 c κs = search rules
 
-same_length : tie.Need-same-length
+same_length : tie.Need-shape_of-buckets-then-by_another
 same_length c = search rules
 
-returns-3 : tie.Need-returns-3
+returns-3 : tie.Need-returns-then-by_another
 unfolding capture_at
 returns-3 c =
-    let holder = c.before.before in
-    let unmarked = past-mark holder in
-    rw (c.refused3.ensures, opened unmarked.before, unmarked.if2.left, told-holder holder, c.before.if3.true)
+    let holder = c in
+    let unmarked = past-mark holder.before.before in
+    rw (c.refused-then-by_another.ensures, opened unmarked.before, unmarked.if-self.false, told-holder holder.before.before, c.if-by_another.true)
 
-stamp-at-requires : tie.Need-stamp-at-requires
+stamp-at-requires : tie.Need-stamp_at-stamp-requires
 stamp-at-requires c κs = search rules
 
-stamp-precedes-snapshot-requires : tie.Need-stamp-precedes-snapshot-requires
+stamp-precedes-snapshot-requires : tie.Need-stamp_precedes_snapshot-requires
 stamp-precedes-snapshot-requires c κs = search rules
 
-with-mark-requires : tie.Need-with-mark-requires
+with-mark-requires : tie.Need-with_mark-requires
 with-mark-requires c κs = search rules
 
-refused-requires-4 : tie.Need-refused-requires-4
+refused-requires-4 : tie.Need-refused-requires-then-not-stamp_precedes_snapshot
 refused-requires-4 c κs = search rules
 
-same-length-2 : tie.Need-same-length-2
+same-length-2 : tie.Need-shape_of-buckets-then-not-stamp_precedes_snapshot
 same-length-2 c = search rules
 
-returns-4 : tie.Need-returns-4
+returns-4 : tie.Need-returns-then-not-stamp_precedes_snapshot
 unfolding capture_at
 returns-4 c =
-    let stale = c.before.before in
-    let free = past-holder stale.before in
+    let stale = c in
+    let free = past-holder stale.before.before.before in
     let unmarked = past-mark free.before in
     rw (
-      c.refused4.ensures,
-      c.before.with-mark.ensures,
+      c.refused-then-not-stamp_precedes_snapshot.ensures,
+      c.with_mark.ensures,
       opened unmarked.before,
-      unmarked.if2.left,
+      unmarked.if-self.false,
       told-holder free.before,
-      free.if3.left,
-      told-precedes stale.before,
-      stale.if4.true,
+      free.if-by_another.false,
+      told-precedes stale.before.before.before,
+      stale.if-not-stamp_precedes_snapshot.true-raw,
     )
 
-find-read-prefix-requires : tie.Need-find-read-prefix-requires
+find-read-prefix-requires : tie.Need-find_read_prefix-found-requires
 find-read-prefix-requires c κs = search rules
 
-too-many-requires : tie.Need-too-many-requires
+too-many-requires : tie.Need-too_many-requires
 too-many-requires c κs = search rules
 
-refused-requires-5 : tie.Need-refused-requires-5
+refused-requires-5 : tie.Need-refused-requires-then-too_many
 refused-requires-5 c κs = search rules
 
-same-length-3 : tie.Need-same-length-3
+same-length-3 : tie.Need-shape_of-buckets-then-too_many
 same-length-3 c = search rules
 
-same-length-4 : tie.Need-same-length-4
+same-length-4 : tie.Need-shape_of-lists-then-too_many
 same-length-4 c = search rules
 
-returns-5 : tie.Need-returns-5
+returns-5 : tie.Need-returns-then-too_many
 unfolding capture_at
 returns-5 c =
-    let many = c.before in
-    let recent = past-stamp many.before in
+    let many = c in
+    let recent = past-stamp many.before.before in
     let free = past-holder recent.before in
     let unmarked = past-mark free.before in
     rw (
-      c.refused5.ensures,
+      c.refused-then-too_many.ensures,
       opened unmarked.before,
-      unmarked.if2.left,
+      unmarked.if-self.false,
       told-holder free.before,
-      free.if3.left,
+      free.if-by_another.false,
       told-precedes recent.before,
-      recent.if4.left,
-      told-many many.before,
-      many.if5.true,
+      recent.if-not-stamp_precedes_snapshot.false-raw,
+      told-many many.before.before,
+      many.if-too_many.true,
     )
 
-set-holder-requires : tie.Need-set-holder-requires
+set-holder-requires : tie.Need-set_holder-requires
 set-holder-requires c κs = search rules
 
-hold-requires : tie.Need-hold-requires
+hold-requires : tie.Need-hold-txn-requires
 hold-requires c κs =
-    let few = c.before.before.before.before.before in
-    rw few.before.too_many.ensures at few.if5.false
+    let few = c in
+    rw few.too_many.ensures at few.if-too_many.false
 
-same-length-5 : tie.Need-same-length-5
+same-length-5 : tie.Need-shape_of-buckets
 same-length-5 c = search rules
 
-same-length-6 : tie.Need-same-length-6
+same-length-6 : tie.Need-shape_of-lists
 same-length-6 c = search rules
 
-returns-6 : tie.Need-returns-6
+returns-6 : tie.Need-returns
 unfolding capture_at
 returns-6 c =
-    let kept = c.before.before in
-    let taken = kept.before.before.before.before in
-    let few = past-reads kept in
+    let kept = c in
+    let taken = kept in
+    let few = past-reads kept.before.before in
     let recent = past-stamp few.before in
     let free = past-holder recent.before in
     let unmarked = past-mark free.before in
     rw (
-      ← held kept,
+      ← held kept.before.before,
       opened unmarked.before,
-      unmarked.if2.left,
+      unmarked.if-self.false,
       told-holder free.before,
-      free.if3.left,
+      free.if-by_another.false,
       told-precedes recent.before,
-      recent.if4.left,
+      recent.if-not-stamp_precedes_snapshot.false-raw,
       told-many few.before,
-      few.if5.left,
+      few.if-too_many.false,
       told-stamp recent.before,
-      ← (bucket-reads few.before).bucket-of.ensures,
-      ← taken.set-holder.ensures,
+      ← (bucket-reads few.before).bucket_of-bucket.ensures,
+      ← taken.set_holder.ensures,
     )
 
-pub capture-spec : {M : Type 1} → statement M
-capture-spec =
+pub capture_spec : {M : Type 1} → statement M
+capture_spec =
     tie.close
     (tie.spec
     phase-rank-requires

@@ -12,73 +12,73 @@ use Rattle.txn.proofs.Transaction.write.Statement.{statement}
 use Rattle.txn.proofs.Transaction.write.Tie as tie
 
 -- the phase is open, past the first test
-opened : (c : tie.Else1) → eqb (rank (phase_view c.before.before.before.args.self.phase)) phase_open ≡ true
-opened c = rw (← c.before.phase-rank.ensures) (eq-eqb _ _ c.if1.false)
+opened : (c : tie.Else-phase_rank-ne-OPEN) → eqb (rank (phase_view c.args.self.phase)) phase_open ≡ true
+opened c = rw (← c.phase_rank.ensures) (eq-eqb _ _ c.if-phase_rank-ne-OPEN.false)
 
-phase-rank-requires : tie.Need-phase-rank-requires
+phase-rank-requires : tie.Need-phase_rank-requires
 phase-rank-requires c κs = search rules
 
 refused-requires : tie.Need-refused-requires
 refused-requires c κs = search rules
 
-returns : tie.Need-returns
+returns : tie.Need-returns-then-phase_rank-ne-OPEN
 unfolding write_of
-returns c = rw (c.refused.ensures, ← c.before.before.phase-rank.ensures, ne_eqb _ _ c.before.if1.true)
+returns c = rw (c.refused.ensures, ← c.phase_rank.ensures, ne_eqb _ _ c.if-phase_rank-ne-OPEN.true)
 
-refused-requires-2 : tie.Need-refused-requires-2
+refused-requires-2 : tie.Need-refused-requires-then-self
 refused-requires-2 c κs = search rules
 
-returns-2 : tie.Need-returns-2
+returns-2 : tie.Need-returns-then-self
 unfolding write_of
-returns-2 c = rw (c.refused2.ensures, opened c.before.before, c.before.if2.true)
+returns-2 c = rw (c.refused-then-self.ensures, opened c.before.before, c.if-self.true)
 
-refused-requires-3 : tie.Need-refused-requires-3
+refused-requires-3 : tie.Need-refused-requires-then-w-row_count
 refused-requires-3 c κs = search rules
 
-returns-3 : tie.Need-returns-3
+returns-3 : tie.Need-returns-then-w-row_count
 unfolding write_of
 returns-3 c =
-    let unmarked = c.before.before.before in
-    rw (c.refused3.ensures, opened unmarked.before, unmarked.if2.false, le-ltb _ _ c.before.if3.true)
+    let unmarked = c in
+    rw (c.refused-then-w-row_count.ensures, opened unmarked.before.before.before.before, unmarked.if-self.false, le-ltb _ _ c.if-w-row_count.true)
 
-refused-requires-4 : tie.Need-refused-requires-4
+refused-requires-4 : tie.Need-refused-requires-then-n-ge-MOST_WRITES
 refused-requires-4 c κs = search rules
 
-returns-4 : tie.Need-returns-4
+returns-4 : tie.Need-returns-then-n-ge-MOST_WRITES
 unfolding write_of
 returns-4 c =
-    let in-store = c.before.before in
-    let unmarked = in-store.before.before in
+    let in-store = c in
+    let unmarked = in-store in
     rw (
-      c.refused4.ensures,
-      opened unmarked.before,
-      unmarked.if2.false,
-      lt-ltb _ _ in-store.if3.false,
-      le-leb _ _ c.before.if4.true,
+      c.refused-then-n-ge-MOST_WRITES.ensures,
+      opened unmarked.before.before.before.before.before,
+      unmarked.if-self.false,
+      lt-ltb _ _ in-store.if-w-row_count.false,
+      le-leb _ _ c.if-n-ge-MOST_WRITES.true,
     )
 
-put-write-requires : tie.Need-put-write-requires
+put-write-requires : tie.Need-put_write-requires
 put-write-requires c κs = search rules
 
-add-written : tie.Need-overflow-add-written
+add-written : tie.Need-overflow_add-written
 add-written c = search rules
 
-same_length : tie.Need-same-length
+same_length : tie.Need-shape_of-lists
 same_length c = search rules
 
-returns-5 : tie.Need-returns-5
+returns-5 : tie.Need-returns
 unfolding write_of
 returns-5 c =
-    let put = c.before.before in
-    let few = put.before.before in
-    let in-store = few.before in
-    let unmarked = in-store.before.before in
+    let put = c in
+    let few = put in
+    let in-store = few in
+    let unmarked = in-store in
     rw (
-      opened unmarked.before,
-      unmarked.if2.false,
-      lt-ltb _ _ in-store.if3.false,
-      lt-leb _ _ few.if4.false,
-      put.put-write.ensures,
+      opened unmarked.before.before.before.before.before.before.before.before,
+      unmarked.if-self.false,
+      lt-ltb _ _ in-store.if-w-row_count.false,
+      lt-leb _ _ few.if-n-ge-MOST_WRITES.false,
+      put.put_write.ensures,
     )
 
 pub write_spec : {M : Type 1} → statement M

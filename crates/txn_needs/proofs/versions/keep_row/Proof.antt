@@ -8,16 +8,16 @@ use Rattle.txn_needs.proofs.versions.keep_row.Tie as tie
 push-requires : tie.Need-push-requires
 push-requires c κs = search rules
 
-same_length : tie.Need-same-length
+same_length : tie.Need-shape_of-out-then-gets
 same_length c = search rules
 
-returns : tie.Need-returns
+returns : tie.Need-returns-then-gets
 unfolding push_all
-returns c = rw c.before.before.before.before.if1.true c.before.before.push.ensures
+returns c = rw c.if-gets.true c.push.ensures
 
-returns-2 : tie.Need-returns-2
+returns-2 : tie.Need-returns
 unfolding push_all
-returns-2 c = rw c.if1.false
+returns-2 c = rw c.if-gets.false
 
-pub keep-row-spec : {M : Type 1} → statement M
-keep-row-spec = tie.close (tie.spec push-requires same_length returns returns-2)
+pub keep_row_spec : {M : Type 1} → statement M
+keep_row_spec = tie.close (tie.spec push-requires same_length returns returns-2)
