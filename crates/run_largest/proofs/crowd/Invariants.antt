@@ -1,0 +1,6 @@
+-- The loop of `run_largest::crowd`.
+use Rattle.std.proofs.Common.{◌-◌}
+use Rattle.run_largest.proofs.crowd.Given as goal
+
+abbrev pub decreases-loop-i : goal.decreases-loop-i
+decreases-loop-i l = 7 - l.i

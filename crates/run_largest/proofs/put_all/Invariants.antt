@@ -1,0 +1,6 @@
+-- The loop of `run_largest::put_all`.
+use Rattle.std.proofs.Common.{◌-◌}
+use Rattle.run_largest.proofs.put_all.Given as goal
+
+abbrev pub decreases-loop-i : goal.decreases-loop-i
+decreases-loop-i l = 16 - l.i
