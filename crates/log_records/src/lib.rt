@@ -1,4 +1,6 @@
 // The log: records from bytes, little-endian, each read at a place of the caller's bytes.
+#![tactic(auto)]
+
 ghost use Rattle.std.specs.Prelude.{◌≡◌, ◌+◌, ◌≤◌, ◌<◌, length, take, drop};
 ghost use Rattle.model.specs.Log.{number};
 ghost use Rattle.log_records.specs.declared.Command.TheVariants.{Ask};

@@ -1,4 +1,6 @@
 // The report: the line of an open, of a malformed log, and of every step's answer.
+#![tactic(auto)]
+
 ghost use Rattle.std.specs.Prelude.{◌≡◌, [], ◌∷◌, ◌++◌, ◌+◌, ◌*◌, ◌≤◌, min, leb, length, take};
 ghost use Rattle.model.specs.Report.{decimal, word_of, spaced, line};
 ghost use Rattle.model.specs.Replay.{most_room};

@@ -80,7 +80,7 @@ pub put-beyond : (xs : List ℕ) (s n : ℕ) (rs : List ReadRecord) → s < most
 unfolding put_records
 put-beyond xs s n [] hs h = refl
 put-beyond xs s n (r ∷ rs) hs h =
-    put-beyond _ s (n + 1) rs hs (omega arith)
+    put-beyond (stored records xs s n (r.row ∷ r.ptr ∷ r.xmin ∷ [])) s (n + 1) rs hs (omega arith)
     ∙ stored-beyond records (omega arith) xs s n (r.row ∷ r.ptr ∷ r.xmin ∷ []) refl (omega arith) hs
 
 -- ---- postings

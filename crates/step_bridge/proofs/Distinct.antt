@@ -54,6 +54,7 @@ member-among v (y ∷ ys) e = ⊎_elim (λ t. inl (sym (eqb-true y v t))) (λ t.
 among-member : (v : ℕ) (xs : List ℕ) → Among v xs → member v xs ≡ true
 among-member v (y ∷ ys) (inl e) = or_left (eqb y v) (member v ys) (eq-eqb y v (sym e))
 among-member v (y ∷ ys) (inr m) = or_right (eqb y v) (member v ys) (among-member v ys m)
+among-member v [] x' = elim x' [ ]
 
 entry-among : (xs : List ℕ) (i : ℕ) → i < length xs → Among (get_or xs i 0) xs
 entry-among [] i h = absurd (omega arith)

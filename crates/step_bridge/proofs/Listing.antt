@@ -35,6 +35,7 @@ pub all-each : {A : Type 0} (test : A → Bool) (xs : List A) → all_of test xs
 unfolding all_of
 all-each test (y ∷ xs) e x (inl d) = rw d (and_l (test y) (all_of test xs) e)
 all-each test (y ∷ xs) e x (inr m) = all-each test xs (and_r (test y) (all_of test xs) e) x m
+all-each {A = A} test [] e x x4 = elim x4 [ ]
 
 pub every-at : (n : ℕ) (test : ℕ → Bool) → every n test ≡ true → (i : ℕ) → i < n → test i ≡ true
 unfolding every

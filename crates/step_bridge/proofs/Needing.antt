@@ -48,6 +48,7 @@ among-pending : (ws : List model.Write) (x : model.Write) → Among x ws → pen
 unfolding pending
 among-pending (y ∷ ws) x (inl e) = or_left _ _ (eq-eqb y.row x.row (ap (λ (v : model.Write). v.row) (sym e)))
 among-pending (y ∷ ws) x (inr m) = or_right (eqb y.row x.row) _ (among-pending ws x m)
+among-pending [] x x3 = elim x3 [ ]
 
 -- the rows of a slot's pending writes are the pending rows
 module _ (xs : List ℕ) (s n : ℕ) (z : model.Sizes) (r : ℕ) where

@@ -151,6 +151,7 @@ module _ (w : Words) (z : Sized w) (g : Shaped w) (p : ℕ) (l : 1 ≤ (txn_at w
 -- who is live keeps the clock below the last number
 some-long : (xs : List ℕ) (x : ℕ) → Among x xs → 1 ≤ length xs
 some-long (y ∷ xs) x m = omega arith
+some-long mathlib.Core.List.[] x m = elim m [ ]
 
 pub clock-below : (w : Words) → Shaped w → (p : ℕ) → p < most_live → 1 ≤ (txn_at w p).number → w.clock < last_number
 unfolding live_count
