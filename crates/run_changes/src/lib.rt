@@ -1,4 +1,6 @@
 // Words of a state by their names: what stands there, and another word there. So a state can be made that no step leads to, and looked at behind any step.
+#![tactic(auto)]
+
 ghost use Rattle.std.specs.Prelude.{◌≡◌, ◌≤◌};
 ghost use Rattle.table.specs.Lists.{slot_words};
 ghost use Rattle.run_changes.specs.Changes.{entry_place, list_place, lists_place, record_place, seen_at, machine_seen, look_of, machine_changed, change_of};
