@@ -1,4 +1,6 @@
 // Open, and any step of a machine: the shape first, 16 where it is wrong; then the step of the transaction that it names.
+#![tactic(auto)]
+
 ghost use Rattle.std.specs.Prelude.{◌≡◌, [], ◌<◌, ◌≤◌, length};
 ghost use Rattle.base_limits.specs.Limits.{most_live};
 ghost use Rattle.base_protocol.specs.declared.Answer.TheVariants as tell;

@@ -1,4 +1,6 @@
 // The shape that public steps test first: the model's test, and that the lent tables, the records' slots and the lists of postings fit.
+#![tactic(auto)]
+
 ghost use Rattle.std.specs.Prelude.{◌≡◌, [], ◌<◌, ◌≤◌};
 ghost use Rattle.base_limits.specs.Limits.{most_live};
 ghost use Rattle.step.specs.Words.{others_in};

@@ -5,14 +5,14 @@ use borrow.Author.Rules.{rules}
 use Rattle.call.proofs.placed.Statement.{statement}
 use Rattle.call.proofs.placed.Tie as tie
 
-mul-txns : tie.Need-overflow-mul-txns
+mul-txns : tie.Need-offset_bounds-txns-p
 mul-txns c = search rules
 
-array-set-from-txns : tie.Need-array-set-from-txns
+array-set-from-txns : tie.Need-bounds-txns-p
 array-set-from-txns c = search rules
 
 returns : tie.Need-returns
 returns c = refl
 
-pub placed-spec : {M : Type 1} → statement M
-placed-spec = tie.close (tie.spec mul-txns array-set-from-txns returns)
+pub placed_spec : {M : Type 1} → statement M
+placed_spec = tie.close (tie.spec mul-txns array-set-from-txns returns)

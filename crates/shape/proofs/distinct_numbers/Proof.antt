@@ -12,53 +12,53 @@ use Rattle.shape.specs.Tests.{distinct_at}
 use Rattle.shape.proofs.distinct_numbers.Statement.{statement}
 use Rattle.shape.proofs.distinct_numbers.Tie as tie
 
-abbrev invariant-loop : tie.invariant-loop
+abbrev invariant-loop : tie.invariant-loop-i
 invariant-loop numbers i₀ i =
     (i ≤ 8) × (every i (distinct_at numbers) ≡ true)
 
-abbrev decreases-loop : tie.decreases-loop
+abbrev decreases-loop : tie.decreases-loop-i
 decreases-loop numbers i₀ i = 8 - i
 
-loop-holds : tie.Need-loop-init invariant-loop decreases-loop
+loop-holds : tie.Need-loop-i-init invariant-loop decreases-loop
 loop-holds c = (search rules, every-none _)
 
-distinct-at-requires : tie.Need-distinct-at-requires invariant-loop decreases-loop
+distinct-at-requires : tie.Need-distinct_at-requires invariant-loop decreases-loop
 distinct-at-requires c κs = search rules
 
-returns : tie.Need-returns invariant-loop decreases-loop
+returns : tie.Need-returns-then-not-distinct_at invariant-loop decreases-loop
 returns c =
-    let c3 = c.before.before.before in
-    let c4 = c3.before in
+    let c3 = c in
+    let c4 = c3 in
     let a = c4.args in
-    let l = c3.loop in
+    let l = c3.loop-i in
     every-fails (distinct_at a.numbers) l.i 8 (omega arith)
-    (rw (← c.before.distinct-at.ensures) (not-true c.before.distinct-at.result c.if1.true))
+    (rw (← c.distinct_at.ensures) (not-true c.distinct_at.result c.if-not-distinct_at.true-raw))
 
-add-i : tie.Need-overflow-add-i invariant-loop decreases-loop
+add-i : tie.Need-overflow_add-i invariant-loop decreases-loop
 add-i c = search rules
 
-loop-less : tie.Need-loop-smaller invariant-loop decreases-loop
+loop-less : tie.Need-loop-i-smaller invariant-loop decreases-loop
 loop-less c = search rules
 
-loop-again : tie.Need-loop-preserved invariant-loop decreases-loop
+loop-again : tie.Need-loop-i-preserved invariant-loop decreases-loop
 loop-again c =
-    let c3 = c.before.before.before in
-    let c4 = c3.before in
+    let c3 = c in
+    let c4 = c3 in
     let a = c4.args in
-    let l = c3.loop in (
+    let l = c3.loop-i in (
       omega arith,
       every-next (distinct_at a.numbers) l.i l.invariant.1
-          (rw (← c.before.distinct-at.ensures) (not-false c.before.distinct-at.result c.if1.false)),
+          (rw (← c.distinct_at.ensures) (not-false c.distinct_at.result c.if-not-distinct_at.false-raw)),
     )
 
-returns-2 : tie.Need-returns-2 invariant-loop decreases-loop
+returns-2 : tie.Need-returns invariant-loop decreases-loop
 returns-2 c =
-    let a = c.before.before.args in
-    let l = c.before.loop in
+    let a = c.args in
+    let l = c.loop-i in
     every-done (distinct_at a.numbers) l.i 8 (omega arith) (omega arith) l.invariant.1
 
-pub distinct-numbers-spec : {M : Type 1} → statement M
-distinct-numbers-spec =
+pub distinct_numbers_spec : {M : Type 1} → statement M
+distinct_numbers_spec =
     tie.close
     (tie.spec
     invariant-loop

@@ -14,7 +14,7 @@ use Rattle.shape.proofs.Laws.{filled_next, filled-all}
 use Rattle.shape.proofs.others_of.Statement.{statement}
 use Rattle.shape.proofs.others_of.Tie as tie
 
-abbrev invariant-loop : tie.invariant-loop
+abbrev invariant-loop : tie.invariant-loop-i
 invariant-loop txns numbers₀ active₀ prepared₀ i₀ numbers active prepared i =
     (i ≤ 8)
     × (length numbers ≡ 8)
@@ -24,7 +24,7 @@ invariant-loop txns numbers₀ active₀ prepared₀ i₀ numbers active prepare
     × (take i active ≡ take i (others_in txns).active)
     × (take i prepared ≡ take i (others_in txns).prepared)
 
-abbrev decreases-loop : tie.decreases-loop
+abbrev decreases-loop : tie.decreases-loop-i
 decreases-loop txns numbers₀ active₀ prepared₀ i₀ numbers active prepared i = 8 - i
 
 -- what is told of a record by the number of its phase
@@ -35,81 +35,81 @@ told-prepared : (t : Transaction) {told v : ℕ} → told ≡ rank (phase_view t
     → v ≡ prepared_count t.number t.phase t.writes_n
 told-prepared t e v = v ∙ ap (λ (r : ℕ). prepared_by t.number r t.writes_n) e
 
-loop-holds : tie.Need-loop-init invariant-loop decreases-loop
+loop-holds : tie.Need-loop-i-init invariant-loop decreases-loop
 loop-holds c = (search rules, refl, refl, refl, refl, refl, refl)
 
-mul-t : tie.Need-overflow-mul-t invariant-loop decreases-loop
+mul-t : tie.Need-offset_bounds-txns-i invariant-loop decreases-loop
 mul-t c = search rules
 
-array-copy-out-t : tie.Need-array-copy-out-t invariant-loop decreases-loop
+array-copy-out-t : tie.Need-bounds-txns-i invariant-loop decreases-loop
 array-copy-out-t c = search rules
 
-phase-rank-requires : tie.Need-phase-rank-requires invariant-loop decreases-loop
+phase-rank-requires : tie.Need-phase_rank-rank-requires invariant-loop decreases-loop
 phase-rank-requires c κs = search rules
 
-mul-numbers : tie.Need-overflow-mul-numbers invariant-loop decreases-loop
+mul-numbers : tie.Need-offset_bounds-numbers-i invariant-loop decreases-loop
 mul-numbers c = search rules
 
-array-write-numbers : tie.Need-array-write-numbers invariant-loop decreases-loop
+array-write-numbers : tie.Need-bounds-numbers-i invariant-loop decreases-loop
 array-write-numbers c = search rules
 
-active-number-requires : tie.Need-active-number-requires invariant-loop decreases-loop
+active-number-requires : tie.Need-active_number-requires invariant-loop decreases-loop
 active-number-requires c κs = search rules
 
-mul-active : tie.Need-overflow-mul-active invariant-loop decreases-loop
+mul-active : tie.Need-offset_bounds-active-i invariant-loop decreases-loop
 mul-active c = search rules
 
-array-write-active : tie.Need-array-write-active invariant-loop decreases-loop
+array-write-active : tie.Need-bounds-active-i invariant-loop decreases-loop
 array-write-active c = search rules
 
-prepared-count-requires : tie.Need-prepared-count-requires invariant-loop decreases-loop
+prepared-count-requires : tie.Need-prepared_count-requires invariant-loop decreases-loop
 prepared-count-requires c κs = search rules
 
-mul-prepared : tie.Need-overflow-mul-prepared invariant-loop decreases-loop
+mul-prepared : tie.Need-offset_bounds-prepared-i invariant-loop decreases-loop
 mul-prepared c = search rules
 
-array-write-prepared : tie.Need-array-write-prepared invariant-loop decreases-loop
+array-write-prepared : tie.Need-bounds-prepared-i invariant-loop decreases-loop
 array-write-prepared c = search rules
 
-add-i : tie.Need-overflow-add-i invariant-loop decreases-loop
+add-i : tie.Need-overflow_add-i invariant-loop decreases-loop
 add-i c = search rules
 
-loop-less : tie.Need-loop-smaller invariant-loop decreases-loop
+loop-less : tie.Need-loop-i-smaller invariant-loop decreases-loop
 loop-less c = search rules
 
-loop-again : tie.Need-loop-preserved invariant-loop decreases-loop
+loop-again : tie.Need-loop-i-preserved invariant-loop decreases-loop
 loop-again c =
-    let ranked = c.before.before in
-    let turn = ranked.before.before.before in
-    let a = turn.before.args in
-    let l = turn.loop in
-    let n : length a.t1 ≡ 8 = search rules in (
+    let ranked = c in
+    let turn = ranked in
+    let a = turn.args in
+    let l = turn.loop-i in
+    let n : length a.txns ≡ 8 = search rules in (
       omega arith,
       simp length-set l.invariant.1,
       simp length-set l.invariant.2,
       simp length-set l.invariant.3,
-      filled_next (λ (t : Transaction). t.number) a.t1 l.numbers l.i _ _ (omega arith) (omega arith) refl l.invariant.4,
-      filled_next (λ (t : Transaction). active_number t.number t.phase) a.t1 l.active l.i _ _ (omega arith) (omega arith)
-          (told-active (get_or a.t1 l.i _) ranked.phase-rank.ensures c.before.active-number.ensures) l.invariant.5,
-      filled_next (λ (t : Transaction). prepared_count t.number t.phase t.writes_n) a.t1
+      filled_next (λ (t : Transaction). t.number) a.txns l.numbers l.i _ _ (omega arith) (omega arith) refl l.invariant.4,
+      filled_next (λ (t : Transaction). active_number t.number t.phase) a.txns l.active l.i _ _ (omega arith) (omega arith)
+          (told-active (get_or a.txns l.i _) ranked.phase_rank-rank.ensures c.active_number.ensures) l.invariant.5,
+      filled_next (λ (t : Transaction). prepared_count t.number t.phase t.writes_n) a.txns
           l.prepared l.i _ _ (omega arith) (omega arith)
-          (told-prepared (get_or a.t1 l.i _) ranked.phase-rank.ensures c.prepared-count.ensures) l.invariant.6,
+          (told-prepared (get_or a.txns l.i _) ranked.phase_rank-rank.ensures c.prepared_count.ensures) l.invariant.6,
     )
 
 returns : tie.Need-returns invariant-loop decreases-loop
 returns c =
-    let a = c.before.before.args in
-    let l = c.before.loop in
-    let n : length a.t1 ≡ 8 = search rules in
+    let a = c.args in
+    let l = c.loop-i in
+    let n : length a.txns ≡ 8 = search rules in
     rw (
-      ← filled-all (λ (t : Transaction). t.number) a.t1 l.numbers l.i (omega arith) (omega arith) l.invariant.4,
-      ← filled-all (λ (t : Transaction). active_number t.number t.phase) a.t1 l.active l.i (omega arith) (omega arith) l.invariant.5,
-      ← filled-all (λ (t : Transaction). prepared_count t.number t.phase t.writes_n) a.t1 l.prepared l.i (omega arith) (omega arith)
+      ← filled-all (λ (t : Transaction). t.number) a.txns l.numbers l.i (omega arith) (omega arith) l.invariant.4,
+      ← filled-all (λ (t : Transaction). active_number t.number t.phase) a.txns l.active l.i (omega arith) (omega arith) l.invariant.5,
+      ← filled-all (λ (t : Transaction). prepared_count t.number t.phase t.writes_n) a.txns l.prepared l.i (omega arith) (omega arith)
           l.invariant.6,
     )
 
-pub others-of-spec : {M : Type 1} → statement M
-others-of-spec =
+pub others_of_spec : {M : Type 1} → statement M
+others_of_spec =
     tie.close
     (tie.spec
     invariant-loop

@@ -14,59 +14,47 @@ use Rattle.shape.specs.Tests.{unlike}
 use Rattle.shape.proofs.unlike_first.Statement.{statement}
 use Rattle.shape.proofs.unlike_first.Tie as tie
 
-abbrev invariant-loop : tie.invariant-loop
+abbrev invariant-loop : tie.invariant-loop-j
 invariant-loop n number numbers j₀ j =
     (j ≤ n) × (unlike numbers j number ≡ true)
 
-abbrev decreases-loop : tie.decreases-loop
+abbrev decreases-loop : tie.decreases-loop-j
 decreases-loop n number numbers j₀ j = n - j
 
-loop-holds : tie.Need-loop-init invariant-loop decreases-loop
+loop-holds : tie.Need-loop-j-init invariant-loop decreases-loop
 loop-holds c = (search rules, every-none _)
 
-mul-if1 : tie.Need-overflow-mul-if1 invariant-loop decreases-loop
+mul-if1 : tie.Need-offset_bounds-numbers-j invariant-loop decreases-loop
 mul-if1 c = search rules
 
-array-read-if1 : tie.Need-array-read-if1 invariant-loop decreases-loop
+array-read-if1 : tie.Need-bounds-numbers-j invariant-loop decreases-loop
 array-read-if1 c = search rules
 
-returns : tie.Need-returns invariant-loop decreases-loop
+returns : tie.Need-returns-then-number-numbers invariant-loop decreases-loop
 returns c =
-    let c3 = c.before.before.before in
+    let c3 = c in
     let a = c3.args in
-    let l = c.before.before.loop in
-    every-fails (λ j. not (eqb a.number (get_or a.t1 j 0))) l.j a.n (omega arith) (rw (eq-eqb _ _ c.if1.true))
+    let l = c.loop-j in
+    every-fails (λ j. not (eqb a.number (get_or a.numbers j 0))) l.j a.n (omega arith) (rw (eq-eqb _ _ c.if-number-numbers.true))
 
-add-j : tie.Need-overflow-add-j invariant-loop decreases-loop
+add-j : tie.Need-overflow_add-j invariant-loop decreases-loop
 add-j c = search rules
 
-loop-less : tie.Need-loop-smaller invariant-loop decreases-loop
+loop-less : tie.Need-loop-j-smaller invariant-loop decreases-loop
 loop-less c = search rules
 
-loop-again : tie.Need-loop-preserved invariant-loop decreases-loop
+loop-again : tie.Need-loop-j-preserved invariant-loop decreases-loop
 loop-again c =
-    let c3 = c.before.before.before in
+    let c3 = c in
     let a = c3.args in
-    let l = c.before.before.loop in
-    (omega arith, every-next (λ j. not (eqb a.number (get_or a.t1 j 0))) l.j l.invariant.1 (rw (ne_eqb _ _ c.if1.false)))
+    let l = c.loop-j in
+    (omega arith, every-next (λ j. not (eqb a.number (get_or a.numbers j 0))) l.j l.invariant.1 (rw (ne_eqb _ _ c.if-number-numbers.false)))
 
-returns-2 : tie.Need-returns-2 invariant-loop decreases-loop
+returns-2 : tie.Need-returns invariant-loop decreases-loop
 returns-2 c =
-    let a = c.before.before.args in
-    let l = c.before.loop in
-    every-done (λ j. not (eqb a.number (get_or a.t1 j 0))) l.j a.n (omega arith) (omega arith) l.invariant.1
+    let a = c.args in
+    let l = c.loop-j in
+    every-done (λ j. not (eqb a.number (get_or a.numbers j 0))) l.j a.n (omega arith) (omega arith) l.invariant.1
 
-pub unlike-first-spec : {M : Type 1} → statement M
-unlike-first-spec =
-    tie.close
-    (tie.spec
-    invariant-loop
-    decreases-loop
-    loop-holds
-    mul-if1
-    array-read-if1
-    returns
-    add-j
-    loop-less
-    loop-again
-    returns-2)
+pub unlike_first_spec : {M : Type 1} → statement M
+unlike_first_spec = tie.close (tie.spec invariant-loop decreases-loop loop-holds mul-if1 array-read-if1 returns add-j loop-less loop-again returns-2)
