@@ -1,6 +1,5 @@
 -- `run_changes::records::phase_of` meets its contract.
 -- Assumes nothing.
-use mathlib.Core.Path.{◌≡◌}
 use borrow.Author.Tests.{ne_eqb}
 use Rattle.run_changes.proofs.records.phase_of.Statement.{statement}
 use Rattle.run_changes.proofs.records.phase_of.Tie as tie

@@ -1,6 +1,5 @@
 -- `run_script::Line::lettered` meets its contract.
 -- Assumes nothing.
-use Rattle.std.proofs.Common.{rules}
 use Rattle.run_script.proofs.Line.lettered.Statement.{statement}
 use Rattle.run_script.proofs.Line.lettered.Tie as tie
 
