@@ -10,7 +10,7 @@ use lib.Dec.{eqb, ltb}
 use lib.ListN.{length}
 use borrow.Author.Tests.{eqb-true, eq-eqb, ltb-true, ltb-false}
 use Rattle.base_lists.specs.Lists.{member, least, pick, first, every, some_of, all_of, join, Among, Rising}
-use Rattle.base_lists.specs.Table.{cond-elim}
+use Rattle.base_lists.proofs.TableLaws.{cond-elim}
 
 -- tests joined by `and` and `or`
 pub and_l : (a b : Bool) → a && b ≡ true → a ≡ true

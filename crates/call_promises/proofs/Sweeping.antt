@@ -10,11 +10,11 @@ use native.Mathlib.Omega.{arith}
 use lib.Dec.{eqb}
 use lib.ListN.{length}
 use Rattle.base_lists.specs.Lists.{member, Among}
-use Rattle.base_lists.specs.Table.{cond-elim}
+use Rattle.base_lists.proofs.TableLaws.{cond-elim}
 use Rattle.base_lists.proofs.ListLaws.{among-left, among-right, among-last}
 use Rattle.model.specs.Store as model
 use Rattle.model.specs.Steps.{release, freed}
-use Rattle.table.specs.Words.{field, clear_fields, clear_every}
+use Rattle.table.specs.Words.{clear_field, field, clear_fields, clear_every}
 use Rattle.table.proofs.Parts.{part-past}
 use Rattle.table_postings.specs.Links.{lists_tell}
 use Rattle.txn.specs.View.{rows_part, buckets_part, chains_view, index_view, held_view}
@@ -42,7 +42,7 @@ among_below (suc n) i h =
 clear-append : (w k v : ℕ) (xs is js : List ℕ) → clear_fields w k xs v (is ++ js) ≡ clear_fields w k (clear_fields w k xs v is) v js
 unfolding clear_fields
 clear-append w k v xs [] js = refl
-clear-append w k v xs (i ∷ is) js = clear-append w k v _ is js
+clear-append w k v xs (i ∷ is) js = clear-append w k v (clear_field w k xs i v) is js
 
 every-below : (w k v n : ℕ) (xs : List ℕ) → clear_every w k xs n v ≡ clear_fields w k xs v (below n)
 unfolding clear_every clear_fields

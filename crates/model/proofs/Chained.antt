@@ -6,7 +6,7 @@ use mathlib.Core.Option.{Option}
 use Prim.Native.Nat.{ℕ, suc, ◌≤◌, ◌<◌}
 use native.Mathlib.Omega.{arith}
 use native.Mathlib.Decide.{ℕ_discrete}
-use Rattle.base_lists.specs.Table.{update-elim, update_same, update_other}
+use Rattle.base_lists.proofs.TableLaws.{update-elim, update_same, update_other}
 use Rattle.model.specs.Store.{Chains, Store, Sizes, Txn, fresh}
 use Rattle.model.specs.Seeing.{last_write}
 use Rattle.model.specs.Steps.{push, push_all, version_rows, new_key, written_payload}

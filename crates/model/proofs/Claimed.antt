@@ -8,7 +8,8 @@ use Prim.Native.Nat.{ℕ, ◌≤◌, ◌<◌}
 use native.Mathlib.Omega.{arith}
 use Rattle.base_limits.specs.Limits.{last_number}
 use Rattle.base_lists.specs.Lists.{member, join, Among}
-use Rattle.base_lists.specs.Table.{update, update_all, update-elim}
+use Rattle.base_lists.specs.Table.{update, update_all}
+use Rattle.base_lists.proofs.TableLaws.{update-elim}
 use Rattle.base_lists.proofs.ListLaws.{pick-among}
 use Rattle.model.specs.Store.{Sizes, Chains, Prepared, Installed, Ended, Txn, Store, no_txn, fresh, rank, phase_open, phase_prepared, phase_installed}
 use Rattle.model.specs.Seeing.{key_at}

@@ -6,7 +6,8 @@ use Prim.Native.Nat.{ℕ}
 use lib.Dec.{eqb}
 use borrow.Author.Tests.{eqb-false, ne_eqb}
 use Rattle.base_lists.specs.Lists.{some_of}
-use Rattle.base_lists.specs.Table.{update, update-elim, cond-elim}
+use Rattle.base_lists.specs.Table.{update}
+use Rattle.base_lists.proofs.TableLaws.{update-elim, cond-elim}
 use Rattle.base_lists.proofs.ListLaws.{or_l, or_r}
 use Rattle.model.specs.Store.{Sizes, IndexRead, Txn, Store, fresh}
 use Rattle.model.specs.Steps.{has_read, add_read}

@@ -12,7 +12,8 @@ use lib.Dec.{eqb, ltb}
 use borrow.Author.Tests.{eqb-true, eqb-false, eq-eqb, ne_eqb, ltb-true, lt-ltb}
 use Rattle.base_limits.specs.Limits.{last_number}
 use Rattle.base_lists.specs.Lists.{member, join, Among, Rising}
-use Rattle.base_lists.specs.Table.{update, update_all, update_same, update_other}
+use Rattle.base_lists.specs.Table.{update, update_all}
+use Rattle.base_lists.proofs.TableLaws.{update_same, update_other}
 use Rattle.base_lists.proofs.ListLaws.{and_l, and_r, and_both, same_test, member-among, among-member, pick-which, which-pick, rising-above, pick-rising}
 use Rattle.model.specs.Store.{Sizes, Txn, Store, fresh, rank, phase_ended, same_key}
 use Rattle.model.specs.Seeing.{Live}

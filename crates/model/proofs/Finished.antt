@@ -10,7 +10,7 @@ use lib.ListN.{length}
 use borrow.Author.Tests.{eqb-true, ltb-false}
 use Rattle.base_limits.specs.Limits.{most_live, most_records}
 use Rattle.base_lists.specs.Lists.{member, pick, first, Among, Rising}
-use Rattle.base_lists.specs.Table.{update_same, update-field}
+use Rattle.base_lists.proofs.TableLaws.{update_same, update-field}
 use Rattle.base_lists.proofs.ListLaws.{and_r, or_left, or_right, same_test, among-member, pick-rising, pick_same}
 use Rattle.model.specs.Store.{Chains, Snapshot, ReadRecord, Txn, Store, rank, phase_collected, key_in}
 use Rattle.model.specs.Seeing.{version_of, pending, matches, record_of, Live}

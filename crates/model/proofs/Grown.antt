@@ -5,7 +5,8 @@ use mathlib.Core.List.{List, [], ◌∷◌}
 use Prim.Native.Nat.{ℕ, suc, ◌≤◌, ◌<◌}
 use native.Mathlib.Omega.{arith}
 use native.Mathlib.Decide.{ℕ_discrete}
-use Rattle.base_lists.specs.Table.{update, update-elim, update_same, update_other}
+use Rattle.base_lists.specs.Table.{update}
+use Rattle.base_lists.proofs.TableLaws.{update-elim, update_same, update_other}
 use Rattle.base_lists.specs.Lists.{Among, Rising}
 use Rattle.base_lists.proofs.ListLaws.{rising-above}
 use Rattle.model.specs.Store.{Chains, Txn}

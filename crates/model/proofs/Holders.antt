@@ -8,7 +8,8 @@ use mathlib.Core.List.{List, ◌++◌}
 use Prim.Native.Nat.{ℕ, ◌≤◌, ◌<◌}
 use native.Mathlib.Omega.{arith}
 use Rattle.base_lists.specs.Lists.{member, Among}
-use Rattle.base_lists.specs.Table.{update, update-elim, cond-elim}
+use Rattle.base_lists.specs.Table.{update}
+use Rattle.base_lists.proofs.TableLaws.{update-elim, cond-elim}
 use Rattle.base_lists.proofs.ListLaws.{among-left, among-right, none_each, which-join, join-same, member-among, among-member}
 use Rattle.model.specs.Store.{Sizes, Held, Phase, Prepared, Installed, Ended, Txn, Store, no_txn, fresh, rank, phase_open, phase_holding, phase_prepared}
 use Rattle.model.specs.Store.{phase_ended, bucket_in, key_in, bucket_of}

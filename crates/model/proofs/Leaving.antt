@@ -9,7 +9,8 @@ use native.Mathlib.Omega.{arith}
 use lib.Dec.{ltb, leb}
 use borrow.Author.Tests.{eq-eqb, ne_eqb, leb-true}
 use Rattle.base_lists.specs.Lists.{least, every, Among, Rising}
-use Rattle.base_lists.specs.Table.{update, update_all, update_same, update_other, cond-elim}
+use Rattle.base_lists.specs.Table.{update, update_all}
+use Rattle.base_lists.proofs.TableLaws.{update_same, update_other, cond-elim}
 use Rattle.base_lists.proofs.ListLaws.{and_l, and_r, is_false, among-left, among-right, among_cases, join-which, which-join, among-member, not-member}
 use Rattle.base_lists.proofs.ListLaws.{least-own, least-each, pick-rising, pick-which}
 use Rattle.model.specs.Store.{Sizes, Open, Write, Txn, Store, rank, phase_open, bucket_in, same_key, bucket_of}

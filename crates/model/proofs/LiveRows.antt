@@ -9,7 +9,8 @@ use native.Mathlib.Omega.{arith}
 use native.Mathlib.Decide.{ℕ_discrete}
 use Rattle.base_limits.specs.Limits.{most_live}
 use Rattle.base_lists.specs.Lists.{member}
-use Rattle.base_lists.specs.Table.{update, update_same, update_other, update-elim, update-field}
+use Rattle.base_lists.specs.Table.{update}
+use Rattle.base_lists.proofs.TableLaws.{update_same, update_other, update-elim, update-field}
 use Rattle.base_lists.proofs.ListLaws.{member-among, among-member, map-pick}
 use Rattle.model.specs.Store.{Installed, Ended, Txn, Store, rank, phase_prepared, phase_installed, phase_ended}
 use Rattle.model.specs.Seeing.{seen, version_of, key_at, last_write, Live, active, active_numbers, snapshot_now}

@@ -6,7 +6,7 @@ use mathlib.Core.List.{List}
 use Prim.Native.Nat.{ℕ}
 use native.Mathlib.Omega.{arith}
 use native.Mathlib.Decide.{ℕ_discrete}
-use Rattle.base_lists.specs.Table.{update_same, update_other}
+use Rattle.base_lists.proofs.TableLaws.{update_same, update_other}
 use Rattle.model.specs.Store.{Txn, Store}
 use Rattle.model.specs.Seeing.{Live}
 use Rattle.model.specs.Refusals.{Refusal, Step, begin, capture, txn_of}

@@ -11,7 +11,7 @@ use lib.ListN.{length}
 use borrow.Author.Tests.{eqb-false, ne_eqb, ltb-true, not-true, not-false}
 use Rattle.base_limits.specs.Limits.{most_live, most_index_reads, most_records, most_writes, last_number}
 use Rattle.base_lists.specs.Lists.{some_of, all_of}
-use Rattle.base_lists.specs.Table.{update_other}
+use Rattle.base_lists.proofs.TableLaws.{update_other}
 use Rattle.base_lists.proofs.ListLaws.{and_l, and_r, or_l, or_r}
 use Rattle.model.specs.Store.{Ended, Write, Txn, Store, rank, phase_open, phase_holding, phase_collected, phase_prepared, phase_installed, phase_ended}
 use Rattle.model.specs.Store.{bucket_of}

@@ -9,7 +9,8 @@ use lib.ListN.{length, length-map}
 use borrow.Author.Tests.{ltb-true, ltb-false, lt-ltb}
 use Rattle.base_limits.specs.Limits.{most_live, most_active}
 use Rattle.base_lists.specs.Lists.{least, pick, Among}
-use Rattle.base_lists.specs.Table.{update, update-elim, update_all-elim}
+use Rattle.base_lists.specs.Table.{update}
+use Rattle.base_lists.proofs.TableLaws.{update-elim, update_all-elim}
 use Rattle.base_lists.proofs.ListLaws.{and_l, and_r, and_both, among-map, map-among, pick-which, which-pick, pick-fewer}
 use Rattle.model.specs.Store.{Chains, Snapshot, Txn, Store, Sizes, no_txn, fresh, rank, phase_open, phase_prepared, phase_installed, phase_ended}
 use Rattle.model.specs.Seeing.{live, active, active_numbers, Live}

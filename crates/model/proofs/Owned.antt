@@ -8,7 +8,8 @@ use native.Mathlib.Omega.{arith}
 use native.Mathlib.Decide.{ℕ_discrete}
 use lib.Dec.{eqb}
 use borrow.Author.Tests.{eqb-true, eqb-false}
-use Rattle.base_lists.specs.Table.{update, update_all, update-elim, update_same, update_other, update_all-elim, cond-elim}
+use Rattle.base_lists.specs.Table.{update, update_all}
+use Rattle.base_lists.proofs.TableLaws.{update-elim, update_same, update_other, update_all-elim, cond-elim}
 use Rattle.base_lists.specs.Lists.{Among}
 use Rattle.base_lists.proofs.ListLaws.{member-among, among-member}
 use Rattle.model.specs.Store.{Txn, no_txn, rank, phase_holding}

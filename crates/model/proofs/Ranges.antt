@@ -11,7 +11,8 @@ use lib.Dec.{leb}
 use lib.ListN.{length, length-append}
 use borrow.Author.Tests.{leb-true}
 use Rattle.base_limits.specs.Limits.{most_rows, most_versions, most_buckets, most_index_reads, most_records, most_writes}
-use Rattle.base_lists.specs.Table.{update, update-elim, cond-elim}
+use Rattle.base_lists.specs.Table.{update}
+use Rattle.base_lists.proofs.TableLaws.{update-elim, cond-elim}
 use Rattle.base_lists.specs.Lists.{Among, Rising}
 use Rattle.base_lists.proofs.ListLaws.{and_l, and_r, among-last, pick-rising, pick-which, pick-few}
 use Rattle.model.specs.Store.{Sizes, Installed, IndexRead, ReadRecord, Write, Txn, Store, fresh, bucket_in, key_in, same_key, bucket_of}

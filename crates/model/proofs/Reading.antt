@@ -7,7 +7,8 @@ use mathlib.Core.Option.{some}
 use Prim.Native.Nat.{ℕ, ◌<◌}
 use native.Mathlib.Omega.{arith}
 use Rattle.base_lists.specs.Lists.{Among}
-use Rattle.base_lists.specs.Table.{update, update-elim, update_all-elim}
+use Rattle.base_lists.specs.Table.{update}
+use Rattle.base_lists.proofs.TableLaws.{update-elim, update_all-elim}
 use Rattle.base_lists.proofs.ListLaws.{member-among}
 use Rattle.model.specs.Store.{Sizes, Chains, Holding, Collected, Prepared, Installed, Ended, ReadRecord, Txn, Store, no_txn, fresh, rank, phase_open}
 use Rattle.model.specs.Store.{phase_holding, phase_collected, phase_prepared, phase_installed, phase_ended, bucket_in, key_in, bucket_of}

@@ -8,7 +8,8 @@ use mathlib.Core.List.{List}
 use Prim.Native.Nat.{ℕ, ◌≤◌, ◌<◌}
 use native.Mathlib.Omega.{arith}
 use Rattle.base_lists.specs.Lists.{Among}
-use Rattle.base_lists.specs.Table.{update, update-elim}
+use Rattle.base_lists.specs.Table.{update}
+use Rattle.base_lists.proofs.TableLaws.{update-elim}
 use Rattle.model.specs.Store.{Sizes, Chains, Snapshot, ReadRecord, Installed, Txn, Store, no_txn, rank, phase_prepared, phase_installed, bucket_of}
 use Rattle.model.specs.Seeing.{seen, version_of, key_at, record_of, Live}
 use Rattle.model.specs.Steps.{new_txn, has_read, found_rows, with_phase, installed, version_rows}

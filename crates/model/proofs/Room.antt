@@ -11,7 +11,8 @@ use lib.ListN.{length}
 use borrow.Author.Tests.{eq-eqb, ne_eqb}
 use Rattle.base_limits.specs.Limits.{most_live, last_number}
 use Rattle.base_lists.specs.Lists.{pick}
-use Rattle.base_lists.specs.Table.{update, update-elim}
+use Rattle.base_lists.specs.Table.{update}
+use Rattle.base_lists.proofs.TableLaws.{update-elim}
 use Rattle.model.specs.Store.{Sizes, Chains, Prepared, Installed, Txn, Store, no_txn, fresh, rank, phase_open, phase_prepared}
 use Rattle.model.specs.Seeing.{key_at, last_write, live, Live}
 use Rattle.model.specs.Steps.{with_phase, new_txn, old_key, new_key, version_rows, prepared, push, written_payload, push_all, installed}

@@ -8,7 +8,7 @@ use Prim.Native.Nat.{ℕ, zero, suc, ◌≤◌, ◌<◌}
 use native.Mathlib.Omega.{arith}
 use lib.Dec.{eqb, ltb, leb}
 use borrow.Author.Tests.{eqb-true, eqb-false, eq-eqb, ne_eqb, ltb-true, leb-true}
-use Rattle.base_lists.specs.Table.{cond-elim}
+use Rattle.base_lists.proofs.TableLaws.{cond-elim}
 use Rattle.base_lists.specs.Lists.{Among}
 use Rattle.base_lists.proofs.ListLaws.{and_l, and_r, or_cases, among-left, among-right, among-last, some-which, which-some, pick-which, which-pick}
 use Rattle.model.specs.Store.{Sizes, Chains, Snapshot, IndexRead, ReadRecord, Write, Txn, Store, same_key, bucket_of, key_in}

@@ -6,7 +6,8 @@ use mathlib.Core.Option.{Option, none}
 use mathlib.Core.List.{List, [], ◌∷◌}
 use Prim.Native.Nat.{ℕ, ◌≤◌}
 use native.Mathlib.Omega.{arith}
-use Rattle.base_lists.specs.Table.{update, update_same, update_other}
+use Rattle.base_lists.specs.Table.{update}
+use Rattle.base_lists.proofs.TableLaws.{update_same, update_other}
 use Rattle.model.specs.Store.{Sizes, Chains, Txn, Store}
 use Rattle.model.specs.Seeing.{seen, version_of, key_at, Live}
 use Rattle.model.specs.Upstream.{creator_visible, Event, snapshot_rows}

@@ -7,7 +7,8 @@ use native.Mathlib.Omega.{arith}
 use native.Mathlib.Decide.{ℕ_discrete}
 use lib.ListN.{length}
 use Rattle.base_lists.specs.Lists.{pick}
-use Rattle.base_lists.specs.Table.{update, update_same, update_other}
+use Rattle.base_lists.specs.Table.{update}
+use Rattle.base_lists.proofs.TableLaws.{update_same, update_other}
 use Rattle.model.specs.Store.{Txn}
 
 -- f of what stands at the first n places, added up

@@ -11,7 +11,7 @@ use lib.ListN.{length}
 use borrow.Author.Tests.{eqb-true, ltb-true, ltb-false, lt-ltb, not-false, eq-eqb}
 use Rattle.base_limits.specs.Limits.{most_live, most_index_reads}
 use Rattle.base_lists.specs.Lists.{first}
-use Rattle.base_lists.specs.Table.{cond-elim}
+use Rattle.base_lists.proofs.TableLaws.{cond-elim}
 use Rattle.base_lists.proofs.ListLaws.{is_false, or_r, first_holds}
 use Rattle.model.specs.Store.{Store}
 use Rattle.model.specs.Steps.{pending_rows, needed_buckets, has_read}

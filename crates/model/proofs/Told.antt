@@ -11,7 +11,8 @@ use native.Mathlib.Decide.{ℕ_discrete}
 use lib.Dec.{ltb}
 use borrow.Author.Tests.{ltb-true, lt-ltb, not-true}
 use Rattle.base_lists.specs.Lists.{member, Among}
-use Rattle.base_lists.specs.Table.{update, update-elim, update_same, update_other, update_all-elim}
+use Rattle.base_lists.specs.Table.{update}
+use Rattle.base_lists.proofs.TableLaws.{update-elim, update_same, update_other, update_all-elim}
 use Rattle.base_lists.proofs.ListLaws.{and_l, and_r, is_false, member-among, among-member, not-member, among-left, among-right, which-join}
 use Rattle.model.specs.Store.{Sizes, Chains, Snapshot, Installed, Txn, Store, no_txn, fresh, rank, phase_prepared, phase_installed, phase_ended, same_key}
 use Rattle.model.specs.Store.{bucket_of}

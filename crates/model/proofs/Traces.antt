@@ -10,7 +10,8 @@ use lib.Dec.{eqb}
 use borrow.Author.Tests.{eqb-true, eqb-false}
 use Rattle.base_limits.specs.Limits.{last_number}
 use Rattle.base_lists.specs.Lists.{member, Among, Rising}
-use Rattle.base_lists.specs.Table.{update, update_same, update_other, update-elim}
+use Rattle.base_lists.specs.Table.{update}
+use Rattle.base_lists.proofs.TableLaws.{update_same, update_other, update-elim}
 use Rattle.base_lists.proofs.ListLaws.{rising-above, pick-rising, member-among, among-member}
 use Rattle.model.specs.Store.{Sizes, Chains, Installed, Txn, Store, no_txn, fresh, rank, phase_prepared, phase_installed, phase_ended}
 use Rattle.model.specs.Seeing.{Live}

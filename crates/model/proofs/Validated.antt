@@ -8,7 +8,7 @@ use native.Mathlib.Omega.{arith}
 use borrow.Author.Tests.{eqb-true, not-false}
 use Rattle.base_limits.specs.Limits.{most_live}
 use Rattle.base_lists.specs.Lists.{Among}
-use Rattle.base_lists.specs.Table.{update-elim, update-field}
+use Rattle.base_lists.proofs.TableLaws.{update-elim, update-field}
 use Rattle.base_lists.proofs.ListLaws.{or_l, among-left, none_each, which-pick, pick_same, map-pick}
 use Rattle.model.specs.Store.{Sizes, Chains, Snapshot, Collected, Prepared, ReadRecord, Txn, Store, rank, phase_open, phase_installed, key_in}
 use Rattle.model.specs.Seeing.{version_of, key_at, pending, matches, record_of, shows, Live, active, active_numbers, snapshot_now}

@@ -11,7 +11,8 @@ use native.Mathlib.Decide.{ℕ_discrete}
 use lib.Dec.{ltb}
 use borrow.Author.Tests.{ltb-true, ltb-false}
 use Rattle.base_lists.specs.Lists.{member}
-use Rattle.base_lists.specs.Table.{update, update-elim, update_same, update_other}
+use Rattle.base_lists.specs.Table.{update}
+use Rattle.base_lists.proofs.TableLaws.{update-elim, update_same, update_other}
 use Rattle.base_lists.proofs.ListLaws.{member-among, among-member, pick-rising}
 use Rattle.model.specs.Store.{Sizes, Chains, Installed, Ended, Txn, Store, no_txn, fresh, rank, phase_prepared, phase_installed, phase_ended}
 use Rattle.model.specs.Seeing.{key_at, last_write, Live}

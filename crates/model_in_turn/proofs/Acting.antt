@@ -10,7 +10,8 @@ use lib.ListN.{length, length-map}
 use borrow.Author.Tests.{eqb-true, eq-eqb}
 use Rattle.base_limits.specs.Limits.{most_rows, most_index_reads, most_records, most_writes}
 use Rattle.base_lists.specs.Lists.{member, some_of, Among}
-use Rattle.base_lists.specs.Table.{update, update_same, update_other, cond-elim}
+use Rattle.base_lists.specs.Table.{update}
+use Rattle.base_lists.proofs.TableLaws.{update_same, update_other, cond-elim}
 use Rattle.base_lists.proofs.ListLaws.{same_test, among-last}
 use Rattle.model.specs.Store.{Index, Open, Holding, Collected, IndexRead, Write, ReadRecord, Txn, Store, rank, phase_collected, phase_installed, key_in, bucket_of}
 use Rattle.model.specs.Seeing.{version_of, Live}

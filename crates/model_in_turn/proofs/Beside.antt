@@ -11,7 +11,7 @@ use lib.ListN.{length}
 use borrow.Author.Tests.{ne_eqb, ltb-true, ltb-false}
 use Rattle.base_limits.specs.Limits.{most_live}
 use Rattle.base_lists.specs.Lists.{Among}
-use Rattle.base_lists.specs.Table.{update_same, update_other}
+use Rattle.base_lists.proofs.TableLaws.{update_same, update_other}
 use Rattle.base_lists.proofs.ListLaws.{among-last}
 use Rattle.model.specs.Store.{Sizes, Ended, Txn, Store, fresh, rank, phase_installed, phase_ended}
 use Rattle.model.specs.Seeing.{Live}

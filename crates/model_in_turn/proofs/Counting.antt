@@ -10,7 +10,8 @@ use lib.Dec.{eqb, ltb}
 use lib.ListN.{length}
 use borrow.Author.Tests.{eq-eqb, ne_eqb, ltb-true, lt-ltb}
 use Rattle.base_limits.specs.Limits.{most_live}
-use Rattle.base_lists.specs.Table.{update, update-elim}
+use Rattle.base_lists.specs.Table.{update}
+use Rattle.base_lists.proofs.TableLaws.{update-elim}
 use Rattle.base_lists.proofs.ListLaws.{and-false}
 use Rattle.model.specs.Store.{Sizes, Installed, Ended, Txn, Store, no_txn, rank, phase_prepared, phase_installed, phase_ended}
 use Rattle.model.specs.Seeing.{live, Live}

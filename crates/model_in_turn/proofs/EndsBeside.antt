@@ -11,7 +11,7 @@ use lib.ListN.{length, length-append}
 use borrow.Author.Tests.{ne_eqb}
 use Rattle.base_limits.specs.Limits.{most_live, last_number}
 use Rattle.base_lists.specs.Lists.{Among}
-use Rattle.base_lists.specs.Table.{update_same}
+use Rattle.base_lists.proofs.TableLaws.{update_same}
 use Rattle.base_lists.proofs.ListLaws.{among-last, pick-which}
 use Rattle.model.specs.Store.{Sizes, Ended, Txn, Store, fresh, rank, phase_installed, phase_ended}
 use Rattle.model.specs.Seeing.{version_of, key_at, last_write, pending, written_key, Live, snapshot_now}

@@ -6,7 +6,7 @@ use mathlib.Core.List.{List}
 use Prim.Native.Nat.{ℕ, zero, suc, ◌+◌, ◌≤◌, ◌<◌}
 use native.Mathlib.Omega.{arith}
 use lib.ListN.{length}
-use Rattle.base_lists.specs.Table.{update_same, update_other}
+use Rattle.base_lists.proofs.TableLaws.{update_same, update_other}
 use Rattle.base_lists.proofs.ListLaws.{pick-which}
 use Rattle.model.specs.Store.{Prepared, Installed, Ended, Write, Txn, Store, no_txn, rank, phase_prepared, phase_installed, phase_ended}
 use Rattle.model.specs.Seeing.{key_at, last_write, pending, written_key, Live}

@@ -9,7 +9,8 @@ use native.Mathlib.Omega.{arith}
 use lib.Dec.{ltb}
 use borrow.Author.Tests.{ltb-true, ltb-false}
 use Rattle.base_lists.specs.Lists.{Among}
-use Rattle.base_lists.specs.Table.{update, update_other}
+use Rattle.base_lists.specs.Table.{update}
+use Rattle.base_lists.proofs.TableLaws.{update_other}
 use Rattle.model.specs.Store.{Ended, IndexRead, Write, ReadRecord, Txn, Store, rank, phase_prepared, phase_installed, bucket_of}
 use Rattle.model.specs.Seeing.{seen, version_of, key_at, record_of, Live}
 use Rattle.model.specs.Steps.{becomes, has_read, version_rows, installed}

@@ -4,7 +4,7 @@ use mathlib.Core.List.{List, map}
 use Prim.Native.Nat.{ℕ, ◌+◌}
 use native.Mathlib.Omega.{arith}
 use Rattle.base_limits.specs.Limits.{most_live}
-use Rattle.base_lists.specs.Table.{update-field}
+use Rattle.base_lists.proofs.TableLaws.{update-field}
 use Rattle.model.specs.Store.{Sizes, IndexRead, ReadRecord, Txn, Store, rank}
 use Rattle.model.specs.Steps.{marked_txn, stale}
 use Rattle.model.specs.Contents.{Content, content_of, live_row}

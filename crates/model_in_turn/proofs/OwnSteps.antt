@@ -9,7 +9,8 @@ use native.Mathlib.Omega.{arith}
 use lib.ListN.{length, length-map}
 use Rattle.base_limits.specs.Limits.{most_rows, most_index_reads, most_records}
 use Rattle.base_lists.specs.Lists.{member, Among}
-use Rattle.base_lists.specs.Table.{update, update_same}
+use Rattle.base_lists.specs.Table.{update}
+use Rattle.base_lists.proofs.TableLaws.{update_same}
 use Rattle.base_lists.proofs.ListLaws.{among-left, among-last, which-pick}
 use Rattle.model.specs.Store.{Open, Holding, Collected, Prepared, Installed, Ended, IndexRead, Write, ReadRecord, Txn, Store, rank, phase_open, phase_holding}
 use Rattle.model.specs.Store.{Phase, phase_collected, phase_prepared, phase_installed, bucket_in, key_in, bucket_of}

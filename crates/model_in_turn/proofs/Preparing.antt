@@ -9,7 +9,7 @@ use lib.ListN.{length}
 use borrow.Author.Tests.{eq-eqb}
 use Rattle.base_limits.specs.Limits.{most_live, last_number}
 use Rattle.base_lists.specs.Lists.{Among}
-use Rattle.base_lists.specs.Table.{update_same, update_other}
+use Rattle.base_lists.proofs.TableLaws.{update_same, update_other}
 use Rattle.base_lists.proofs.ListLaws.{pick-none}
 use Rattle.model.specs.Store.{Index, Open, Prepared, IndexRead, ReadRecord, Txn, Store, rank, phase_open}
 use Rattle.model.specs.Seeing.{live, active, active_numbers}

@@ -9,7 +9,7 @@ use native.Mathlib.Omega.{arith}
 use lib.Dec.{eqb}
 use borrow.Author.Tests.{eqb-true, eq-eqb}
 use Rattle.base_lists.specs.Lists.{member, Among}
-use Rattle.base_lists.specs.Table.{cond-elim}
+use Rattle.base_lists.proofs.TableLaws.{cond-elim}
 use Rattle.base_lists.proofs.ListLaws.{same_test, some-which, which-some, among-map, map_same, map-among, member-among, among-member, pick_same}
 use Rattle.model.specs.Store.{Chains, ReadRecord, Txn, Store, rank, phase_collected, key_in, same_key}
 use Rattle.model.specs.Seeing.{version_of, key_at, last_write, pending, written_key, shown_key, matches, record_of, Live}

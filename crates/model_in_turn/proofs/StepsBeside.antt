@@ -7,7 +7,7 @@ use native.Mathlib.Omega.{arith}
 use lib.Dec.{eqb}
 use borrow.Author.Tests.{ne_eqb}
 use Rattle.base_limits.specs.Limits.{most_live}
-use Rattle.base_lists.specs.Table.{update_same}
+use Rattle.base_lists.proofs.TableLaws.{update_same}
 use Rattle.base_lists.proofs.ListLaws.{and-false, first-free}
 use Rattle.model.specs.Store.{Sizes, IndexRead, ReadRecord, Txn, Store, no_txn, rank, phase_installed}
 use Rattle.model.specs.Seeing.{Live}

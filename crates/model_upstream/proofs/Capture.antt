@@ -7,7 +7,8 @@ use mathlib.Core.Logic.{◌≢◌, ◌⊎◌, inl, inr, ⊎_elim}
 use mathlib.Core.List.{List, [], ◌∷◌, ◌++◌, append-nil}
 use native.Mathlib.Omega.{arith}
 use lib.ListN.{length, length-append, get_or}
-use Rattle.base_lists.specs.Table.{update, update_same, update-elim, update_all-elim, cond-elim}
+use Rattle.base_lists.specs.Table.{update}
+use Rattle.base_lists.proofs.TableLaws.{update_same, update-elim, update_all-elim, cond-elim}
 use Rattle.base_lists.specs.Lists.{Among}
 use Rattle.base_lists.proofs.ListLaws.{among-right, among-last}
 use Rattle.model.specs.Store.{Sizes, IndexRead, Txn, Store, no_txn, fresh}

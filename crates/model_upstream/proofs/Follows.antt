@@ -14,7 +14,8 @@ use lib.ListN.{length}
 use borrow.Author.Tests.{eqb-true, eqb-false}
 use Rattle.base_limits.specs.Limits.{most_live, last_number}
 use Rattle.base_lists.specs.Lists.{member, pick, Among}
-use Rattle.base_lists.specs.Table.{update, update_same, update_other, update-elim}
+use Rattle.base_lists.specs.Table.{update}
+use Rattle.base_lists.proofs.TableLaws.{update_same, update_other, update-elim}
 use Rattle.base_lists.proofs.ListLaws.{same_test, is_false, member-among, among-member, which-pick, first-free}
 use Rattle.model.specs.Store.{Sizes, Txn, Store, no_txn, fresh, rank, phase_ended}
 use Rattle.model.specs.Seeing.{live, active_numbers, Live}

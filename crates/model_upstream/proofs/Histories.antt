@@ -11,7 +11,7 @@ use lib.Dec.{eqb, ltb}
 use borrow.Author.Tests.{ltb-true}
 use Rattle.base_limits.specs.Limits.{last_number}
 use Rattle.base_lists.specs.Lists.{member, least, Among}
-use Rattle.base_lists.specs.Table.{cond-elim}
+use Rattle.base_lists.proofs.TableLaws.{cond-elim}
 use Rattle.base_lists.proofs.ListLaws.{among-left, among-right, or_cases, member-among, among-member}
 use Rattle.model.specs.Store.{Sizes, Txn, Store, fresh, same_key, bucket_of}
 use Rattle.model.specs.Seeing.{version_of, key_at, Live}

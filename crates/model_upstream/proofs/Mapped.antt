@@ -9,7 +9,8 @@ use mathlib.Core.List.{List, [], ◌∷◌}
 use native.Mathlib.Omega.{arith}
 use native.Mathlib.Decide.{ℕ_discrete}
 use Rattle.base_limits.specs.Limits.{last_number}
-use Rattle.base_lists.specs.Table.{update, update_same, update_other, cond-elim}
+use Rattle.base_lists.specs.Table.{update}
+use Rattle.base_lists.proofs.TableLaws.{update_same, update_other, cond-elim}
 use Rattle.base_lists.specs.Lists.{Among}
 use Rattle.base_lists.proofs.ListLaws.{or_left, or_right}
 use Rattle.model.specs.Store.{Sizes, Holding, Txn, Store, fresh, rank, same_key, bucket_of}

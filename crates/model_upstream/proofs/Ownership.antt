@@ -9,7 +9,8 @@ use native.Mathlib.Decide.{dec_lt}
 use native.Mathlib.Omega.{arith}
 use borrow.Author.Tests.{ne_eqb}
 use Rattle.base_limits.specs.Limits.{most_live}
-use Rattle.base_lists.specs.Table.{update, update_same, update_other, update-elim, update_all-elim}
+use Rattle.base_lists.specs.Table.{update}
+use Rattle.base_lists.proofs.TableLaws.{update_same, update_other, update-elim, update_all-elim}
 use Rattle.base_lists.proofs.ListLaws.{member-among, none_each}
 use Rattle.model.specs.Store.{Store, bucket_in, key_in}
 use Rattle.model.specs.Steps.{release, needed_buckets}

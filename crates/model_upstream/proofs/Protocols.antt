@@ -7,7 +7,8 @@ use mathlib.Core.Option.{Option, none, some}
 use mathlib.Core.List.{List, [], ◌∷◌}
 use native.Mathlib.Omega.{arith}
 use native.Mathlib.Decide.{ℕ_discrete}
-use Rattle.base_lists.specs.Table.{update, update_same, update_other, update-elim}
+use Rattle.base_lists.specs.Table.{update}
+use Rattle.base_lists.proofs.TableLaws.{update_same, update_other, update-elim}
 use Rattle.base_lists.proofs.ListLaws.{is_false}
 use Rattle.model_upstream.specs.Protocol.{Protocol, Action, Start, End, Snapshot, Publish, protocol_initial, Allowed, after_action, protocol_after}
 use Rattle.model_upstream.specs.Protocol.{ProtocolHistory, ProtocolValid}

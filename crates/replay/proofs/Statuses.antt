@@ -8,7 +8,7 @@ use mathlib.Core.Option.{Option, none, some}
 use mathlib.Core.List.{List, [], ◌∷◌, ◌++◌}
 use lib.Dec.{leb}
 use lib.ListN.{length}
-use Rattle.base_lists.specs.Table.{cond-elim}
+use Rattle.base_lists.proofs.TableLaws.{cond-elim}
 use Rattle.model.specs.Refusals.{WrongSize, NoRoom, Malformed, refusal_number}
 use Rattle.model.specs.Store.{Sizes, Store, fresh}
 use Rattle.model.specs.Machine.{can_open, step}

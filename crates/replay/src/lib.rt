@@ -1,4 +1,6 @@
 // A log replayed into a report, over tables of its own or lent ones: the functions that a host calls.
+#![tactic(auto)]
+
 ghost use Rattle.std.specs.Prelude.{◌≡◌, ◌≤◌, min, length};
 ghost use Rattle.step.specs.Steps.{Tables};
 ghost use Rattle.model.specs.Replay.{replay, packed, reported, most_room};

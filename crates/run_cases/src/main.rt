@@ -1,9 +1,16 @@
 // Replays the vectors of data/, over the replay's own tables and over lent ones, and the worked example of document 01 cut anywhere and into any room, and
 // compares every byte.
+#![tactic(auto)]
+
 ghost use Rattle.std.specs.Prelude.{◌+◌, ◌≤◌, ◌<◌, length};
 
+use anyhow::{Context, Result};
 use lent::agrees_lent;
 use replay::toruxeng_replay;
+use std::alloc::Global;
+use std::io::Read;
+use std::rt::Files;
+use std::{fs, io};
 
 mod lent; // lent.rt: the same over lent tables
 
@@ -122,7 +129,7 @@ fn agrees(log: &[u8], room: usize, status: u64, first: &[u8], last: &[u8]) -> bo
 }
 
 // Where a vector's log begins and ends, where its report ends, and what else it says.
-#[derive(Drop)]
+#[derive(Clone, Copy)]
 struct Vector {
     log: usize,
     report: usize,
@@ -216,7 +223,7 @@ fn lines_within(report: &[u8], room: usize) -> usize
 }
 
 // How far the lines of the whole records reach, and whether the cut is where a record ends.
-#[derive(Drop)]
+#[derive(Clone, Copy)]
 struct Cut {
     said: usize,
     whole: bool,
@@ -325,42 +332,48 @@ fn rooms(log: &[u8], report: &[u8]) -> usize {
 }
 
 // A line with a count.
-fn told(what: &[u8], n: usize) {
-    io::write_all(1, what);
-    io::print_decimal(1, n as u64);
-    io::write_all(1, b"\n");
+fn told(rt: &impl Print, what: &str, n: usize) -> io::Result<()> {
+    println!(rt; "{what}{n}")
 }
 
 // The first vector, which is the worked example: its cuts and its rooms.
-fn told_example(file: &[u8]) {
+fn told_example(rt: &impl Print, file: &[u8]) -> io::Result<()> {
     let v = vector_at(file, 0);
     let log = v.log;
     let report = v.report;
     let end = v.end;
     told(
-        b"cuts of the worked example that agree: ",
+        rt,
+        "cuts of the worked example that agree: ",
         cuts(&file[log..report], &file[report..end]),
-    );
+    )?;
     told(
-        b"rooms of its report that agree: ",
+        rt,
+        "rooms of its report that agree: ",
         rooms(&file[log..report], &file[report..end]),
-    );
+    )
 }
 
-fn main() {
-    let mut space = [0u8; MOST_FILE];
-    let fd = os::open_read(b"vectors");
-    if fd < 0 {
-        os::fail(b"vectors");
-        return;
-    }
-    let n = io::read_full(fd, &mut space);
-    libc::close(fd);
-    let file = &space[..n];
-    told(b"vectors that agree: ", vectors(file, false));
+// The bytes of a file, up to the most that it may have.
+fn bytes_of(rt: &impl Files, alloc: Global, path: &str) -> Result<Vec<u8>> {
+    let mut space = Vec::new(alloc);
+    fs::open(rt, path)
+        .context(path)?
+        .take(MOST_FILE as u64)
+        .read_to_end(&mut space)
+        .context(path)?;
+    Ok(space)
+}
+
+fn main(rt: HostRuntime) -> Result<()> {
+    let space = bytes_of(&rt, rt.alloc(), "vectors")?;
+    let file = space.as_slice();
+    told(&rt, "vectors that agree: ", vectors(file, false))?;
     told(
-        b"vectors that agree over lent tables: ",
+        &rt,
+        "vectors that agree over lent tables: ",
         vectors(file, true),
-    );
-    told_example(file);
+    )?;
+    told_example(&rt, file)?;
+    Ok(())
 }

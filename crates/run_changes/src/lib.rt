@@ -1,4 +1,6 @@
 // Words of a state by their names: what stands there, and another word there. So a state can be made that no step leads to, and looked at behind any step.
+#![tactic(auto)]
+
 ghost use Rattle.std.specs.Prelude.{◌≡◌, ◌≤◌};
 ghost use Rattle.table.specs.Lists.{slot_words};
 ghost use Rattle.run_changes.specs.Changes.{entry_place, list_place, lists_place, record_place, seen_at, machine_seen, look_of, machine_changed, change_of};
@@ -19,7 +21,7 @@ mod names; // names.rt: the word that a name names
 mod records; // records.rt: a record as words, and back
 
 // Which word: its name's letters as a number, and the entry a, or the record at place a and there the entry b.
-#[derive(Drop)]
+#[derive(Clone, Copy)]
 pub struct WordName {
     pub name: u64,
     pub a: u64,
@@ -27,7 +29,7 @@ pub struct WordName {
 }
 
 // A word that is looked at, or none.
-#[derive(Drop)]
+#[derive(Clone, Copy)]
 pub enum Seen {
     Word(u64),
     Missing,
@@ -153,7 +155,7 @@ pub fn look(
     word: WordName,
 ) -> Seen
     ensures { result ≡ look_of
-        (record { rows = rows.entry.now; versions = versions.now; buckets = buckets.now; lists = lists.now; machine = m })
+        (record { rows = rows.now; versions = versions.now; buckets = buckets.now; lists = lists.now; machine = m })
         word }
 {
     let k = word_named(word.name);
@@ -211,9 +213,9 @@ pub fn change(
     word: WordName,
     value: u64,
 ) -> Machine
-    ensures { record { rows = rows.exit.now; versions = versions.new; buckets = buckets.new; lists = lists.new; machine = result }
+    ensures { record { rows = rows.new; versions = versions.new; buckets = buckets.new; lists = lists.new; machine = result }
         ≡ change_of (record {
-          rows = rows.entry.now;
+          rows = rows.old;
           versions = versions.old;
           buckets = buckets.old;
           lists = lists.old;

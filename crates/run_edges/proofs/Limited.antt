@@ -2,7 +2,7 @@
 use mathlib.Core.Path.{◌≡◌, refl}
 use mathlib.Core.List.{List, [], ◌∷◌, ◌++◌}
 use Prim.Native.Nat.{ℕ, zero, suc, ◌+◌}
-use Rattle.model.specs.Store.{Sizes, Store, fresh}
+use Rattle.model.specs.Store.{Store, fresh}
 use Rattle.model.specs.Refusals.{Step, begin, capture, collect, rows, put, prepare, install, end, publish}
 use Rattle.model.specs.Machine.{run}
 use Rattle.model.specs.Given.{number, open_number}

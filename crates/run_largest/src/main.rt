@@ -1,7 +1,11 @@
 // A store of the largest sizes: every version is made, and then one transaction is validated many times, alone and beside seven with full lists.
 // How many times stands on standard input, a line for each; the cost of a public step is what a higher count costs more.
+#![tactic(auto)]
+
 use base_limits::{MOST_ACTIVE, MOST_INDEX_READS, MOST_RECORDS, MOST_WRITES};
 use report_answers::numbers_of;
+use std::io;
+use std::io::Read;
 use toruxeng::{
     BUCKET_WORDS, Called, MOST_BUCKETS, MOST_LIVE, MOST_ROWS, MOST_VERSIONS, Machine, ROW_WORDS,
     SLOT_WORDS, Sizes, VERSION_WORDS, begin, capture, collect, end, install, open, prepare,
@@ -46,14 +50,14 @@ const MOST_COUNT: u64 = 100000;
 const MOST_INPUT: usize = 64;
 
 // How many validates there are of a transaction alone, and of one beside seven others.
-#[derive(Drop)]
+#[derive(Clone, Copy)]
 struct Counts {
     alone: u64,
     beside: u64,
 }
 
 // The number and the value that the last step answered, how many steps were refused so far, and the machine behind them.
-#[derive(Drop)]
+#[derive(Clone, Copy)]
 struct Played {
     machine: Machine,
     number: u64,
@@ -315,44 +319,44 @@ fn full_count(m: Machine) -> u64 {
 }
 
 // Words and a number.
-fn say(words: &[u8], number: u64) {
-    io::write_all(1, words);
-    io::print_decimal(1, number);
+fn say(rt: &impl Print, words: &str, number: u64) -> io::Result<()> {
+    print!(rt; "{words}{number}")
 }
 
 // A line: what was played, what the last step answered, the refusals so far, clock and used.
-fn tell(words: &[u8], p: Played) {
+fn tell(rt: &impl Print, words: &str, p: Played) -> io::Result<()> {
     let m = p.machine;
-    say(words, p.number);
-    say(b" ", p.value);
-    say(b", refused so far ", p.refusals);
-    say(b", clock ", m.clock);
-    say(b", used ", m.used);
-    io::write_all(1, b"\n");
+    say(rt, words, p.number)?;
+    say(rt, " ", p.value)?;
+    say(rt, ", refused so far ", p.refusals)?;
+    say(rt, ", clock ", m.clock)?;
+    say(rt, ", used ", m.used)?;
+    println!(rt)
 }
 
 // The whole: filled, validated alone, validated in a crowd with full lists; and no ninth transaction begins.
 fn play(
+    rt: &impl Print,
     rows: &mut [u64; ROWS_LENT],
     versions: &mut [u64; VERSIONS_LENT],
     buckets: &mut [u64; BUCKETS_LENT],
     lists: &mut [u64; LISTS_LENT],
     opened: Played,
     counts: Counts,
-) {
+) -> io::Result<()> {
     let filled = fill(rows, versions, buckets, lists, opened);
-    tell(b"filled, the last publish: ", filled);
+    tell(rt, "filled, the last publish: ", filled)?;
     let begun = after(
         filled.refusals,
         begin(rows, versions, buckets, lists, filled.machine),
     );
     let number = begun.value;
     let alone = validate_all(rows, versions, buckets, lists, begun, number, counts.alone);
-    tell(b"one live, the last validate: ", alone);
+    tell(rt, "one live, the last validate: ", alone)?;
     let crowded = crowd(rows, versions, buckets, lists, alone);
-    tell(b"eight live, the last put: ", crowded);
-    say(b"with full lists: ", full_count(crowded.machine));
-    io::write_all(1, b"\n");
+    tell(rt, "eight live, the last put: ", crowded)?;
+    say(rt, "with full lists: ", full_count(crowded.machine))?;
+    println!(rt)?;
     let beside = validate_all(
         rows,
         versions,
@@ -362,12 +366,12 @@ fn play(
         number,
         counts.beside,
     );
-    tell(b"eight live, the last validate: ", beside);
+    tell(rt, "eight live, the last validate: ", beside)?;
     let ninth = after(
         beside.refusals,
         begin(rows, versions, buckets, lists, beside.machine),
     );
-    tell(b"a ninth begin: ", ninth);
+    tell(rt, "a ninth begin: ", ninth)
 }
 
 // A count with one digit more; what is no digit, and what would be too many, is passed over.
@@ -408,18 +412,18 @@ fn counts_of(text: &[u8]) -> Counts {
 }
 
 // The counts that standard input asks for.
-fn counts_read() -> Counts {
-    let mut input = [0u8; MOST_INPUT];
-    let n = io::read_full(0, &mut input);
-    counts_of(&input[..n])
+fn counts_read(rt: &(impl Input + AllocGlobal)) -> io::Result<Counts> {
+    let mut input = Vec::new(rt.alloc());
+    rt.reader().take(MOST_INPUT as u64).read_to_end(&mut input)?;
+    Ok(counts_of(input.as_slice()))
 }
 
-fn main() {
+fn main(rt: HostRuntime) -> io::Result<()> {
     let mut rows = [0u64; ROWS_LENT];
     let mut versions = [0u64; VERSIONS_LENT];
     let mut buckets = [0u64; BUCKETS_LENT];
     let mut lists = [0u64; LISTS_LENT];
-    let counts = counts_read();
+    let counts = counts_read(&rt)?;
     let opened = after(
         0,
         open(
@@ -436,11 +440,12 @@ fn main() {
         ),
     );
     play(
+        &rt,
         &mut rows,
         &mut versions,
         &mut buckets,
         &mut lists,
         opened,
         counts,
-    );
+    )
 }

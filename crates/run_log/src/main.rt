@@ -1,5 +1,9 @@
 // Replays the log on standard input: the report goes to standard output, and a status other than 0 is named on standard error.
+#![tactic(auto)]
+
 use replay::toruxeng_replay;
+use std::io;
+use std::io::{Read, Write};
 
 // A log must be shorter than this, and a report may be as long.
 const MOST_LOG: usize = 262144;
@@ -10,50 +14,45 @@ const MOST_REPORT: usize = 1048576;
 const HALF: u64 = 4294967296;
 
 // Says a status in words.
-fn name_status(status: u64) {
+fn name_status(rt: &impl Eprint, status: u64) -> io::Result<()> {
     match status {
-        0 => {}
-        1 => {
-            io::write_all(
-                2,
-                b"replay_log: stopped with 1: the open asks for a size outside its range or for clock 0\n",
-            );
-        }
-        10 => {
-            io::write_all(
-                2,
-                b"replay_log: stopped with 10: the next line does not fit into 1,048,576 bytes of report\n",
-            );
-        }
-        _ => {
-            io::write_all(2, b"replay_log: stopped with 15: the log is malformed\n");
-        }
+        0 => Ok(()),
+        1 => eprintln!(rt;
+            "replay_log: stopped with 1: the open asks for a size outside its range or for clock 0"
+        ),
+        10 => eprintln!(rt;
+            "replay_log: stopped with 10: the next line does not fit into 1,048,576 bytes of report"
+        ),
+        _ => eprintln!(rt; "replay_log: stopped with 15: the log is malformed"),
     }
 }
 
 // Reads the log into its place, replays it into the report, and writes what it says.
-fn replay_input(log: &mut [u8], report: &mut [u8]) {
-    let n = io::read_full(0, log);
-    if n == log.len() {
-        io::write_all(
-            2,
-            b"replay_log: a log of 262,144 bytes or more is too large for this program\n",
+fn replay_input(
+    rt: &(impl Input + Print + Eprint),
+    log: &mut Vec<u8>,
+    report: &mut [u8],
+) -> io::Result<()> {
+    let n = rt.reader().take(MOST_LOG as u64).read_to_end(log)?;
+    if n == MOST_LOG {
+        return eprintln!(rt;
+            "replay_log: a log of 262,144 bytes or more is too large for this program"
         );
-        return;
     }
-    let answer = toruxeng_replay(&log[..n], report);
+    let answer = toruxeng_replay(log.as_slice(), report);
     let wrote = (answer % HALF) as usize;
     if wrote > report.len() {
-        return;
+        return Ok(());
     }
-    if !io::write_all(1, &report[0..wrote]) {
-        io::write_all(2, b"replay_log: the report could not be written\n");
+    if io::writer(rt).write_all(&report[0..wrote]).is_err() {
+        eprintln!(rt; "replay_log: the report could not be written")?;
     }
-    name_status(answer / HALF);
+    name_status(rt, answer / HALF)
 }
 
-fn main() {
-    let mut log = [0u8; MOST_LOG];
-    let mut report = [0u8; MOST_REPORT];
-    replay_input(&mut log, &mut report);
+fn main(rt: HostRuntime) -> io::Result<()> {
+    let alloc = rt.alloc();
+    let mut log = Vec::new(alloc);
+    let mut report = vec![in alloc; 0u8; MOST_REPORT]?;
+    replay_input(&rt, &mut log, report.as_mut_slice())
 }

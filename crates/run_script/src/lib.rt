@@ -1,5 +1,7 @@
 // A line written as a text: its name and its numbers, then a sign, and the numbers behind it.
 // `capture 3 6: 0 2;` is a step and its answer, `stamp 2? 5;` a look at a word and what stands there, `stamp 2 = 9;` a change of it.
+#![tactic(auto)]
+
 ghost use Rattle.std.specs.Prelude.{◌≡◌, ◌+◌, ◌*◌, ◌%◌, ◌^◌, ◌&&◌, nat_le, slice_index};
 ghost use Rattle.run_script.specs.Names.{letter_more};
 ghost use Rattle.run_script.specs.Script.{is_sign, empty_line, with_letter, with_digit, ended_line, with_byte, step_end, line_of};
@@ -20,7 +22,7 @@ pub const CHANGE: u8 = b'=';
 const NO_NAME: u64 = 18446744073709551615;
 
 // A line as it is read: its name's letters as a number, its sign (0 before it is read), its numbers, the place of the next one, and the digits read of it.
-#[derive(Drop)]
+#[derive(Clone, Copy)]
 pub struct Line {
     pub name: u64,
     pub sign: u8,

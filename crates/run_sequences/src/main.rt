@@ -1,11 +1,18 @@
 // Plays the sequences in data/: a line has a name, the next the steps and the answers that document 01 asks for, and among them looks at words and changes of
 // them.
 // After the values of rows come the rows. data/README.md has the grammar and the names.
+#![tactic(auto)]
+
 ghost use Rattle.std.specs.Prelude.{◌≤◌, length};
 
+use anyhow::{Context, Result};
 use report_answers::{Numbers, numbers_of};
 use run_changes::{Seen, WordName, change, look};
 use run_script::{ANSWER, CHANGE, Line, STEP, line_of, step_end};
+use std::alloc::Global;
+use std::io::{Read, Write};
+use std::rt::Files;
+use std::{fs, io};
 use steps_by_name::{
     BUCKETS_LENT, LISTS_LENT, MOST_FOUND, ROWS_LENT, VERSIONS_LENT, any_step, lent,
 };
@@ -16,8 +23,11 @@ mod steps_by_name; // steps_by_name.rt: a call for each step
 // The name of the first step, by its letters.
 const OPEN: u64 = 0x6f70656e;
 
+// The bytes of a file that are read.
+const MOST_FILE: usize = 65536;
+
 // What a line answers in numbers, and the machine behind it.
-#[derive(Drop)]
+#[derive(Clone, Copy)]
 struct Told {
     numbers: Numbers,
     machine: Machine,
@@ -165,23 +175,19 @@ fn expected(told: Numbers, found: &[u64; MOST_FOUND], line: Line) -> bool {
 }
 
 // What differed: which line, and the number and the value that it answered, or that it names no word.
-fn differed(line: u64, told: Numbers) {
+fn differed(rt: &impl Print, line: u64, told: Numbers) -> io::Result<()> {
     let numbers = told.list;
-    io::write_all(1, b": line ");
-    io::print_decimal(1, line);
+    print!(rt; ": line {line}")?;
     if told.count == 0 {
-        io::write_all(1, b" names no word\n");
-        return;
+        return println!(rt; " names no word");
     }
-    io::write_all(1, b" answered ");
-    io::print_decimal(1, numbers[0]);
-    io::write_all(1, b" ");
-    io::print_decimal(1, numbers[1]);
-    io::write_all(1, b"\n");
+    let number = numbers[0];
+    let value = numbers[1];
+    println!(rt; " answered {number} {value}")
 }
 
 // Plays one sequence in tables full of sevens; the first step opens them.
-fn play(name: &[u8], text: &[u8]) {
+fn play(rt: &impl Print, name: &[u8], text: &[u8]) -> io::Result<()> {
     let mut rows = [7u64; ROWS_LENT];
     let mut versions = [7u64; VERSIONS_LENT];
     let mut buckets = [7u64; BUCKETS_LENT];
@@ -193,15 +199,13 @@ fn play(name: &[u8], text: &[u8]) {
     let answer = called.answer;
     let mut m = called.machine;
     let mut step: u64 = 1;
-    io::write_all(1, name);
+    io::writer(rt).write_all(name)?;
     let begun = numbers_of(answer);
     if first.name != OPEN {
-        differed(step, begun);
-        return;
+        return differed(rt, step, begun);
     }
     if !expected(begun, &found, first) {
-        differed(step, begun);
-        return;
+        return differed(rt, step, begun);
     }
     while at < text.len() {
         let next = step_end(text, at);
@@ -219,12 +223,11 @@ fn play(name: &[u8], text: &[u8]) {
         m = told.machine;
         step = std::num::wrapping_add_u64(step, 1);
         if !expected(numbers, &found, line) {
-            differed(step, numbers);
-            return;
+            return differed(rt, step, numbers);
         }
         at = next;
     }
-    io::write_all(1, b" ok\n");
+    println!(rt; " ok")
 }
 
 // Where the line at a place ends: at its newline, or where the file ends.
@@ -243,35 +246,36 @@ fn line_end(file: &[u8], from: usize) -> usize
 }
 
 // Plays each sequence of the file; a name with no line behind it is not played.
-fn play_all(file: &[u8]) {
+fn play_all(rt: &impl Print, file: &[u8]) -> io::Result<()> {
     let mut at = 0;
     while at < file.len() {
         let named = line_end(file, at);
         if named >= file.len() {
-            return;
+            return Ok(());
         }
         let from = named + 1;
         let to = line_end(file, from);
-        play(&file[at..named], &file[from..to]);
+        play(rt, &file[at..named], &file[from..to])?;
         at = to + 1;
     }
+    Ok(())
 }
 
-fn play_file(path: &[u8]) {
-    let mut space = io::large_buffer();
-    let fd = os::open_read(path);
-    if fd < 0 {
-        os::fail(path);
-        return;
-    }
-    let n = io::read_full(fd, &mut space);
-    libc::close(fd);
-    play_all(&space[..n]);
+fn play_file(rt: &(impl Files + Print), alloc: Global, path: &str) -> Result<()> {
+    let mut space = Vec::new(alloc);
+    fs::open(rt, path)
+        .context(path)?
+        .take(MOST_FILE as u64)
+        .read_to_end(&mut space)
+        .context(path)?;
+    play_all(rt, space.as_slice())?;
+    Ok(())
 }
 
-fn main() {
-    play_file(b"steps.txt");
-    play_file(b"shape.txt");
-    play_file(b"words.txt");
-    play_file(b"limits.txt");
+fn main(rt: HostRuntime) -> Result<()> {
+    let alloc = rt.alloc();
+    play_file(&rt, alloc, "steps.txt")?;
+    play_file(&rt, alloc, "shape.txt")?;
+    play_file(&rt, alloc, "words.txt")?;
+    play_file(&rt, alloc, "limits.txt")
 }

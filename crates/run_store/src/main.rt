@@ -1,4 +1,7 @@
 // A program that holds the store itself: a key is published, a tap reads it, the key is revoked in between, and the tap learns that its read no longer stands.
+#![tactic(auto)]
+
+use std::io;
 use toruxeng::{
     Answer, BUCKET_WORDS, Called, MOST_LIVE, Machine, ROW_WORDS, SLOT_WORDS, Sizes, VERSION_WORDS,
     Verdict, begin, capture, collect, end, erase, install, open, prepare, publish, put, validate,
@@ -23,41 +26,39 @@ const LISTS_LENT: usize = SLOT_WORDS * MOST_LIVE;
 const KEY: u64 = 7;
 
 // Words, as they stand.
-fn tell(words: &[u8]) {
-    io::write_all(1, words);
+fn tell(rt: &impl Print, words: &str) -> io::Result<()> {
+    print!(rt; "{words}")
 }
 
 // Words, a number, and the line's end.
-fn say(words: &[u8], number: u64) {
-    tell(words);
-    io::print_decimal(1, number);
-    tell(b"\n");
+fn say(rt: &impl Print, words: &str, number: u64) -> io::Result<()> {
+    println!(rt; "{words}{number}")
 }
 
 // A verdict: whether what the tap relied on stands, and else the first that does not.
-fn judge(verdict: Verdict) {
+fn judge(rt: &impl Print, verdict: Verdict) -> io::Result<()> {
     match verdict {
-        Verdict::Clear => tell(b"no conflict\n"),
+        Verdict::Clear => tell(rt, "no conflict\n"),
         Verdict::Bucket {
             bucket,
             captured: _,
             present: _,
-        } => say(b"conflict in bucket ", bucket),
-        Verdict::Row { row, ptr: _ } => say(b"conflict in row ", row),
-        Verdict::Mark => tell(b"marked\n"),
+        } => say(rt, "conflict in bucket ", bucket),
+        Verdict::Row { row, ptr: _ } => say(rt, "conflict in row ", row),
+        Verdict::Mark => tell(rt, "marked\n"),
     }
 }
 
 // What a step answered.
-fn told(answer: Answer) {
+fn told(rt: &impl Print, answer: Answer) -> io::Result<()> {
     match answer {
-        Answer::Done => tell(b"done\n"),
-        Answer::Number(n) => say(b"number ", n),
-        Answer::Stamp(n) => say(b"stamp ", n),
-        Answer::Count(n) => say(b"candidates ", n),
-        Answer::Rows(n) => say(b"found ", n),
-        Answer::Judged(verdict) => judge(verdict),
-        Answer::Refused(why) => say(b"refused with ", why),
+        Answer::Done => tell(rt, "done\n"),
+        Answer::Number(n) => say(rt, "number ", n),
+        Answer::Stamp(n) => say(rt, "stamp ", n),
+        Answer::Count(n) => say(rt, "candidates ", n),
+        Answer::Rows(n) => say(rt, "found ", n),
+        Answer::Judged(verdict) => judge(rt, verdict),
+        Answer::Refused(why) => say(rt, "refused with ", why),
     }
 }
 
@@ -75,83 +76,93 @@ fn number_of(answer: Answer) -> u64 {
 }
 
 // What a call answered is told, and its machine goes on to the next call.
-fn shown(step: &[u8], called: Called) -> Machine {
+fn shown(rt: &impl Print, step: &str, called: Called) -> io::Result<Machine> {
     let answer = called.answer;
     let machine = called.machine;
-    tell(step);
-    told(answer);
-    machine
+    tell(rt, step)?;
+    told(rt, answer)?;
+    Ok(machine)
 }
 
 // What was written is prepared, installed, ended and published.
 fn finish(
+    rt: &impl Print,
     rows: &mut [u64; ROWS_LENT],
     versions: &mut [u64; VERSIONS_LENT],
     buckets: &mut [u64; BUCKETS_LENT],
     lists: &mut [u64; LISTS_LENT],
     m: Machine,
     number: u64,
-) -> Machine {
+) -> io::Result<Machine> {
     let prepared = shown(
-        b"  prepare: ",
+        rt,
+        "  prepare: ",
         prepare(rows, versions, buckets, lists, m, number),
-    );
+    )?;
     let installed = shown(
-        b"  install: ",
+        rt,
+        "  install: ",
         install(rows, versions, buckets, lists, prepared, number),
-    );
+    )?;
     let ended = shown(
-        b"  end: ",
+        rt,
+        "  end: ",
         end(rows, versions, buckets, lists, installed, number),
-    );
+    )?;
     shown(
-        b"  publish: ",
+        rt,
+        "  publish: ",
         publish(rows, versions, buckets, lists, ended, number),
     )
 }
 
 // The key goes to row 2, with payload 100.
 fn publish_key(
+    rt: &impl Print,
     rows: &mut [u64; ROWS_LENT],
     versions: &mut [u64; VERSIONS_LENT],
     buckets: &mut [u64; BUCKETS_LENT],
     lists: &mut [u64; LISTS_LENT],
     m: Machine,
-) -> Machine {
-    tell(b"a key is published\n");
+) -> io::Result<Machine> {
+    tell(rt, "a key is published\n")?;
     let called = begin(rows, versions, buckets, lists, m);
     let answer = called.answer;
     let number = number_of(answer);
-    let begun = shown(b"  begin: ", called);
+    let begun = shown(rt, "  begin: ", called)?;
     let written = shown(
-        b"  put: ",
+        rt,
+        "  put: ",
         put(rows, versions, buckets, lists, begun, number, 2, KEY, 100),
-    );
-    finish(rows, versions, buckets, lists, written, number)
+    )?;
+    finish(rt, rows, versions, buckets, lists, written, number)
 }
 
 // Row 2 is erased.
 fn revoke(
+    rt: &impl Print,
     rows: &mut [u64; ROWS_LENT],
     versions: &mut [u64; VERSIONS_LENT],
     buckets: &mut [u64; BUCKETS_LENT],
     lists: &mut [u64; LISTS_LENT],
     m: Machine,
-) -> Machine {
-    tell(b"the key is revoked\n");
+) -> io::Result<Machine> {
+    tell(rt, "the key is revoked\n")?;
     let called = begin(rows, versions, buckets, lists, m);
     let answer = called.answer;
     let number = number_of(answer);
-    let begun = shown(b"  begin: ", called);
+    let begun = shown(rt, "  begin: ", called)?;
     let written = shown(
-        b"  erase: ",
+        rt,
+        "  erase: ",
         erase(rows, versions, buckets, lists, begun, number, 2),
-    );
-    finish(rows, versions, buckets, lists, written, number)
+    )?;
+    finish(rt, rows, versions, buckets, lists, written, number)
 }
 
 // The tap looks the key up: capture, collect, rows.
 fn look_up(
+    rt: &impl Print,
     rows: &mut [u64; ROWS_LENT],
     versions: &mut [u64; VERSIONS_LENT],
     buckets: &mut [u64; BUCKETS_LENT],
@@ -159,54 +170,61 @@ fn look_up(
     found: &mut [u64; ROWS],
     m: Machine,
     number: u64,
-) -> Machine {
+) -> io::Result<Machine> {
     let captured = shown(
-        b"  capture: ",
+        rt,
+        "  capture: ",
         capture(rows, versions, buckets, lists, m, number, KEY),
-    );
+    )?;
     let collected = shown(
-        b"  collect: ",
+        rt,
+        "  collect: ",
         collect(rows, versions, buckets, lists, captured, number),
-    );
+    )?;
     shown(
-        b"  rows: ",
+        rt,
+        "  rows: ",
         toruxeng::rows(rows, versions, buckets, lists, found, collected, number),
     )
 }
 
 // The whole: a tap, and a revocation between its read and its validation.
 fn play(
+    rt: &impl Print,
     rows: &mut [u64; ROWS_LENT],
     versions: &mut [u64; VERSIONS_LENT],
     buckets: &mut [u64; BUCKETS_LENT],
     lists: &mut [u64; LISTS_LENT],
     found: &mut [u64; ROWS],
     m: Machine,
-) {
-    let updated = publish_key(rows, versions, buckets, lists, m);
-    tell(b"a tap looks the key up\n");
+) -> io::Result<()> {
+    let updated = publish_key(rt, rows, versions, buckets, lists, m)?;
+    tell(rt, "a tap looks the key up\n")?;
     let called = begin(rows, versions, buckets, lists, updated);
     let answer = called.answer;
     let tap = number_of(answer);
-    let begun = shown(b"  begin: ", called);
-    let read = look_up(rows, versions, buckets, lists, found, begun, tap);
-    let revoked = revoke(rows, versions, buckets, lists, read);
-    tell(b"does the tap's read stand?\n");
+    let begun = shown(rt, "  begin: ", called)?;
+    let read = look_up(rt, rows, versions, buckets, lists, found, begun, tap)?;
+    let revoked = revoke(rt, rows, versions, buckets, lists, read)?;
+    tell(rt, "does the tap's read stand?\n")?;
     shown(
-        b"  validate: ",
+        rt,
+        "  validate: ",
         validate(rows, versions, buckets, lists, revoked, tap),
-    );
+    )?;
+    Ok(())
 }
 
-fn main() {
+fn main(rt: HostRuntime) -> io::Result<()> {
     let mut rows = [0u64; ROWS_LENT];
     let mut versions = [0u64; VERSIONS_LENT];
     let mut buckets = [0u64; BUCKETS_LENT];
     let mut lists = [0u64; LISTS_LENT];
     let mut found = [0u64; ROWS];
-    tell(b"a store is opened\n");
+    tell(&rt, "a store is opened\n")?;
     let m = shown(
-        b"  open: ",
+        &rt,
+        "  open: ",
         open(
             &mut rows,
             &mut versions,
@@ -219,14 +237,15 @@ fn main() {
             },
             1,
         ),
-    );
+    )?;
     play(
+        &rt,
         &mut rows,
         &mut versions,
         &mut buckets,
         &mut lists,
         &mut found,
         m,
-    );
-    say(b"the row found was ", found[0]);
+    )?;
+    say(&rt, "the row found was ", found[0])
 }

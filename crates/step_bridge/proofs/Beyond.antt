@@ -11,7 +11,7 @@ use lib.Dec.{eqb, ltb}
 use lib.ListN.{length, drop}
 use lib.Seq.{sets, drop-set-lt}
 use Rattle.base_limits.specs.Limits.{most_live, most_writes, most_records, most_versions}
-use Rattle.base_lists.specs.Table.{cond-elim}
+use Rattle.base_lists.proofs.TableLaws.{cond-elim}
 use Rattle.base_numbers.proofs.Laws.{one_up}
 use Rattle.model.specs.Store as model
 use Rattle.table.specs.Words.{field, set_field, set_fields, clear_field, clear_fields, clear_every}

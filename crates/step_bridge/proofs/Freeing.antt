@@ -11,7 +11,8 @@ use lib.Dec.{eqb}
 use lib.ListN.{length}
 use borrow.Author.Tests.{eq-eqb, ne_eqb, eqb-true}
 use Rattle.base_lists.specs.Lists.{member, Among}
-use Rattle.base_lists.specs.Table.{update, update_same, update_other, cond-elim}
+use Rattle.base_lists.specs.Table.{update}
+use Rattle.base_lists.proofs.TableLaws.{update_same, update_other, cond-elim}
 use Rattle.base_lists.proofs.ListLaws.{among-member}
 use Rattle.model.specs.Steps.{release}
 use Rattle.table.specs.Words.{field, set_field, clear_fields}

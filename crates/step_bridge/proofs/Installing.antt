@@ -8,7 +8,8 @@ use native.Mathlib.Decide.{ℕ_discrete}
 use native.Mathlib.Omega.{arith}
 use lib.ListN.{length}
 use Rattle.base_limits.specs.Limits.{most_writes}
-use Rattle.base_lists.specs.Table.{update, update_same, update_other}
+use Rattle.base_lists.specs.Table.{update}
+use Rattle.base_lists.proofs.TableLaws.{update_same, update_other}
 use Rattle.model.specs.Seeing.{last_write, written_key}
 use Rattle.model.specs.Steps.{new_key, written_payload}
 use Rattle.table.specs.Fields.{version_words, set_xmax}

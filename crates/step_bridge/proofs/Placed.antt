@@ -11,7 +11,8 @@ use native.Mathlib.Omega.{arith}
 use lib.ListN.{length, get_or, set, length-set}
 use lib.Seq.{sets, get_or-set_same, get_or-set_other, set-get_or}
 use Rattle.base_limits.specs.Limits.{most_live}
-use Rattle.base_lists.specs.Table.{update, update_same, update_other}
+use Rattle.base_lists.specs.Table.{update}
+use Rattle.base_lists.proofs.TableLaws.{update_same, update_other}
 use Rattle.model.specs.Store as model
 use Rattle.table.specs.Regions.{list_of}
 use Rattle.table.specs.Lists.{Kind, slot_words, start_of, list_at, reads, writes, records, candidates, read_of, write_of, record_of, candidate_of}

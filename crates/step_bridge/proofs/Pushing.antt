@@ -14,7 +14,8 @@ use borrow.Author.Tests.{eqb-true, not-false}
 use Rattle.base_limits.specs.Limits.{most_live, most_writes, most_versions}
 use Rattle.base_numbers.specs.Numbers.{one_more}
 use Rattle.base_numbers.proofs.Laws.{one_up}
-use Rattle.base_lists.specs.Table.{update, update-elim}
+use Rattle.base_lists.specs.Table.{update}
+use Rattle.base_lists.proofs.TableLaws.{update-elim}
 use Rattle.model.specs.Store as model
 use Rattle.model.specs.Store.{rank, phase_prepared}
 use Rattle.model.specs.Seeing.{last_write}

@@ -12,7 +12,8 @@ use lib.Dec.{eqb}
 use lib.ListN.{length}
 use borrow.Author.Tests.{eq-eqb, ne_eqb}
 use Rattle.base_lists.specs.Lists.{member}
-use Rattle.base_lists.specs.Table.{update, update_same, update_other}
+use Rattle.base_lists.specs.Table.{update}
+use Rattle.base_lists.proofs.TableLaws.{update_same, update_other}
 use Rattle.table.specs.Fields.{row_words}
 use Rattle.table.specs.Words.{field, set_field}
 use Rattle.table.proofs.Laws.{field-length}

@@ -15,7 +15,7 @@ use borrow.Author.Tests.{lt-leb}
 use Rattle.base_limits.specs.Limits.{most_active}
 use Rattle.base_numbers.proofs.Laws.{lesser-by}
 use Rattle.base_lists.specs.Lists.{pick, least}
-use Rattle.base_lists.specs.Table.{cond-elim}
+use Rattle.base_lists.proofs.TableLaws.{cond-elim}
 use Rattle.base_lists.proofs.ListLaws.{pick-few}
 use Rattle.model.specs.Seeing.{active}
 use Rattle.txn_begin.specs.Begin.{keep_active, keep_all}

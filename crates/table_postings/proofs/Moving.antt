@@ -10,7 +10,7 @@ use native.Mathlib.Omega.{arith}
 use lib.Dec.{eqb}
 use lib.ListN.{length}
 use lib.Seq.{set_out}
-use Rattle.base_lists.specs.Table.{cond-elim}
+use Rattle.base_lists.proofs.TableLaws.{cond-elim}
 use Rattle.table.specs.Words.{field, set_field}
 use Rattle.table.specs.Fields.{row_words, posted_of, set_posted, posted_key_of, later_of, set_later}
 use Rattle.table.proofs.Laws.{field-same, field-other, entry_other, field-update, field-kept, field-length}

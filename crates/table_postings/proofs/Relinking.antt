@@ -6,7 +6,7 @@ use mathlib.Core.Logic.{◌≢◌, ◌⊎◌, inl, inr, ⊎_elim}
 use mathlib.Core.Bool.{Bool, true, false, cond, true≢false}
 use native.Mathlib.Decide.{ℕ_discrete, dec_lt}
 use native.Mathlib.Omega.{arith}
-use Rattle.base_lists.specs.Table.{cond-elim}
+use Rattle.base_lists.proofs.TableLaws.{cond-elim}
 
 -- the place of the last row below r that is listed; 0 where there is none
 unfoldable pub last : (ℕ → Bool) → ℕ → ℕ

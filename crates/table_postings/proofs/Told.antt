@@ -12,7 +12,8 @@ use lib.ListN.{length}
 use borrow.Author.Tests.{eqb-true, eq-eqb, ne_eqb, not-true, lt-ltb, ltb-false}
 use Rattle.base_limits.specs.Limits.{most_rows}
 use Rattle.base_lists.specs.Lists.{pick, every}
-use Rattle.base_lists.specs.Table.{update, update_same, update_other, cond-elim}
+use Rattle.base_lists.specs.Table.{update}
+use Rattle.base_lists.proofs.TableLaws.{update_same, update_other, cond-elim}
 use Rattle.base_lists.proofs.ListLaws.{and_l, and_r, and_both, every-each}
 use Rattle.table.specs.Words.{field}
 use Rattle.table.specs.Fields.{row_words, posted_of, set_posted, posted_key_of, set_posted_key, first_of}

@@ -1,5 +1,7 @@
 // The store for a program that holds it: open, a function for each step, and all that they need. Each step tests the shape first and answers 16 where it is
 // wrong.
+#![tactic(auto)]
+
 ghost use Rattle.std.specs.Prelude.{◌≡◌, [], length};
 ghost use Rattle.base_protocol.specs.declared.Step.TheVariants as ask;
 ghost use Rattle.shape.specs.Shape.{words_of};

@@ -14,7 +14,7 @@ use lib.ListN.{length, get_or, take, drop, drop_of_length-le}
 use lib.Seq.{take_all}
 use Rattle.base_limits.specs.Limits.{most_active}
 use Rattle.base_lists.specs.Lists.{member, least}
-use Rattle.base_lists.specs.Table.{cond-elim}
+use Rattle.base_lists.proofs.TableLaws.{cond-elim}
 use Rattle.base_lists.proofs.ListLaws.{below-least}
 use Rattle.model.specs.Verdict.{bad_read, bad_record}
 use Rattle.table.specs.Fields.{xmin_of, xmax_of}

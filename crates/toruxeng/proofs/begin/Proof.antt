@@ -5,34 +5,26 @@ use Rattle.toruxeng.proofs.begin.Statement.{statement}
 use Rattle.toruxeng.proofs.begin.Tie as tie
 
 -- the call, from the end
-abbrev called : tie.After-slice-known8 → tie.After-call-without-list
-called c = let halfway = c.before.before.before.before in halfway.before.before.before.before
+abbrev called : tie.After-slice_known-8-1 → tie.After-call_without_list
+called c = c.before.before.before.before.before.before.before.before
 
-call-without-list-requires : tie.Need-call-without-list-requires
+call-without-list-requires : tie.Need-call_without_list-requires
 call-without-list-requires c κs = search rules
 
-same_length : tie.Need-same-length
-same_length c = (called c).call-without-list.auto.0
+same_length : tie.Need-shape_of-rows
+same_length c = (called c).call_without_list.auto.rows
 
-same-length-2 : tie.Need-same-length-2
-same-length-2 c = (called c).call-without-list.auto.1.0
+same-length-2 : tie.Need-shape_of-versions
+same-length-2 c = (called c).call_without_list.auto.versions
 
-same-length-3 : tie.Need-same-length-3
-same-length-3 c = (called c).call-without-list.auto.1.1.0
+same-length-3 : tie.Need-shape_of-buckets
+same-length-3 c = (called c).call_without_list.auto.buckets
 
-same-length-4 : tie.Need-same-length-4
-same-length-4 c = (called c).call-without-list.auto.1.1.1.0
+same-length-4 : tie.Need-shape_of-lists
+same-length-4 c = (called c).call_without_list.auto.lists
 
 returns : tie.Need-returns
-returns c = (called c).call-without-list.ensures
+returns c = (called c).call_without_list.ensures
 
-pub begin-spec : {M : Type 1} → statement M
-begin-spec =
-    tie.close
-    (tie.spec
-    call-without-list-requires
-    same_length
-    same-length-2
-    same-length-3
-    same-length-4
-    returns)
+pub begin_spec : {M : Type 1} → statement M
+begin_spec = tie.close (tie.spec call-without-list-requires same_length same-length-2 same-length-3 same-length-4 returns)

@@ -11,53 +11,41 @@ use Rattle.run_changes.proofs.Naming.{name-next, name-end}
 use Rattle.run_changes.proofs.names.word_named.Statement.{statement}
 use Rattle.run_changes.proofs.names.word_named.Tie as tie
 
-abbrev invariant-loop : tie.invariant-loop
+abbrev invariant-loop : tie.invariant-loop-k
 invariant-loop name all k₀ k = (k ≤ 43) × (word_named name ≡ name_from k (drop k names) name)
 
-abbrev decreases-loop : tie.decreases-loop
+abbrev decreases-loop : tie.decreases-loop-k
 decreases-loop name all k₀ k = 43 - k
 
-loop-holds : tie.Need-loop-init invariant-loop decreases-loop
+loop-holds : tie.Need-loop-k-init invariant-loop decreases-loop
 unfolding names
 loop-holds c = (search rules, refl)
 
-mul-if1 : tie.Need-overflow-mul-if1 invariant-loop decreases-loop
+mul-if1 : tie.Need-offset_bounds-names-k invariant-loop decreases-loop
 mul-if1 c = search rules
 
-array-read-if1 : tie.Need-array-read-if1 invariant-loop decreases-loop
+array-read-if1 : tie.Need-bounds-names-k invariant-loop decreases-loop
 array-read-if1 c = search rules
 
-returns : tie.Need-returns invariant-loop decreases-loop
+returns : tie.Need-returns-then-names-k invariant-loop decreases-loop
 unfolding names
-returns c = let l = c.before.before.loop in
-    rw (l.invariant.1, name-next names l.k c.before.before.before.args.name (omega arith), eq-eqb _ _ c.if1.true)
+returns c = let l = c.loop-k in
+    rw (l.invariant.1, name-next names l.k c.args.name (omega arith), eq-eqb _ _ c.if-names-k.true)
 
-add-k : tie.Need-overflow-add-k invariant-loop decreases-loop
+add-k : tie.Need-overflow_add-k invariant-loop decreases-loop
 add-k c = search rules
 
-loop-less : tie.Need-loop-smaller invariant-loop decreases-loop
+loop-less : tie.Need-loop-k-smaller invariant-loop decreases-loop
 loop-less c = search rules
 
-loop-again : tie.Need-loop-preserved invariant-loop decreases-loop
+loop-again : tie.Need-loop-k-preserved invariant-loop decreases-loop
 unfolding names
-loop-again c = let l = c.before.before.loop in
-    (omega arith, l.invariant.1 ∙ rw (name-next names l.k c.before.before.before.args.name (omega arith), ne_eqb _ _ c.if1.false))
+loop-again c = let l = c.loop-k in
+    (omega arith, l.invariant.1 ∙ rw (name-next names l.k c.args.name (omega arith), ne_eqb _ _ c.if-names-k.false))
 
-returns-2 : tie.Need-returns-2 invariant-loop decreases-loop
+returns-2 : tie.Need-returns invariant-loop decreases-loop
 unfolding names
-returns-2 c = let l = c.before.loop in rw (l.invariant.1, name-end names l.k c.before.before.args.name (omega arith))
+returns-2 c = let l = c.loop-k in rw (l.invariant.1, name-end names l.k c.args.name (omega arith))
 
-pub word-named-spec : {M : Type 1} → statement M
-word-named-spec =
-    tie.close
-    (tie.spec
-    invariant-loop
-    decreases-loop
-    loop-holds
-    mul-if1
-    array-read-if1
-    returns
-    add-k
-    loop-less
-    loop-again
-    returns-2)
+pub word_named_spec : {M : Type 1} → statement M
+word_named_spec = tie.close (tie.spec invariant-loop decreases-loop loop-holds mul-if1 array-read-if1 returns add-k loop-less loop-again returns-2)

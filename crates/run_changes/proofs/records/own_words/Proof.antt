@@ -9,5 +9,5 @@ returns : tie.Need-returns
 unfolding own_words
 returns c = search rules
 
-pub own-words-spec : {M : Type 1} → statement M
-own-words-spec = tie.close (tie.spec returns)
+pub own_words_spec : {M : Type 1} → statement M
+own_words_spec = tie.close (tie.spec returns)
