@@ -1,4 +1,5 @@
 // The sizes and limits of document 01, each named once.
+#![tactic(auto)]
 
 // Sizes that an open may ask for.
 pub const MOST_ROWS: usize = 1024;

@@ -1,1 +1,3 @@
+#![tactic(auto)]
+
 // Lists and tables of numbers, and their laws.

@@ -1,4 +1,5 @@
 // What a store is asked for, and what it answers.
+#![tactic(auto)]
 
 // The sizes that a store is opened with.
 #[derive(Clone, Copy)]
