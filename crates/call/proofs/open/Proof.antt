@@ -129,7 +129,8 @@ returns-3 c =
       rows-cleared.clear.ensures,
       versions-cleared.clear-2.ensures,
       buckets-cleared.clear-3.ensures,
-      add-one (entered (opened passed.before.before.before.before.before.before.before.before.before.before.before.before.before.before).before).args.sizes.versions,
+      add-one (entered
+          (opened passed.before.before.before.before.before.before.before.before.before.before.before.before.before.before).before).args.sizes.versions,
     )
 
 pub open_spec : {M : Type 1} → statement M

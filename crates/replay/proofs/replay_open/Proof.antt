@@ -66,8 +66,10 @@ returns-2 c =
     let stop = c in
     let other = stop in
     let read = other in
-    let u = unopened (log read.before.before.before.before.before) (report read.before.before.before.before.before) (lent (begun read.before.before.before.before.before)) read.decode_at-d.ensures other.in_default.in_default-own.keys2 in (
-      rw u.0 (left-malformed (log read.before.before.before.before.before) (report read.before.before.before.before.before) (some_bytes read.before.before.before.before.before) read.decode_at-d.ensures other.in_default.in_default-own.keys2 _ stop.stop_malformed.ensures),
+    let u = unopened (log read.before.before.before.before.before) (report read.before.before.before.before.before)
+    (lent (begun read.before.before.before.before.before)) read.decode_at-d.ensures other.in_default.in_default-own.keys2 in (
+      rw u.0 (left-malformed (log read.before.before.before.before.before) (report read.before.before.before.before.before)
+          (some_bytes read.before.before.before.before.before) read.decode_at-d.ensures other.in_default.in_default-own.keys2 _ stop.stop_malformed.ensures),
       sym u.1,
     )
 
@@ -112,7 +114,13 @@ module _ (c : tie.After-number_of-why) where
   numbered = c.number_of-why.ensures ∙ ap (λ (x : Left). number_of x.answer) opened.open-called.ensures
 
   left-tables : ◌≡◌ {A = Lent}
-      (record { rows = opened.open-called.new.rows; versions = opened.open-called.new.versions; buckets = opened.open-called.new.buckets; lists = tables.lists })
+      (record {
+        rows = opened.open-called.new.rows;
+        versions = opened.open-called.new.versions;
+        buckets = opened.open-called.new.buckets;
+        lists =
+            tables.lists;
+      })
       (lent_in called.words)
   left-tables = ap (λ (x : Left). lent_in x.words) opened.open-called.ensures
 
@@ -152,7 +160,10 @@ returns-3 c =
     let stop = c in
     let test = stop in
     let n = test in
-    let r = refused (tables n.before.before.before.before.before) (sizes (asked n.before.before.before.before.before)) (clock (asked n.before.before.before.before.before)) (log (read n.before.before.before.before.before)) (report (read n.before.before.before.before.before)) (some_bytes (read n.before.before.before.before.before)) (read n.before.before.before.before.before).decode_at-d.ensures
+    let r = refused (tables n.before.before.before.before.before) (sizes (asked n.before.before.before.before.before))
+    (clock (asked n.before.before.before.before.before)) (log (read n.before.before.before.before.before))
+    (report (read n.before.before.before.before.before)) (some_bytes (read n.before.before.before.before.before))
+    (read n.before.before.before.before.before).decode_at-d.ensures
     (opens (asked n.before.before.before.before.before)) _ (numbered n.before.before.before.before.before) test.if-why-ne0.true _ stop.stop_unopened.ensures in
     (r.0, left-tables n.before.before.before.before.before ∙ r.1)
 

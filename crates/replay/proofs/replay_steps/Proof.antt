@@ -316,11 +316,12 @@ module _ (c : tie.Joined-keeps invariant-loop decreases-loop) where
       let j = c.if-keeps in
       record { rows = j.rows; versions = j.versions; buckets = j.buckets; lists = j.lists; found = j.found }
 
-  turned : Turned (words (turn kept)) (asked kept) (place kept) c.if-keeps.answer c.if-keeps.extent c.if-keeps.others c.if-keeps.snapshots c.if-keeps.rests tables
+  turned : Turned (words (turn kept)) (asked kept)
+      (place kept) c.if-keeps.answer c.if-keeps.extent c.if-keeps.others c.if-keeps.snapshots c.if-keeps.rests tables
   turned =
       let here = found kept in
       elim c.if-keeps.branch [
-          then-keeps s ↦
+        | then-keeps s ↦
             met
             (keeping here _ _ s.step_keeping-kept.result _ s.active_number.result s.prepared_count.result (rw (← kept.keeps.ensures) s.if-keeps.true)
             s.step_keeping-kept.ensures s.active_number.ensures s.prepared_count.ensures)
@@ -348,7 +349,7 @@ module _ (c : tie.Joined-keeps invariant-loop decreases-loop) where
   tables-kept =
       let i = (from kept).loop-at.invariant in
       elim c.if-keeps.branch [
-          then-keeps s ↦
+        | then-keeps s ↦
             let k = s.step_keeping-kept.auto in (
               ap length s.rows-is ∙ k.rows ∙ i.1,
               ap length s.versions-is ∙ k.versions ∙ i.2,

@@ -48,7 +48,8 @@ returns c =
     let done = tables in
     let parted = done in
     let kept = parted in
-    let a = (start kept.before.before.before.before.before.before.before.before.before.before.before.before.before.before.before.before.before.before.before).args in
+    let a = (start
+    kept.before.before.before.before.before.before.before.before.before.before.before.before.before.before.before.before.before.before.before).args in
     let b : Tables = record { rows = a.rows.now; versions = a.versions.now; buckets = a.buckets.now; lists = a.lists.now; found = a.found.now } in
     let q : keeps_of a.s ≡ true = rw (← kept.keeps.ensures) kept.if-keeps.true in
     let whole : kept_in (keeping_of b (record { extent = a.place.extent; others = a.place.others; txn = whole_of parted.parts_of-parts.result }) a.s)

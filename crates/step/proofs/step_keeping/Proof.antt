@@ -168,7 +168,13 @@ returns-2 c =
     let done = c in
     let made = done in
     let arm = made in
-    rw (named arm.before.before.before.before.before.before.before.before.before.before, arm.in-Capture.is, c.keep-in-Capture.ensures, ← made.whole-in-Capture.ensures, ← done.capture.ensures)
+    rw (
+      named arm.before.before.before.before.before.before.before.before.before.before,
+      arm.in-Capture.is,
+      c.keep-in-Capture.ensures,
+      ← made.whole-in-Capture.ensures,
+      ← done.capture.ensures,
+    )
 
 same-length-3 : tie.Need-shape_of-rows-in-Collect
 same-length-3 c = search rules
@@ -185,7 +191,13 @@ returns-3 c =
     let done = c in
     let made = done in
     let arm = made in
-    rw (named arm.before.before.before.before.before.before.before.before.before.before, arm.in-Collect.is, c.keep-in-Collect.ensures, ← made.whole-in-Collect.ensures, ← done.collect.ensures)
+    rw (
+      named arm.before.before.before.before.before.before.before.before.before.before,
+      arm.in-Collect.is,
+      c.keep-in-Collect.ensures,
+      ← made.whole-in-Collect.ensures,
+      ← done.collect.ensures,
+    )
 
 same-length-6 : tie.Need-shape_of-rows-in-Rows
 same-length-6 c = search rules
@@ -205,7 +217,13 @@ returns-4 c =
     let done = c in
     let made = done in
     let arm = made in
-    rw (named arm.before.before.before.before.before.before.before.before.before.before, arm.in-Rows.is, c.keep-in-Rows.ensures, ← made.whole-in-Rows.ensures, ← done.rows.ensures)
+    rw (
+      named arm.before.before.before.before.before.before.before.before.before.before,
+      arm.in-Rows.is,
+      c.keep-in-Rows.ensures,
+      ← made.whole-in-Rows.ensures,
+      ← done.rows.ensures,
+    )
 
 same-length-10 : tie.Need-shape_of-lists-in-Put
 same-length-10 c = search rules
@@ -227,7 +245,13 @@ returns-6 c =
     let done = c in
     let made = done in
     let arm = made in
-    rw (named arm.before.before.before.before.before.before.before, arm.in-Erase.is, c.keep-in-Erase.ensures, ← made.whole-in-Erase.ensures, ← done.erase.ensures)
+    rw (
+      named arm.before.before.before.before.before.before.before,
+      arm.in-Erase.is,
+      c.keep-in-Erase.ensures,
+      ← made.whole-in-Erase.ensures,
+      ← done.erase.ensures,
+    )
 
 same-length-12 : tie.Need-shape_of-rows-in-Prepare
 same-length-12 c = search rules
@@ -247,7 +271,13 @@ returns-7 c =
     let done = c in
     let made = done in
     let arm = made in
-    rw (named arm.before.before.before.before.before.before.before.before.before.before, arm.in-Prepare.is, c.keep-in-Prepare.ensures, ← made.whole-in-Prepare.ensures, ← done.prepare.ensures)
+    rw (
+      named arm.before.before.before.before.before.before.before.before.before.before,
+      arm.in-Prepare.is,
+      c.keep-in-Prepare.ensures,
+      ← made.whole-in-Prepare.ensures,
+      ← done.prepare.ensures,
+    )
 
 same-length-16 : tie.Need-shape_of-rows-in-Install
 same-length-16 c = search rules
@@ -264,7 +294,13 @@ returns-8 c =
     let done = c in
     let made = done in
     let arm = made in
-    rw (named arm.before.before.before.before.before.before.before.before.before.before, arm.in-Install.is, c.keep_installed.ensures, ← made.whole-in-Install.ensures, ← done.install.ensures)
+    rw (
+      named arm.before.before.before.before.before.before.before.before.before.before,
+      arm.in-Install.is,
+      c.keep_installed.ensures,
+      ← made.whole-in-Install.ensures,
+      ← done.install.ensures,
+    )
 
 returns-9 : tie.Need-returns-in-End
 unfolding step_of

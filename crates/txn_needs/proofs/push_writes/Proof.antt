@@ -66,7 +66,8 @@ loop-again c =
           ∙ join-turn _ (record { out = l.out; n = l.m }) _ (written_by a.lists.now a.t) l.i read.write_row_at-row.result
           (rows_next a.lists.now a.t l.i read.write_row_at-row.result (omega arith) read.write_row_at-row.ensures)
           (rw (← keys-are a.rows.now a.versions.now a.lists.now a.t read.write_row_at-row.result _ _ _
-          (begun at.before.before.before.before.before.before.before.before.before).is_installed-installed.ensures told.old_key-old.ensures told.new_key-new.ensures) pushed.push_keys-m.ensures),
+          (begun at.before.before.before.before.before.before.before.before.before).is_installed-installed.ensures told.old_key-old.ensures
+          told.new_key-new.ensures) pushed.push_keys-m.ensures),
     )
 
 same_length : tie.Need-shape_of-out invariant-loop decreases-loop

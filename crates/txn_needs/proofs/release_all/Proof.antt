@@ -62,8 +62,12 @@ loop-less c = search rules
 loop-again : tie.Need-loop-i-preserved invariant-loop decreases-loop
 loop-again c =
     let freed = c in
-    let at = freed in
-    (omega arith, freed.release.auto.buckets ∙ at.loop-i.invariant.1, again at.before.before.before.before.before.before.before (omega arith) (omega arith) _ freed.release.ensures)
+    let at = freed in (
+      omega arith,
+      freed.release.auto.buckets
+          ∙ at.loop-i.invariant.1,
+      again at.before.before.before.before.before.before.before (omega arith) (omega arith) _ freed.release.ensures,
+    )
 
 same-length-2 : tie.Need-shape_of-buckets invariant-loop decreases-loop
 same-length-2 c = c.loop-i.invariant.1

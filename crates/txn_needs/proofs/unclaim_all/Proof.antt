@@ -61,8 +61,12 @@ loop-again : tie.Need-loop-i-preserved invariant-loop decreases-loop
 loop-again c =
     let done = c in
     let read = done in
-    let at = read in
-    (omega arith, done.unclaim.auto.rows ∙ at.loop-i.invariant.1, again at.before.before.before.before.before.before.before (omega arith) _ read.write_row_at.ensures _ done.unclaim.ensures)
+    let at = read in (
+      omega arith,
+      done.unclaim.auto.rows
+          ∙ at.loop-i.invariant.1,
+      again at.before.before.before.before.before.before.before (omega arith) _ read.write_row_at.ensures _ done.unclaim.ensures,
+    )
 
 same_length : tie.Need-shape_of-rows invariant-loop decreases-loop
 same_length c = c.loop-i.invariant.1

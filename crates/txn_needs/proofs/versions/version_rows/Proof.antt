@@ -90,8 +90,11 @@ loop-again c =
       omega arith,
       put.keep_row-m.auto.out ∙ l.invariant.1,
       l.invariant.2
-          ∙ join-turn _ (record { out = l.out; n = l.m }) _ (take (listed at.before.before.before.before.before.before.before).pending_rows-n.result (pending at.before.before.before.before.before.before.before)) l.i _
-          (left-next (pending at.before.before.before.before.before.before.before) (listed at.before.before.before.before.before.before.before).pending_rows-n.result l.i (omega arith) (omega (arith, sixteen at.before.before.before.before.before.before.before)))
+          ∙ join-turn _ (record { out = l.out; n = l.m }) _ (take (listed at.before.before.before.before.before.before.before).pending_rows-n.result
+          (pending at.before.before.before.before.before.before.before)) l.i _
+          (left-next (pending at.before.before.before.before.before.before.before)
+          (listed at.before.before.before.before.before.before.before).pending_rows-n.result l.i (omega arith)
+          (omega (arith, sixteen at.before.before.before.before.before.before.before)))
           (rw (← told.gets_version-gets.ensures) put.keep_row-m.ensures),
     )
 
