@@ -114,7 +114,8 @@ preparing t = record { asks = ask.Prepare t; lent = [] }
 pub record MarkedCalls (o : Opening) (cs : List Call) (t : ℕ) : Type 0 where
   pub gives : (c : Call) → Names (asking c) → actor (asking c) ≡ t → MarkedGives (store_after o cs) (asking c) (number_of (called (after o cs) c).answer)
   pub judged : number_of (called (after o cs) (validating t)).answer ≡ 0 → (called (after o cs) (validating t)).answer ≡ tell.Judged verdict.Mark
-  pub stays : (more : List Call) → (Among (abort t) (steps_of more) → ⊥) → (view (after o (cs ++ more))).txns (at (store_after o cs) t) ≡ txn_of (store_after o cs) t
+  pub stays : (more : List Call) → (Among (abort t) (steps_of more) → ⊥)
+      → (view (after o (cs ++ more))).txns (at (store_after o cs) t) ≡ txn_of (store_after o cs) t
 
 -- DEMAND 2
 

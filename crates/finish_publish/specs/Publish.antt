@@ -46,7 +46,8 @@ abbrev pub held_into : List ℕ → List ℕ → List ℕ → ℕ → Transactio
 held_into rows versions lists bucket_count t out = push_all (record { out = out; n = 0 }) (needed_in rows versions lists bucket_count t)
 
 unfoldable pub freed_in : List ℕ → List ℕ → List ℕ → List ℕ → ℕ → Transaction → List ℕ
-freed_in rows versions buckets lists bucket_count t = clear_holders buckets t.number (front (held_into rows versions lists bucket_count t (replicate most_held 0)))
+freed_in rows versions buckets lists bucket_count t =
+    clear_holders buckets t.number (front (held_into rows versions lists bucket_count t (replicate most_held 0)))
 
 -- an answer, rows and buckets
 pub record Left : Type 0 where

@@ -20,7 +20,8 @@ use Rattle.log_in_turn.proofs.Spoken.{spoken, written, open_line, written-more, 
 use Rattle.log_in_turn.proofs.Laid.{AllFit, rest-short, none_read}
 
 -- a line that was written when the replay ends with 0
-went_on : (room : ℕ) (text next : List ℕ) (go : List ℕ → Replayed) → (write_then room text next go).status ≡ 0 → write_then room text next go ≡ go (text ++ next)
+went_on : (room : ℕ) (text next : List ℕ) (go : List ℕ → Replayed) → (write_then room text next go).status ≡ 0
+    → write_then room text next go ≡ go (text ++ next)
 unfolding write_then
 went_on room text next go = by (leb (length text + length next) room)
   where

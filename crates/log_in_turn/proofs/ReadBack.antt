@@ -115,7 +115,8 @@ module _ (log : List ℕ) (z : Sizes) (clock : ℕ) (steps : List Step) (read : 
 
   replays : (more : ℕ) → length report-is ≤ min more most_room → replay (log_in_turn log) more ≡ stops 0 report-is
   unfolding replay replay_from
-  replays more l = rw log_is (laid-replay (min more most_room) (length (join bytes_of (Opening z clock ∷ map Asking taken))) z clock taken o fits (omega arith) l)
+  replays more l =
+      rw log_is (laid-replay (min more most_room) (length (join bytes_of (Opening z clock ∷ map Asking taken))) z clock taken o fits (omega arith) l)
 
   turned : (room : ℕ) → (replay log room).text ≡ written (open_line ∷ spoken (fresh z clock) steps) → ReplayedInTurn log room
   turned room says =

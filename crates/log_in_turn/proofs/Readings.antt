@@ -90,7 +90,8 @@ reads-said test s (a ∷ more) = rw (says-number a (step s a).answer) (go (eqb (
     rest-done = entries (step s a).store more
 
     go : (b : Bool) → eqb (number s a) 0 ≡ b → rest-told ≡ reads_of test rest-done
-        → cond (is_read test (Asking a) && b) (answer_line a (step s a).answer ∷ rest-told) rest-told ≡ reads_of test (cond b (entry_of s a ∷ rest-done) rest-done)
+        → cond (is_read test (Asking a) && b) (answer_line a (step s a).answer ∷ rest-told) rest-told
+        ≡ reads_of test (cond b (entry_of s a ∷ rest-done) rest-done)
     go true e h = rw (and-true (is_read test (Asking a)), h) (one-read s a test (reads_of test rest-done) (eqb-true (number s a) 0 e))
     go false e h = rw (and-false (is_read test (Asking a))) h
 

@@ -53,8 +53,10 @@ reads = (114 ∷ 111 ∷ 119 ∷ 115 ∷ 32 ∷ 48 ∷ 32 ∷ 49 ∷ 32 ∷ 50 �
 
 -- one name that opens all that is computed of a log
 unfoldable reckons : Unit {0}
-unfolding computes number widths total fields command_of whole read_record digits_step digits_for decimal spaced line write_then record_then replay_for replay_from
-    replay in_bytes laid_out framed bytes_of zip flat_map entries end_order done_by in_turn commands_for commands_in lines_in told says_done ends_told reads_where
+unfolding computes number widths total fields command_of whole read_record digits_step digits_for decimal spaced line write_then record_then replay_for
+    replay_from
+    replay in_bytes laid_out framed bytes_of zip flat_map entries end_order done_by in_turn commands_for commands_in lines_in told says_done ends_told
+    reads_where
     asked_in commands_in_turn log_in_turn
 reckons = tt
 

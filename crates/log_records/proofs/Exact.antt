@@ -168,7 +168,8 @@ module _ (kind : ℕ) (fs : List Field) (rest : List ℕ) (k : kind < 256 ^ 2) (
         eq-eqb (2 + length (laid_out fs)) (2 + total (widths_in fs)) (ap (λ x. 2 + x) (laid-long fs)),
       )
 
-  framed-read : widths kind ≡ some (widths_in fs) → Fit fs → read_record (framed kind fs ++ rest) ≡ some (command_of kind (λ i. get_or (numbers_in fs) i 0), rest)
+  framed-read : widths kind ≡ some (widths_in fs) → Fit fs
+      → read_record (framed kind fs ++ rest) ≡ some (command_of kind (λ i. get_or (numbers_in fs) i 0), rest)
   unfolding field_in
   framed-read e fit =
       let ns : fields_of (widths kind) (laid_out fs ++ rest) ≡ numbers_in fs = rw e (fields_laid fs rest fit) in

@@ -57,7 +57,8 @@ pub needs-old : (z : Sizes) (posted : ℕ → Option ℕ) (x : Txn) (r k : ℕ) 
 needs-old z posted x r k w e = needs-row z posted x r (bucket_of z k) w (among-left (bucket_of z k) (key_buckets z (posted r)) _ (key-bucket z (posted r) k e))
 
 pub needs-new : (z : Sizes) (posted : ℕ → Option ℕ) (x : Txn) (r k : ℕ) → Writes z x r → new_key x r ≡ some k → Among (bucket_of z k) (needs z posted x)
-needs-new z posted x r k w e = needs-row z posted x r (bucket_of z k) w (among-right (bucket_of z k) (key_buckets z (posted r)) _ (key-bucket z (new_key x r) k e))
+needs-new z posted x r k w e =
+    needs-row z posted x r (bucket_of z k) w (among-right (bucket_of z k) (key_buckets z (posted r)) _ (key-bucket z (new_key x r) k e))
 
 -- the needs look at the pending rows' postings alone
 needs-posted : (z : Sizes) (po po' : ℕ → Option ℕ) (x : Txn) → ((r : ℕ) → Writes z x r → po r ≡ po' r) → needs z po x ≡ needs z po' x

@@ -103,7 +103,8 @@ module _ (s : Store) (i : ℕ) (g : Good s) (g' : Good (installed s i)) (l : Liv
   now-installed = rw same
     where
       same : active_numbers (installed s i).txns ≡ active_numbers s.txns
-      same = map-pick (λ j. ((installed s i).txns j).number) (λ j. (s.txns j).number) (λ j. active ((installed s i).txns j)) (λ j. active (s.txns j)) 0 most_live
+      same = map-pick (λ j. ((installed s i).txns j).number) (λ j. (s.txns j).number) (λ j. active ((installed s i).txns j))
+          (λ j. active (s.txns j)) 0 most_live
           (λ r lo hi. update-field (λ y. active y) s.txns i (with_phase (s.txns i) Installed) r (rw a))
           (λ r lo hi e. update-field (λ y. y.number) s.txns i (with_phase (s.txns i) Installed) r refl)
 

@@ -81,7 +81,8 @@ kept-part a x (ends e) f l clock n = absurd (omega (arith, e clock x.number))
 kept-part a x (goes_on k) f l clock n = k x.marked
 
 asker-mark : (s : Store) (a : Step) → number s a ≡ 0 → Live (txn_of s (actor a))
-    → ((step s a).store.txns (at s (actor a))).number ≡ (txn_of s (actor a)).number → ((step s a).store.txns (at s (actor a))).marked ≡ (txn_of s (actor a)).marked
+    → ((step s a).store.txns (at s (actor a))).number ≡ (txn_of s (actor a)).number
+    → ((step s a).store.txns (at s (actor a))).marked ≡ (txn_of s (actor a)).marked
 asker-mark s a z l n =
     let h = (leaves s a z).asker-is in
     ap (λ (y : Txn). y.marked) h

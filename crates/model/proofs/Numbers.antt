@@ -163,7 +163,8 @@ module _ (s : Store) (i : ℕ) (g : Numbers s.clock s.txns) (l : i < most_live) 
   begun-knows : (a b : ℕ) → Live ((begun s i).txns a) → Live ((begun s i).txns b) → ((begun s i).txns b).number < ((begun s i).txns a).number
       → rank ((begun s i).txns b).phase < phase_ended
       → Among ((begun s i).txns b).number ((begun s i).txns a).snapshot.active
-  begun-knows a b = update-elim (λ y. Live y → Live ((begun s i).txns b) → ((begun s i).txns b).number < y.number → rank ((begun s i).txns b).phase < phase_ended
+  begun-knows a b =
+      update-elim (λ y. Live y → Live ((begun s i).txns b) → ((begun s i).txns b).number < y.number → rank ((begun s i).txns b).phase < phase_ended
       → Among ((begun s i).txns b).number y.snapshot.active) s.txns i (new_txn s) a
       (λ e p. update-elim (λ y. Live y → y.number < s.clock → rank y.phase < phase_ended → Among y.number (active_numbers s.txns)) s.txns i
       (new_txn s) b

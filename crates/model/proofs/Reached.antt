@@ -114,7 +114,8 @@ abbrev pub s₈ : Store
 s₈ = run (step s₆ (prepare 3)).store (meanwhile ++ (install 3 ∷ []))
 
 -- the premises of kept-heads, at a store where 3 is Prepared and at one where it is Installed, and what it says there: row 2 alone gets a version
-pub met-heads : (number s₆ (prepare 3) ≡ 0) × Lives s₇ 3 × (rank (txn_of s₇ 3).phase ≡ phase_prepared) × Lives s₈ 3 × (rank (txn_of s₈ 3).phase ≡ phase_installed)
+pub met-heads : (number s₆ (prepare 3) ≡ 0) × Lives s₇ 3 × (rank (txn_of s₇ 3).phase ≡ phase_prepared) × Lives s₈ 3
+    × (rank (txn_of s₈ 3).phase ≡ phase_installed)
     × (version_rows s₆.sizes s₆.chains (txn_of s₆ 3).writes ≡ 2 ∷ []) × (version_rows s₇.sizes s₇.chains (txn_of s₇ 3).writes ≡ 2 ∷ [])
     × (made_rows s₈.sizes s₈.chains 3 (txn_of s₈ 3).writes ≡ 2 ∷ [])
     × (s₆.chains.used ≡ 1) × (s₇.chains.used ≡ 2) × (s₈.chains.used ≡ 3)

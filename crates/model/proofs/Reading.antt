@@ -13,7 +13,19 @@ use Rattle.base_lists.proofs.ListLaws.{member-among}
 use Rattle.model.specs.Store.{Sizes, Chains, Holding, Collected, Prepared, Installed, Ended, ReadRecord, Txn, Store, no_txn, fresh, rank, phase_open}
 use Rattle.model.specs.Store.{phase_holding, phase_collected, phase_prepared, phase_installed, phase_ended, bucket_in, key_in, bucket_of}
 use Rattle.model.specs.Seeing.{seen, version_of, key_at, record_of, Live}
-use Rattle.model.specs.Steps.{with_phase, new_txn, marked_txn, has_read, captured_txn, posted_rows, collected_txn, found_rows, read_txn, written_txn, version_rows}
+use Rattle.model.specs.Steps.{
+  with_phase,
+  new_txn,
+  marked_txn,
+  has_read,
+  captured_txn,
+  posted_rows,
+  collected_txn,
+  found_rows,
+  read_txn,
+  written_txn,
+  version_rows,
+}
 use Rattle.model.specs.Steps.{installed, changed_buckets, published}
 use Rattle.model.proofs.Phases.{holding-is}
 use Rattle.model.proofs.Move.{CanCapture, Move, stay, did-begin, did-mark, did-capture, did-collect, did-rows, did_write, did-prepare, did-install}
@@ -168,7 +180,8 @@ reading-move s s' = go s'
         reading-set s i _ g (λ l. reading-phase s i g a (with_phase (s.txns i) Prepared) refl refl (λ f. omega arith) (λ f. omega arith) (λ f. omega arith))
     go s' ch ch' n h w o g (did-install i a e) = reading-install s i ch ch' n a e g
     go s' ch ch' n h w o g (did-end i a e) =
-        reading-set s i _ g (λ l. reading-phase s i g a (with_phase (s.txns i) Ended) refl refl (λ f. omega arith) (λ f. omega arith) (λ f. absurd (omega arith)))
+        reading-set s i _ g
+        (λ l. reading-phase s i g a (with_phase (s.txns i) Ended) refl refl (λ f. omega arith) (λ f. omega arith) (λ f. absurd (omega arith)))
     go s' ch ch' n h w o g (did-publish i a e) = reading-publish s i n h w a e g
     go s' ch ch' n h w o g (did-abort i a e) = reading-set s i no_txn g (λ l. absurd (omega arith))
 

@@ -62,7 +62,8 @@ begin-0 s = rw (number_is s begin)
 
 -- capture: 8 by the mark, 7, 8 by a stale stamp, 9
 pub capture-8 : (s : Store) (t k : ℕ) → number s (capture t k) ≡ 8
-    ↔ Ready s (capture t k) and (((txn_of s t).marked ≡ true) ⊎ (((txn_of s t).marked ≡ false) and Free s.held.holder t (bucket_for s k) and (t ≤ stamp_for s k)))
+    ↔ Ready s (capture t k)
+    and (((txn_of s t).marked ≡ true) ⊎ (((txn_of s t).marked ≡ false) and Free s.held.holder t (bucket_for s k) and (t ≤ stamp_for s k)))
 unfolding all_of
 capture-8 s t k = past 8 s (capture t k) tt (omega arith)
     (λ l. stop-or 8 _ _ _ (itself (txn_of s t).marked) refl
@@ -119,7 +120,8 @@ write-6 s t r c = past 6 s (write t r c) tt (omega arith)
     (λ l. skip 6 _ _ _ (itself (txn_of s t).marked) (omega arith) (λ m. stop 6 _ _ _ (opposite (less r s.sizes.rows)) (omega arith) refl))
 
 pub write-12 : (s : Store) (t r : ℕ) (c : Content)
-    → number s (write t r c) ≡ 12 ↔ Ready s (write t r c) and ((txn_of s t).marked ≡ false) and (r < s.sizes.rows) and (most_writes ≤ length (txn_of s t).writes)
+    → number s (write t r c) ≡ 12
+    ↔ Ready s (write t r c) and ((txn_of s t).marked ≡ false) and (r < s.sizes.rows) and (most_writes ≤ length (txn_of s t).writes)
 unfolding all_of
 write-12 s t r c = past 12 s (write t r c) tt (omega arith)
     (λ l. skip 12 _ _ _ (itself (txn_of s t).marked) (omega arith)

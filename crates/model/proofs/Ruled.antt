@@ -112,7 +112,8 @@ exactly s (prepare t) n = named-lines n s t _ _ (phase-test s (prepare t)) (λ l
 exactly s (install t) n = named-lines n s t _ _ (phase-test s (install t)) (λ l. no_line n)
 exactly s (end t) n = named-lines n s t _ _ (phase-test s (end t)) (λ l. no_line n)
 exactly s (publish t) n = named-lines n s t _ _ (phase-test s (publish t)) (λ l. no_line n)
-exactly s (validate t) n = named-lines n s t _ _ (phase-test s (validate t)) (λ l. line n _ _ _ (bucket-taken s t (read_buckets (txn_of s t)) l) (λ f. no_line n))
+exactly s (validate t) n =
+    named-lines n s t _ _ (phase-test s (validate t)) (λ l. line n _ _ _ (bucket-taken s t (read_buckets (txn_of s t)) l) (λ f. no_line n))
 exactly s (abort t) n = named-lines n s t _ _ (phase-test s (abort t)) (λ l. no_line n)
 
 -- the bucket has an index read, or there is room for one

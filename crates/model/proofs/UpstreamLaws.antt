@@ -17,7 +17,19 @@ use Rattle.model.specs.Seeing.{seen, visible, known, walk, first_visible, versio
 use Rattle.model.specs.Seeing.{matches, Live}
 use Rattle.model.specs.Verdict.{bad_read, bad_record}
 use Rattle.model.specs.Steps.{recorded, recording}
-use Rattle.model.specs.Upstream.{creator_visible, row_visible, first_row, last_of, key_of, selected, holds_key, matches_row, recording_of, read_conflict, read_good}
+use Rattle.model.specs.Upstream.{
+  creator_visible,
+  row_visible,
+  first_row,
+  last_of,
+  key_of,
+  selected,
+  holds_key,
+  matches_row,
+  recording_of,
+  read_conflict,
+  read_good,
+}
 use Rattle.model.specs.Upstream.{pointer}
 use Rattle.model.proofs.Numbers.{Snapped}
 use Rattle.model.proofs.SeeingLaws.{key_at-zero, key_at-key}

@@ -119,7 +119,8 @@ GivenNamed s a n below = GivenWhen 16 (right_shape s ≡ false) n (GivenWhen 4 (
 
 -- a write: the mark, then the row, then a 17th pending write
 abbrev pub GivenWriting : Store → ℕ → ℕ → ℕ → Type 0
-GivenWriting s t r n = GivenWhen 8 ((txn_of s t).marked ≡ true) n (GivenWhen 6 (s.sizes.rows ≤ r) n (GivenWhen 12 (most_writes ≤ length (txn_of s t).writes) n (n ≡ 0)))
+GivenWriting s t r n =
+    GivenWhen 8 ((txn_of s t).marked ≡ true) n (GivenWhen 6 (s.sizes.rows ≤ r) n (GivenWhen 12 (most_writes ≤ length (txn_of s t).writes) n (n ≡ 0)))
 
 -- the number n that a step gives: the tests of document 01 from the first to the last, and 0 where none holds
 abbrev pub Given : Store → Step → ℕ → Type 0

@@ -13,7 +13,22 @@ use Rattle.base_lists.specs.Lists.{member, some_of, Among}
 use Rattle.base_lists.specs.Table.{update}
 use Rattle.base_lists.proofs.TableLaws.{update_same, update_other, cond-elim}
 use Rattle.base_lists.proofs.ListLaws.{same_test, among-last}
-use Rattle.model.specs.Store.{Index, Open, Holding, Collected, IndexRead, Write, ReadRecord, Txn, Store, rank, phase_collected, phase_installed, key_in, bucket_of}
+use Rattle.model.specs.Store.{
+  Index,
+  Open,
+  Holding,
+  Collected,
+  IndexRead,
+  Write,
+  ReadRecord,
+  Txn,
+  Store,
+  rank,
+  phase_collected,
+  phase_installed,
+  key_in,
+  bucket_of,
+}
 use Rattle.model.specs.Seeing.{version_of, Live}
 use Rattle.model.specs.Steps.{has_read, add_read, captured, collected, found_rows, records_after, read_done, written}
 use Rattle.model.specs.Contents.{Content, shown_to, live_row, pending_write}

@@ -15,7 +15,20 @@ use Rattle.base_lists.proofs.ListLaws.{among-left, among-last, which-pick}
 use Rattle.model.specs.Store.{Open, Holding, Collected, Prepared, Installed, Ended, IndexRead, Write, ReadRecord, Txn, Store, rank, phase_open, phase_holding}
 use Rattle.model.specs.Store.{Phase, phase_collected, phase_prepared, phase_installed, bucket_in, key_in, bucket_of}
 use Rattle.model.specs.Seeing.{version_of, key_at, pending, matches, Live}
-use Rattle.model.specs.Steps.{with_phase, becomes, has_read, captured, collected, found_rows, records_after, read_txn, read_done, written, read_buckets, needed_buckets}
+use Rattle.model.specs.Steps.{
+  with_phase,
+  becomes,
+  has_read,
+  captured,
+  collected,
+  found_rows,
+  records_after,
+  read_txn,
+  read_done,
+  written,
+  read_buckets,
+  needed_buckets,
+}
 use Rattle.model.specs.Steps.{prepared, installed}
 use Rattle.model.specs.Contents.{Content, content_of, shown_to, live_row, pending_write}
 use Rattle.model.specs.Refusals.{Step, capture, collect, rows, write, prepare, install, end, validate, txn_of, by_another}

@@ -104,7 +104,8 @@ module _ (c : Chains) (n : ℕ) (rows versions : List ℕ) (used : ℕ) (g : Sho
       let down : ltb (next_of versions p) p ≡ true = lt-ltb (next_of versions p) p (omega (arith, g.falls p l u, g.next-same p l u)) in
       rw (first-visible-step versions used s p, low, in_table, some-p, lt-ltb 0 p l, le-leb p c.used u, visible-same p l u, ev, down) (by v)
     where
-      by : (v : Bool) → number_of (cond v (pointer.At p) (first_visible versions used s (next_of versions p))) ≡ cond v p (walk c (snapshot_view s) f (c.next p))
+      by : (v : Bool)
+          → number_of (cond v (pointer.At p) (first_visible versions used s (next_of versions p))) ≡ cond v p (walk c (snapshot_view s) f (c.next p))
       by true = refl
       by false = rest
 
@@ -167,7 +168,8 @@ module _ (lists : List ℕ) (slot n r : ℕ) where
   pending-of-none = refl
 
   -- of the first i writes the last of the row, and whether there is one
-  last-upto : (i : ℕ) → i ≤ n → last_write (map write_view (writes_of lists slot i)) r ≡ written_by lists slot (last_below (rows_written (writes_of lists slot n)) r i)
+  last-upto : (i : ℕ) → i ≤ n
+      → last_write (map write_view (writes_of lists slot i)) r ≡ written_by lists slot (last_below (rows_written (writes_of lists slot n)) r i)
   last-upto zero h = rw (none_written, last_end (rows_written (writes_of lists slot n)) r) last-of-none
   last-upto (suc i) h =
       rw (

@@ -25,7 +25,8 @@ planned known (p ∷ ps) = cond (eqb p 0 || member p known) (0 ∷ planned known
 -- the read records of rows with their pointers; a pointer 0 has none, and a row that is missing is 0
 unfoldable pub records_for : List ℕ → List ℕ → List ℕ → List ReadRecord
 records_for versions rs [] = []
-records_for versions rs (p ∷ ps) = cond (eqb p 0) (records_for versions (drop 1 rs) ps) (record_for versions (get_or rs 0 0) p ∷ records_for versions (drop 1 rs) ps)
+records_for versions rs (p ∷ ps) =
+    cond (eqb p 0) (records_for versions (drop 1 rs) ps) (record_for versions (get_or rs 0 0) p ∷ records_for versions (drop 1 rs) ps)
 
 -- read records stored one behind the other, from entry n on
 unfoldable pub put_records : List ℕ → ℕ → ℕ → List ReadRecord → List ℕ

@@ -38,7 +38,8 @@ module _ (room : ℕ) (text : List ℕ) where
   obeys-agrees : (so : Option Store) (c : Command) (f g : Store → List ℕ → Replayed) → ((s : Store) (w : List ℕ) → f s w ≡ g s w)
       → obeys room text so c f ≡ obeys room text so c g
   obeys-agrees none (Opening z clock) f g e =
-      ap (λ (x : Replayed). cond (can_open z clock) x (write_then room text (line open_word (refusal_number WrongSize ∷ [])) (stops (refusal_number WrongSize))))
+      ap (λ (x : Replayed). cond (can_open z clock) x
+      (write_then room text (line open_word (refusal_number WrongSize ∷ [])) (stops (refusal_number WrongSize))))
       (write-agrees (line open_word (0 ∷ [])) (f (fresh z clock)) (g (fresh z clock)) (e (fresh z clock)))
   obeys-agrees none (Asking a) f g e = refl
   obeys-agrees (some s) (Opening z clock) f g e = refl
@@ -133,7 +134,8 @@ module _ (room : ℕ) (text : List ℕ) where
       by true = write-grows (line open_word (0 ∷ [])) (on (fresh z clock)) (h (fresh z clock))
       by false = write-grows (line open_word (refusal_number WrongSize ∷ [])) (stops (refusal_number WrongSize)) (λ w. omega arith)
   obeys-grows none (Asking a) on h = write-grows (line bad_word (refusal_number Malformed ∷ [])) (stops (refusal_number Malformed)) (λ w. omega arith)
-  obeys-grows (some s) (Opening z clock) on h = write-grows (line bad_word (refusal_number Malformed ∷ [])) (stops (refusal_number Malformed)) (λ w. omega arith)
+  obeys-grows (some s) (Opening z clock) on h =
+      write-grows (line bad_word (refusal_number Malformed ∷ [])) (stops (refusal_number Malformed)) (λ w. omega arith)
   obeys-grows (some s) (Asking a) on h = write-grows (answer_line a (step s a).answer) (on (step s a).store) (h (step s a).store)
 
   reads-grows : (so : Option Store) (r : Option (Command × List ℕ)) (on : List ℕ → Store → List ℕ → Replayed)
@@ -152,7 +154,8 @@ module _ (room : ℕ) (text : List ℕ) where
 for-grows : (room k : ℕ) (log : List ℕ) (so : Option Store) (text : List ℕ) → length text ≤ length (replay_for room k log so text).text
 unfolding replay_for
 for-grows room zero log so text = record-grows room text (λ more s w. stops 0 w) (λ more s w. omega arith) log so
-for-grows room (suc k) log so text = record-grows room text (λ more s w. replay_for room k more (some s) w) (λ more s w. for-grows room k more (some s) w) log so
+for-grows room (suc k) log so text =
+    record-grows room text (λ more s w. replay_for room k more (some s) w) (λ more s w. for-grows room k more (some s) w) log so
 
 pub replay-grows : (room : ℕ) (log : List ℕ) (so : Option Store) (text : List ℕ) → length text ≤ length (replay_from room log so text).text
 unfolding replay_from

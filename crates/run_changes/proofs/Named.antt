@@ -9,7 +9,21 @@ use borrow.Author.Tests.{lt-ltb}
 use lib.ListN.{length}
 use Rattle.run_script.specs.Names.{named}
 use Rattle.table.specs.Words.{field}
-use Rattle.table.specs.Fields.{row_words, version_words, bucket_words, head_of, claim_of, posted_of, posted_key_of, later_of, first_of, xmin_of, xmax_of, next_of, keyed_of}
+use Rattle.table.specs.Fields.{
+  row_words,
+  version_words,
+  bucket_words,
+  head_of,
+  claim_of,
+  posted_of,
+  posted_key_of,
+  later_of,
+  first_of,
+  xmin_of,
+  xmax_of,
+  next_of,
+  keyed_of,
+}
 use Rattle.table.specs.Fields.{key_of, payload_of, stamp_of, holder_of}
 use Rattle.run_changes.specs.WordNames.{names, name_from}
 use Rattle.run_changes.specs.Changes.{State, entry_place, seen_at, word_seen, look_of}

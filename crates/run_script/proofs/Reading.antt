@@ -1,6 +1,35 @@
 -- Laws of a text that is read byte by byte.
 -- Assumes nothing.
-use Rattle.std.proofs.Common.{◌≡◌, ℕ, suc, ◌+◌, ◌-◌, ◌*◌, ◌%◌, ◌<◌, ◌≤◌, Bool, true, false, cond, ◌&&◌, eqb, List, [], ◌∷◌, length, get_or, drop, refl, ap, ◌∙◌, add-one, arith, drop_of_length-le, drop-cons}
+use Rattle.std.proofs.Common.{
+  ◌≡◌,
+  ℕ,
+  suc,
+  ◌+◌,
+  ◌-◌,
+  ◌*◌,
+  ◌%◌,
+  ◌<◌,
+  ◌≤◌,
+  Bool,
+  true,
+  false,
+  cond,
+  ◌&&◌,
+  eqb,
+  List,
+  [],
+  ◌∷◌,
+  length,
+  get_or,
+  drop,
+  refl,
+  ap,
+  ◌∙◌,
+  add-one,
+  arith,
+  drop_of_length-le,
+  drop-cons,
+}
 use native.Mathlib.Nat.{mod-add-mod, add-mod-mod}
 use Rattle.run_script.specs.declared.Line.{Line}
 use Rattle.run_script.specs.Script.{with_byte, with_bytes, end_from, step_end}

@@ -1,5 +1,30 @@
 -- A line written as a text: what is read of it, byte by byte.
-use Rattle.std.specs.Prelude.{ℕ, zero, suc, ◌+◌, ◌-◌, ◌*◌, ◌%◌, ◌^◌, Bool, true, false, cond, ◌&&◌, ◌||◌, List, [], ◌∷◌, drop, replicate, ◌==◌, nat_le, nat_lt, slice_index, slice_set}
+use Rattle.std.specs.Prelude.{
+  ℕ,
+  zero,
+  suc,
+  ◌+◌,
+  ◌-◌,
+  ◌*◌,
+  ◌%◌,
+  ◌^◌,
+  Bool,
+  true,
+  false,
+  cond,
+  ◌&&◌,
+  ◌||◌,
+  List,
+  [],
+  ◌∷◌,
+  drop,
+  replicate,
+  ◌==◌,
+  nat_le,
+  nat_lt,
+  slice_index,
+  slice_set,
+}
 use Prim.Native.Char.{code}
 use Rattle.run_script.specs.Names.{letter_more}
 use Rattle.run_script.specs.declared.Line.{Line}

@@ -69,6 +69,7 @@ module _ (rows : List ℕ) (row_count : ℕ) (z : Sized rows row_count) where
   told-unnamed e = rw (told-sized, e)
 
   -- where all are, the ends of the lists tell
-  pub told_named : {r : Bool} → every row_count (named_before rows row_count) ≡ true → r ≡ every row_count (ends_at rows row_count) → r ≡ told_within rows row_count
+  pub told_named : {r : Bool} → every row_count (named_before rows row_count) ≡ true → r ≡ every row_count (ends_at rows row_count)
+      → r ≡ told_within rows row_count
   unfolding lists_tell
   told_named e t = rw (told-sized, e, t)

@@ -112,7 +112,8 @@ module _ (m r : ℕ) (h : r < m) where
   taken-beyond rows =
       let i = list_for m (posted_key_of rows r) in
       cond-elim (λ (y : List ℕ). Beyond (row_words * m) rows y) (eqb (posted_of rows r) 0) rows (unlinked rows i r) (λ t. refl)
-      (λ t. link-beyond m rows i (place_before rows i r) (later_of rows r) (omega (arith, before-low rows i r)) (list-low m (posted_key_of rows r) (omega arith)))
+      (λ t. link-beyond m rows i (place_before rows i r) (later_of rows r) (omega (arith, before-low rows i r))
+      (list-low m (posted_key_of rows r) (omega arith)))
 
   put-in-beyond : (rows : List ℕ) (keyed key : ℕ) → Beyond (row_words * m) rows (put_in rows m r keyed key)
   unfolding linked

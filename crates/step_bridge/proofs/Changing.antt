@@ -150,7 +150,8 @@ module _ (w : Words) (z : Sized w) (g : Good (view w)) (p : ℕ) (l : 1 ≤ (txn
       row_wants r = key_buckets (view w).sizes ((view w).index.posted r) ++ key_buckets (view w).sizes (new_key ((view w).txns p) r)
 
       -- a row that erases nothing wants no bucket
-      row_listed : (r : ℕ) → Among r (pending_rows (view w).sizes ((view w).txns p).writes) → Among b (row_wants r) → Among b (join (row_needs w p) (rows_of w p))
+      row_listed : (r : ℕ) → Among r (pending_rows (view w).sizes ((view w).txns p).writes) → Among b (row_wants r)
+          → Among b (join (row_needs w p) (rows_of w p))
       row_listed r a m = ⊎_elim
           (λ d. which-join (row_needs w p) (rows_of w p) b r (got-row w z sh p l done r d)
           (rw (after-needs w z sh p l done r d, (g.written.mine p r l k d).before) m))

@@ -60,7 +60,8 @@ module _ (xs : List ℕ) (s : ℕ) (rs : List ℕ) (hs : s < most_live) (few : l
       ∙ (words-at 1 (start_of candidates s + 1 * i) (kept_in xs s rs) 0 (omega arith)
       ∙ (ap (λ (j : ℕ). get_or (kept_in xs s rs) j 0) e ∙ sets-at xs (place_of candidates s 0) rs i k (omega arith))))
 
-  kept-before : {A : Type 0} (f : List ℕ → A) (l : Kind) (n : ℕ) → n ≤ l.room → end_of l ≤ candidates.off → list_at f l (kept_in xs s rs) s n ≡ list_at f l xs s n
+  kept-before : {A : Type 0} (f : List ℕ → A) (l : Kind) (n : ℕ) → n ≤ l.room → end_of l ≤ candidates.off
+      → list_at f l (kept_in xs s rs) s n ≡ list_at f l xs s n
   kept-before f l n hn e = let b = mul-le-mul_left {m = n} {n = l.room} l.w hn in
       list-kept f l.w (start_of l s) xs n (place_of candidates s 0) rs (inl (omega arith))
 

@@ -85,7 +85,11 @@ module _ (xs : List ℕ) (s n : ℕ) (z : model.Sizes) (below : (r : ℕ) → Am
   unfolding pending_into rows_listed
   listed-pending most few =
       let rs = rows_written xs s n in
-      rw (listed-all 16 rs few, canonical-fine rs (replicate most_writes 0) (λ i h. omega (arith, below (get_or rs i 0) (entry-among rs i h))) few, sorted-pending)
+      rw (
+        listed-all 16 rs few,
+        canonical-fine rs (replicate most_writes 0) (λ i h. omega (arith, below (get_or rs i 0) (entry-among rs i h))) few,
+        sorted-pending,
+      )
 
 -- ---- the rows that get a version
 

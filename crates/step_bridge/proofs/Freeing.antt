@@ -92,7 +92,8 @@ module _ (w k : ℕ) (hk : k < w) (n v : ℕ) where
       (λ t. part-other w k n xs i 0 m hm hk d) (λ t. refl)
 
   -- every entry that a list names
-  pub clear-all : (xs is : List ℕ) → InRange n is → w * n ≤ length xs → field w k (part w n (clear_fields w k xs v is)) ≡ freed_at v (field w k (part w n xs)) is
+  pub clear-all : (xs is : List ℕ) → InRange n is → w * n ≤ length xs
+      → field w k (part w n (clear_fields w k xs v is)) ≡ freed_at v (field w k (part w n xs)) is
   unfolding clear_fields
   clear-all xs [] h l = freed-none v _
   clear-all xs (i ∷ is) h l =

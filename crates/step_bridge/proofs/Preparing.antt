@@ -164,7 +164,8 @@ module _ (w : Words) (z : Sized w) (g : Shaped w) where
       (λ k lo hi. set_other row_words 1 (omega arith) w.sizes.rows n w.tables.rows rs k hi (λ e. omega arith)) z.told
 
   -- all tests but the phase
-  prepared-at : (n : ℕ) → standing w n < most_live → 1 ≤ (txn_at w (standing w n)).number → is_installed (txn_at w (standing w n)).phase ≡ false → (b c d e : Bool)
+  prepared-at : (n : ℕ) → standing w n < most_live → 1 ≤ (txn_at w (standing w n)).number → is_installed (txn_at w (standing w n)).phase ≡ false
+      → (b c d e : Bool)
       → SameAt w (standing w n)
       (in_prepared
       (cond b (left (refused_of (txn_at w (standing w n)) (refusal_number Taken)) w.tables.rows w.tables.buckets)

@@ -44,5 +44,6 @@ pub same-list : {A : Type 0} (f : List ℕ → A) (k : Kind) (xs : List ℕ) (s 
 same-list f k xs s i vs e hi ik hs h = let a = entry-end k.w i k.room hi in list-stored f k.w (start_of k s) xs i vs e (omega arith)
 
 -- words behind the count are in no list: what was stored before a refusal is not in the lists of the record that came in
-pub behind : {A : Type 0} (f : List ℕ → A) (k : Kind) (xs : List ℕ) (s i n : ℕ) (vs : List ℕ) → n ≤ i → list_at f k (stored k xs s i vs) s n ≡ list_at f k xs s n
+pub behind : {A : Type 0} (f : List ℕ → A) (k : Kind) (xs : List ℕ) (s i n : ℕ) (vs : List ℕ) → n ≤ i
+    → list_at f k (stored k xs s i vs) s n ≡ list_at f k xs s n
 behind f k xs s i n vs h = list-kept f k.w (start_of k s) xs n (place_of k s i) vs (inl (omega (arith, mul-le-mul_left {m = n} {n = i} k.w h)))

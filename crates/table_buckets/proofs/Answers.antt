@@ -34,7 +34,8 @@ unfolding canonical_of
 answers input old bucket_count count check ec e = rw (e, ec)
 
 -- a count above 4,096 acts as 4,096
-pub count-capped : (input old : List ℕ) (bucket_count : ℕ) → most_buckets ≤ bucket_count → canonical_of input bucket_count old ≡ canonical_of input most_buckets old
+pub count-capped : (input old : List ℕ) (bucket_count : ℕ) → most_buckets ≤ bucket_count
+    → canonical_of input bucket_count old ≡ canonical_of input most_buckets old
 unfolding canonical_of
 count-capped input old bucket_count h = let e : min bucket_count most_buckets ≡ most_buckets = omega arith in rw e
 

@@ -20,7 +20,8 @@ row_visible own s xminᵥ xmaxᵥ =
 -- one step of `first_visible`, where `rest` is what it gives from the next pointer
 abbrev pub chain_step : ℕ → List ℕ → ℕ → Snapshot → (ℕ → Pointer) → ℕ → Pointer
 chain_step own versions used s rest p =
-    cond (eqb p 0 || not (known versions used p)) Nothing (cond (row_visible own s (xmin_of versions p) (xmax_of versions p)) (At p) (rest (next_of versions p)))
+    cond (eqb p 0 || not (known versions used p)) Nothing
+    (cond (row_visible own s (xmin_of versions p) (xmax_of versions p)) (At p) (rest (next_of versions p)))
 
 -- a snapshot as begin takes it: the own number is below xmax and not active, and xmin is at most it and each active number
 pub record Taken (own : ℕ) (s : Snapshot) : Type 0 where

@@ -39,11 +39,16 @@ use Rattle.replay.specs.Lent.{words_for, lent_left, lent_of}
 -- all but `shape_of` and `call_of`: what tests the shape of a whole store is opened where it is spoken of
 unfoldable pub computes : Unit {0}
 unfolding model.computes log.number log.widths log.total log.whole log.read_record digits_step digits_for decimal spaced line write_then record_then replay_for
-    replay_from replay field set_field set_fields clear_fields words list_of canonical_of first_from last_below step_from walk_for walk_from first_visible hold_of
-    capture_at write_of collect_of misses_of place_from live_from version_key old_key_of new_key_of gets_version_of headed_by keys_of changed_keys push_one push_all buckets_for
+    replay_from replay field set_field set_fields clear_fields words list_of canonical_of first_from last_below step_from walk_for walk_from first_visible
+    hold_of
+    capture_at write_of collect_of misses_of place_from live_from version_key old_key_of new_key_of gets_version_of headed_by keys_of changed_keys push_one
+    push_all buckets_for
     keys_need first_where one_more rows_listed pending_into kept versions_into last_write_of version_stored pushed_row pushed_rows to_install install_of
-    reads_taken_in validate_of versions_in reserved_in lacks needed_into prepare_with prepare_of end_of posted_one posted_all stamped_in needed_in freed_in publish_of
-    abort_of keep_active keep_all snapshot_of spent begin_of match_of only planned records_for put_records recorded_of matched_rows new_records reading_of rows_of
-    clear_every publish_step step_of place_for moved_by ranges_fit heads_fit txn_fits place_fits tables_fit swept_for cleared open_of decoded_of written_at replay_lent
+    reads_taken_in validate_of versions_in reserved_in lacks needed_into prepare_with prepare_of end_of posted_one posted_all stamped_in needed_in freed_in
+    publish_of
+    abort_of keep_active keep_all snapshot_of spent begin_of match_of only planned records_for put_records recorded_of matched_rows new_records reading_of
+    rows_of
+    clear_every publish_step step_of place_for moved_by ranges_fit heads_fit txn_fits place_fits tables_fit swept_for cleared open_of decoded_of written_at
+    replay_lent
     list_for follow keyed_of listed_with link_at set_link last_place unlinked linked reposted last_in lists_tell told_within words_for lent_left lent_of
 computes = tt

@@ -55,7 +55,8 @@ unfolding computes
 next-not-moved = apart (one_begin, 0) (λ (t : Taken). t.reader.at) refl
 
 -- `next`: the reader moves on by the record's length alone, and not past the 2 bytes that say it
-pub next-moved-short : Excludes next (λ (log, at). record { command = (decoded_of log at).command; reader = reader_at (lent log) (at + length_in (drop at log)) })
+pub next-moved-short : Excludes next
+    (λ (log, at). record { command = (decoded_of log at).command; reader = reader_at (lent log) (at + length_in (drop at log)) })
 unfolding computes
 next-moved-short = apart (one_begin, 0) (λ (t : Taken). t.reader.at) refl
 

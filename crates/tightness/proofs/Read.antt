@@ -45,8 +45,15 @@ rows-not-lent = apart ([], [], puts, 9 ∷ [], reach 0, writer (phase.Collected 
 
 -- a version that is seen and has key 5, of row 0, which is a candidate
 abbrev seen : Given
-seen =
-    (1 ∷ 0 ∷ 1 ∷ 5 ∷ 0 ∷ 0 ∷ [], replicate version_words 0 ++ 1 ∷ 0 ∷ 0 ∷ 1 ∷ 5 ∷ 9 ∷ [], [], 9 ∷ [], reach 1, with_candidates (live 1 (phase.Collected 5)) 1, 1)
+seen = (
+  1 ∷ 0 ∷ 1 ∷ 5 ∷ 0 ∷ 0 ∷ [],
+  replicate version_words 0 ++ 1 ∷ 0 ∷ 0 ∷ 1 ∷ 5 ∷ 9 ∷ [],
+  [],
+  9 ∷ [],
+  reach 1,
+  with_candidates (live 1 (phase.Collected 5)) 1,
+  1,
+)
 
 -- `rows`: the version read is not recorded
 pub rows-unrecorded : Excludes reads (λ (rows, versions, lists, found, e, t, room).

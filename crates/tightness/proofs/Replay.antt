@@ -91,7 +91,8 @@ short_in t (some c) = short_first t c.0
 -- `toruxeng_replay_lent`: a table that is too short gets 16 where a size is wrong too
 pub lent-short-first : Excludes lends (λ (log, report, t).
     telling
-    (cond (short_in t (read_record log)) (record { status = refusal_number WrongShape; text = open_line (refusal_number WrongShape) }) (replay log (length report)))
+    (cond (short_in t (read_record log)) (record { status = refusal_number WrongShape; text = open_line (refusal_number WrongShape) })
+    (replay log (length report)))
     report (lends (log, report, t)))
 unfolding computes fields command_of
 lent-short-first = apart (opening 0, blank, no_tables) (λ (l : LeftLent). l.answer) refl

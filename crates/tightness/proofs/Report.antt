@@ -24,7 +24,8 @@ abbrev byte : ℕ → Written → ℕ
 byte i w = get_or w.report i 0
 
 -- `open_line`: always `open 0`
-pub open-line-zero : Excludes {A = List ℕ × ℕ × ℕ} (λ (report, at, n). written_at report at (open_line n)) (λ (report, at, n). written_at report at (open_line 0))
+pub open-line-zero : Excludes {A = List ℕ × ℕ × ℕ} (λ (report, at, n). written_at report at (open_line n))
+    (λ (report, at, n). written_at report at (open_line 0))
 unfolding computes
 open-line-zero = apart (blank, 0, 1) (byte 5) refl
 

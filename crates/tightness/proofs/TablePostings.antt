@@ -93,7 +93,8 @@ unfolding computes
 keep-posted-unlisted = apart (row 1 7 0 0 [], room_for candidates, 0, 1, 7) how_many refl
 
 -- `keep_posted`: a link to a row past the store's is followed
-pub keep-posted-past-count : Excludes keep_posted (keeps (λ rows n key. keyed_of rows key (follow rows (first_of rows (list_for n key)) 0 (min (suc n) most_rows))))
+pub keep-posted-past-count : Excludes keep_posted
+    (keeps (λ rows n key. keyed_of rows key (follow rows (first_of rows (list_for n key)) 0 (min (suc n) most_rows))))
 unfolding computes
 keep-posted-past-count = apart (row 1 7 2 1 (row 1 7 0 0 []), room_for candidates, 0, 1, 7) how_many refl
 

@@ -52,7 +52,8 @@ unfolding computes
 least-of-behind = apart (5, 3 ∷ [], 0) itself refl
 
 -- `latest_pending`: the first write of the row
-pub latest-pending-first : Excludes latest_pending (λ (lists, slot, n, row). spec.first_place (spec.rows_written (writes_of lists slot (min n most_writes))) row)
+pub latest-pending-first : Excludes latest_pending
+    (λ (lists, slot, n, row). spec.first_place (spec.rows_written (writes_of lists slot (min n most_writes))) row)
 unfolding computes
 latest-pending-first = apart (twice, 0, 2, 0) place_found refl
 

@@ -28,7 +28,8 @@ abbrev after_one : Transaction → Given
 after_one t = (set (replicate most_live 0) 0 1, 1, 2, t)
 
 -- `begin`: a place that is not free is taken
-pub begin-takes-any-place : Excludes begins (λ (active, n, clock, t). cond (spent clock n) (refused_begin t clock 2) (begun_of t (snapshot_of active clock) clock))
+pub begin-takes-any-place : Excludes begins
+    (λ (active, n, clock, t). cond (spent clock n) (refused_begin t clock 2) (begun_of t (snapshot_of active clock) clock))
 unfolding computes
 begin-takes-any-place = apart (after_one (live 1 phase.Open)) (λ (b : Begun). number_in b.answer) refl
 

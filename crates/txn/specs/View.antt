@@ -2,7 +2,21 @@
 use Rattle.std.specs.Prelude.{ℕ, ◌*◌, suc, cond, List, map, eqb, take}
 use Rattle.std.proofs.Math.Option.{Option, none, some}
 use Rattle.model.specs.Store as model
-use Rattle.table.specs.Fields.{row_words, version_words, bucket_words, head_of, claim_of, posted_of, posted_key_of, xmin_of, xmax_of, next_of, keyed_of, key_of, payload_of}
+use Rattle.table.specs.Fields.{
+  row_words,
+  version_words,
+  bucket_words,
+  head_of,
+  claim_of,
+  posted_of,
+  posted_key_of,
+  xmin_of,
+  xmax_of,
+  next_of,
+  keyed_of,
+  key_of,
+  payload_of,
+}
 use Rattle.table.specs.Fields.{stamp_of, holder_of}
 use Rattle.table.specs.Lists.{reads_of, writes_of, records_of, candidates_of}
 use Rattle.table.specs.declared.lists.IndexRead.{IndexRead}

@@ -47,7 +47,8 @@ lacks rows versions lists e prepared t =
 
 -- the buckets that prepare needs, listed
 unfoldable pub needed_into : List ℕ → List ℕ → List ℕ → ℕ → Transaction → List ℕ → Listed
-needed_into rows versions lists bucket_count t out = push_all (record { out = out; n = 0 }) (reads_need lists t ++ writes_need rows versions lists bucket_count t)
+needed_into rows versions lists bucket_count t out =
+    push_all (record { out = out; n = 0 }) (reads_need lists t ++ writes_need rows versions lists bucket_count t)
 
 -- an answer, rows and buckets
 pub record Left : Type 0 where

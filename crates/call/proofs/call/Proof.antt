@@ -25,11 +25,20 @@ shaped c = c.before.before.before
 abbrev others : tie.After-place_of-p → tie.After-others_of-others
 others c = c.before.before.before.before
 
+abbrev back-1 : tie.After-step-done → tie.After-t-1
+back-1 c = c.before.before.before.before.before.before
+
 abbrev place : tie.After-step-done → tie.After-place_of-p
-place c = c.before.before.before.before.before.before.before
+place c = (back-1 c).before
+
+abbrev back-2 : tie.After-sweep → tie.After-slice_known-9-1
+back-2 c = c.before.before.before.before.before.before
+
+abbrev back-3 : tie.After-slice_known-9-1 → tie.After-slice_known-6-1
+back-3 c = c.before.before.before.before.before.before
 
 abbrev stepped : tie.After-sweep → tie.After-step-done
-stepped c = c.before.before.before.before.before.before.before.before.before.before.before.before.before.before
+stepped c = (back-3 (back-2 c)).before.before
 
 abbrev swept : tie.After-placed → tie.After-sweep
 swept c = c.before.before.before.before.before

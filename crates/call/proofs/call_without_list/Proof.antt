@@ -5,9 +5,12 @@ use borrow.Author.Rules.{rules}
 use Rattle.call.proofs.call_without_list.Statement.{statement}
 use Rattle.call.proofs.call_without_list.Tie as tie
 
+abbrev back-1 : tie.After-none-2-1 → tie.After-versions-1
+back-1 c = c.before.before.before.before.before.before
+
 -- the call, from the end
 abbrev called : tie.After-none-2-1 → tie.After-call
-called c = c.before.before.before.before.before.before.before.before.before
+called c = (back-1 c).before.before.before
 
 slice-aggregate-call : tie.Need-slice_bounds-call-end
 slice-aggregate-call c = search rules

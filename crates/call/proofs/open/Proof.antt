@@ -48,8 +48,11 @@ roomy c = lent-roomy _ _ _ _ _ (lent c)
 abbrev before-rows : tie.After-slice_known-4-1 → tie.Else-not-tables_lent
 before-rows c = c.before.before.before.before
 
+abbrev back-1 : tie.After-slice_known-5-1 → tie.After-clear
+back-1 c = c.before.before.before.before.before.before
+
 abbrev before-versions : tie.After-slice_known-5-1 → tie.Else-not-tables_lent
-before-versions c = c.before.before.before.before.before.before.before.before
+before-versions c = (back-1 c).before.before
 
 -- WHAT IS ASKED
 
@@ -115,6 +118,12 @@ same-length-5 c = search rules
 same-length-6 : tie.Need-shape_of-buckets
 same-length-6 c = search rules
 
+abbrev back-2 : tie.After-fresh-machine → tie.After-versions-1
+back-2 c = c.before.before.before.before.before.before
+
+abbrev back-3 : tie.After-versions-1 → tie.After-clear-arg-1
+back-3 c = c.before.before.before.before.before.before
+
 returns-3 : tie.Need-returns
 unfolding open_of
 returns-3 c =
@@ -123,13 +132,14 @@ returns-3 c =
     let rows-cleared = versions-cleared in
     let passed = rows-cleared in
     rw (
-      openable (opened passed.before.before.before.before.before.before.before.before.before.before.before.before.before.before),
-      lent passed.before.before.before.before.before.before.before.before.before.before.before.before.before,
+      openable (opened (back-3 (back-2 passed)).before.before),
+      lent (back-3 (back-2 passed)).before,
       c.fresh-machine.ensures,
       rows-cleared.clear.ensures,
       versions-cleared.clear-2.ensures,
       buckets-cleared.clear-3.ensures,
-      add-one (entered (opened passed.before.before.before.before.before.before.before.before.before.before.before.before.before.before).before).args.sizes.versions,
+      add-one (entered
+          (opened (back-3 (back-2 passed)).before.before).before).args.sizes.versions,
     )
 
 pub open_spec : {M : Type 1} → statement M

@@ -59,12 +59,15 @@ add-i c = search rules
 loop-less : tie.Need-loop-i-smaller invariant-loop decreases-loop
 loop-less c = search rules
 
+abbrev back-1 : tie.After-slice_known-in-loop-i-2-1 invariant-loop decreases-loop → tie.After-push_row-arg-in-loop-i-1 invariant-loop decreases-loop
+back-1 c = c.before.before.before.before.before.before
+
 loop-again : tie.Need-loop-i-preserved invariant-loop decreases-loop
 unfolding pushed_rows
 loop-again c =
     let pushed = c in
     let at = pushed in
-    let a = (entered at.before.before.before.before.before.before.before.before.before.before).args in
+    let a = (entered (back-1 at).before.before.before.before).args in
     let l = at.loop-i in (
       omega arith,
       pushed.push_row-last.auto.rows ∙ l.invariant.1,

@@ -26,13 +26,16 @@ module _ (c : tie.Start) where
   abbrev lent : Lent
   lent = let a = c.args in record { rows = a.rows.now; versions = a.versions.now; buckets = a.buckets.now; lists = a.lists.now }
 
+abbrev back-1 : tie.Then-log-eq0 → tie.After-shared_slice_known-1
+back-1 c = c.before.before.before.before.before.before
+
 -- ---- an empty log, and the first record of another
 returns : tie.Need-returns-then-log-eq0
 returns c =
     let tables = c in
     let s = tables in
     let empty : length s.args.log.now ≤ 0 = omega (arith, c.if-log-eq0.true) in
-    let u = unread s.args.log.now s.args.report.now (lent s.before.before.before.before.before.before.before) empty in
+    let u = unread s.args.log.now s.args.report.now (lent (back-1 s).before) empty in
     (rw u.0 (left-empty s.args.log.now s.args.report.now empty), sym u.1)
 
 decode-at-requires : tie.Need-decode_at-d-requires
@@ -41,9 +44,12 @@ decode-at-requires c κs = search rules
 enum-known-command : tie.Need-enum_known-command
 enum-known-command c = search rules
 
+abbrev back-2 : tie.After-decode_at-d → tie.After-slice_known-1
+back-2 c = c.before.before.before.before.before.before
+
 module _ (c : tie.After-decode_at-d) where
   abbrev begun : tie.Start
-  begun = c.before.before.before.before.before.before.before.before
+  begun = (back-2 c).before.before
 
   abbrev log : List ℕ
   log = begun.args.log.now
@@ -66,8 +72,10 @@ returns-2 c =
     let stop = c in
     let other = stop in
     let read = other in
-    let u = unopened (log read.before.before.before.before.before) (report read.before.before.before.before.before) (lent (begun read.before.before.before.before.before)) read.decode_at-d.ensures other.in_default.in_default-own.keys2 in (
-      rw u.0 (left-malformed (log read.before.before.before.before.before) (report read.before.before.before.before.before) (some_bytes read.before.before.before.before.before) read.decode_at-d.ensures other.in_default.in_default-own.keys2 _ stop.stop_malformed.ensures),
+    let u = unopened (log read.before.before.before.before.before) (report read.before.before.before.before.before)
+    (lent (begun read.before.before.before.before.before)) read.decode_at-d.ensures other.in_default.in_default-own.keys2 in (
+      rw u.0 (left-malformed (log read.before.before.before.before.before) (report read.before.before.before.before.before)
+          (some_bytes read.before.before.before.before.before) read.decode_at-d.ensures other.in_default.in_default-own.keys2 _ stop.stop_malformed.ensures),
       sym u.1,
     )
 
@@ -91,16 +99,19 @@ open-requires c κs = search rules
 number-of-requires : tie.Need-number_of-why-requires
 number-of-requires c κs = search rules
 
+abbrev back-3 : tie.After-number_of-why → tie.After-rows-1
+back-3 c = c.before.before.before.before.before.before
+
 -- ---- what the open answers, and what it leaves
 module _ (c : tie.After-number_of-why) where
   abbrev opened : tie.After-open-called
-  opened = c.before.before.before.before.before.before.before
+  opened = (back-3 c).before
 
   abbrev asked : tie.In-Open
-  asked = c.before.before.before.before.before.before.before.before.before.before.before
+  asked = (back-3 c).before.before.before.before.before
 
   abbrev read : tie.After-decode_at-d
-  read = c.before.before.before.before.before.before.before.before.before.before.before.before
+  read = (back-3 c).before.before.before.before.before.before
 
   abbrev tables : Lent
   tables = lent (begun read)
@@ -112,7 +123,13 @@ module _ (c : tie.After-number_of-why) where
   numbered = c.number_of-why.ensures ∙ ap (λ (x : Left). number_of x.answer) opened.open-called.ensures
 
   left-tables : ◌≡◌ {A = Lent}
-      (record { rows = opened.open-called.new.rows; versions = opened.open-called.new.versions; buckets = opened.open-called.new.buckets; lists = tables.lists })
+      (record {
+        rows = opened.open-called.new.rows;
+        versions = opened.open-called.new.versions;
+        buckets = opened.open-called.new.buckets;
+        lists =
+            tables.lists;
+      })
       (lent_in called.words)
   left-tables = ap (λ (x : Left). lent_in x.words) opened.open-called.ensures
 
@@ -152,7 +169,10 @@ returns-3 c =
     let stop = c in
     let test = stop in
     let n = test in
-    let r = refused (tables n.before.before.before.before.before) (sizes (asked n.before.before.before.before.before)) (clock (asked n.before.before.before.before.before)) (log (read n.before.before.before.before.before)) (report (read n.before.before.before.before.before)) (some_bytes (read n.before.before.before.before.before)) (read n.before.before.before.before.before).decode_at-d.ensures
+    let r = refused (tables n.before.before.before.before.before) (sizes (asked n.before.before.before.before.before))
+    (clock (asked n.before.before.before.before.before)) (log (read n.before.before.before.before.before))
+    (report (read n.before.before.before.before.before)) (some_bytes (read n.before.before.before.before.before))
+    (read n.before.before.before.before.before).decode_at-d.ensures
     (opens (asked n.before.before.before.before.before)) _ (numbered n.before.before.before.before.before) test.if-why-ne0.true _ stop.stop_unopened.ensures in
     (r.0, left-tables n.before.before.before.before.before ∙ r.1)
 
@@ -235,8 +255,11 @@ same-length-15 c = search rules
 same-length-16 : tie.Need-shape_of-lists
 same-length-16 c = search rules
 
+abbrev back-4 : tie.After-found-2-1 → tie.After-versions-2-1
+back-4 c = c.before.before.before.before.before.before
+
 abbrev gone : tie.After-found-2-1 → tie.After-replay_steps
-gone c = c.before.before.before.before.before.before.before.before.before.before.before
+gone c = (back-4 c).before.before.before.before.before
 
 returns-5 : tie.Need-returns
 returns-5 c =

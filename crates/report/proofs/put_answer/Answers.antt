@@ -63,7 +63,8 @@ returns-in-Rows c =
     let s = c.put_spaced in
     let rows = take c.lesser_usize-said.result a.rows.now in
     let said : rows ≡ take n a.rows.now = take-least a.rows.now n c.lesser_usize-said.result c.lesser_usize-said.ensures in
-    let both : a.at + length (spaced (0 ∷ n ∷ [])) + length (spaced rows) ≤ length a.rest.now = rw said (room a.at _ n a.rows.now (rw c.in-Rows.is at c.requires)) in
+    let both : a.at + length (spaced (0 ∷ n ∷ [])) + length (spaced rows) ≤ length a.rest.now =
+    rw said (room a.at _ n a.rows.now (rw c.in-Rows.is at c.requires)) in
     let whole = two-long (0 ∷ n ∷ []) rows in
     rw (c.in-Rows.is, ← said)
     (spaced-then a.rest.now f.new.out s.new.out (0 ∷ n ∷ []) rows a.at f.result s.result (omega arith)

@@ -65,8 +65,11 @@ words s = let a = s.args in words_of a.rows.now a.versions.now a.buckets.now a.l
 abbrev entered : tie.After-sizes-1 → tie.Start
 entered c = c.before.before.before.before.before
 
+abbrev back-1 : tie.After-tables_lent → tie.After-shared_slice_known-1
+back-1 c = c.before.before.before.before.before.before
+
 abbrev start : tie.After-tables_lent → tie.Start
-start c = c.before.before.before.before.before.before.before
+start c = (back-1 c).before
 
 abbrev words1 : tie.Else-not-tables_lent → Words
 words1 c = words (start c.before)

@@ -49,7 +49,8 @@ returns c =
     let ts = (entered at.before.before.before.before).args.txns in
     let n : length ts ≡ most_live = search rules in
     every-fails (λ i. fits at.before.before.before.before (get_or ts i (idle_of i))) at.loop-i.i most_live (omega arith)
-    (test_at (fits at.before.before.before.before) ts at.loop-i.i _ _ _ (omega arith) c.place_fits.ensures (not-true c.place_fits.result c.if-not-place_fits.true-raw))
+    (test_at (fits at.before.before.before.before) ts at.loop-i.i _ _ _ (omega arith) c.place_fits.ensures
+    (not-true c.place_fits.result c.if-not-place_fits.true-raw))
 
 add-i : tie.Need-overflow_add-i invariant-loop decreases-loop
 add-i c = search rules
@@ -71,7 +72,8 @@ loop-again c =
 returns-2 : tie.Need-returns invariant-loop decreases-loop
 returns-2 c =
     let at = c in
-    every-done (λ i. fits at.before (get_or (entered at.before).args.txns i (idle_of i))) at.loop-i.i most_live (omega arith) (omega arith) at.loop-i.invariant.1
+    every-done (λ i. fits at.before (get_or (entered at.before).args.txns i (idle_of i))) at.loop-i.i most_live (omega arith)
+    (omega arith) at.loop-i.invariant.1
 
 pub txns_fit_spec : {M : Type 1} → statement M
 txns_fit_spec =

@@ -45,7 +45,8 @@ four-heads-in-requires c κs = (omega arith, c.loop-i.invariant.1)
 returns : tie.Need-returns-then-not-four_heads_in invariant-loop decreases-loop
 returns c =
     let at = c in
-    every-fewer _ (4 * at.loop-i.i + 4) (start at.before.before.before).args.row_count (omega arith) (failed c.four_heads_in.ensures c.if-not-four_heads_in.true-raw)
+    every-fewer _ (4 * at.loop-i.i + 4) (start at.before.before.before).args.row_count (omega arith)
+    (failed c.four_heads_in.ensures c.if-not-four_heads_in.true-raw)
 
 add-i : tie.Need-overflow_add-i invariant-loop decreases-loop
 add-i c = search rules

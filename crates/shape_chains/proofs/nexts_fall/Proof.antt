@@ -48,7 +48,8 @@ four-nexts-fall-requires c κs = (omega arith, c.loop-i.invariant.1)
 returns-2 : tie.Need-returns-then-not-four_nexts_fall invariant-loop decreases-loop
 returns-2 c =
     let at = c in
-    every-fewer _ (4 * at.loop-i.i + 4) (start at.before.before.before).args.used (omega arith) (failed c.four_nexts_fall.ensures c.if-not-four_nexts_fall.true-raw)
+    every-fewer _ (4 * at.loop-i.i + 4) (start at.before.before.before).args.used (omega arith)
+    (failed c.four_nexts_fall.ensures c.if-not-four_nexts_fall.true-raw)
 
 add-i : tie.Need-overflow_add-i invariant-loop decreases-loop
 add-i c = search rules

@@ -98,7 +98,8 @@ returns-2 c =
     let e = told.list_for-list.ensures in (
       named-posted a.rows.now a.row_count a.row c.link_at.result _ left.if-rows-entry-eq0.false
           (rw e at (s.requires.2.kept told.list_for-list.result (in-range told.before.before.before))) (rw e at c.link_at.ensures),
-      rw e (kept-posted a.rows.now a.row_count a.row a.last.now s.requires.2 left.if-rows-entry-eq0.false (subst (λ (x : ℕ). x < a.row_count) e (in-range told.before.before.before))),
+      rw e (kept-posted a.rows.now a.row_count a.row a.last.now s.requires.2 left.if-rows-entry-eq0.false
+          (subst (λ (x : ℕ). x < a.row_count) e (in-range told.before.before.before))),
     )
 
 pub row_named_spec : {M : Type 1} → statement M

@@ -32,7 +32,8 @@ row-named-requires c κs = let at = c in (omega arith, (start at.before.before).
 returns : tie.Need-returns-then-not-row_named invariant-loop decreases-loop
 returns c =
     let at = c in (
-      every-fails _ at.loop-row.row (start at.before.before.before.before).args.row_count (omega arith) (failed c.row_named.ensures.0 c.if-not-row_named.true-raw),
+      every-fails _ at.loop-row.row (start at.before.before.before.before).args.row_count (omega arith)
+          (failed c.row_named.ensures.0 c.if-not-row_named.true-raw),
       λ e. absurd (false≢true e),
     )
 

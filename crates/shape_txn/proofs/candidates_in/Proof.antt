@@ -46,8 +46,11 @@ loop-less c = search rules
 
 loop-again : tie.Need-loop-i-preserved invariant-loop decreases-loop
 loop-again c =
-    let at = c in
-    (omega arith, every-next (fits at.before.before.before.before) at.loop-i.i at.loop-i.invariant.1 (rw (← c.candidate_at.ensures) (lt-ltb _ _ c.if-candidate_at-row_count.false)))
+    let at = c in (
+      omega arith,
+      every-next (fits at.before.before.before.before) at.loop-i.i at.loop-i.invariant.1
+          (rw (← c.candidate_at.ensures) (lt-ltb _ _ c.if-candidate_at-row_count.false)),
+    )
 
 returns-2 : tie.Need-returns invariant-loop decreases-loop
 returns-2 c =

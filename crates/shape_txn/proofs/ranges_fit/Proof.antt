@@ -34,11 +34,17 @@ given1 c = c.before.before.before.before
 abbrev given2 : tie.Else-not-records_in → tie.Start
 given2 c = c.before.before.before.before.before.before
 
+abbrev back-1 : tie.Else-not-candidates_in → tie.After-sizes-1
+back-1 c = c.before.before.before.before.before.before
+
 abbrev given3 : tie.Else-not-candidates_in → tie.Start
-given3 c = c.before.before.before.before.before.before.before.before
+given3 c = (back-1 c).before.before
+
+abbrev back-2 : tie.Else-not-reads_in → tie.Else-not-writes_in
+back-2 c = c.before.before.before.before.before.before
 
 abbrev given4 : tie.Else-not-reads_in → tie.Start
-given4 c = c.before.before.before.before.before.before.before.before.before.before
+given4 c = (back-2 c).before.before.before.before
 
 -- what is left past each test
 past-writes : (c : tie.Else-not-writes_in) → let s = given1 c in ranges s ≡ records s && candidates s && reads s && bucket s

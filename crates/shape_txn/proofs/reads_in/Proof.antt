@@ -35,7 +35,8 @@ read-bucket-at-requires c κs = search rules
 returns : tie.Need-returns-then-read_bucket_at-bucket_count invariant-loop decreases-loop
 returns c =
     let at = c in
-    every-fails (fits at.before.before.before.before) at.loop-i.i (entered at.before.before.before.before).args.t.reads_n (omega arith) (rw (← c.read_bucket_at.ensures) (le-ltb _ _ c.if-read_bucket_at-bucket_count.true))
+    every-fails (fits at.before.before.before.before) at.loop-i.i (entered at.before.before.before.before).args.t.reads_n (omega arith)
+    (rw (← c.read_bucket_at.ensures) (le-ltb _ _ c.if-read_bucket_at-bucket_count.true))
 
 add-i : tie.Need-overflow_add-i invariant-loop decreases-loop
 add-i c = search rules
@@ -45,8 +46,11 @@ loop-less c = search rules
 
 loop-again : tie.Need-loop-i-preserved invariant-loop decreases-loop
 loop-again c =
-    let at = c in
-    (omega arith, every-next (fits at.before.before.before.before) at.loop-i.i at.loop-i.invariant.1 (rw (← c.read_bucket_at.ensures) (lt-ltb _ _ c.if-read_bucket_at-bucket_count.false)))
+    let at = c in (
+      omega arith,
+      every-next (fits at.before.before.before.before) at.loop-i.i at.loop-i.invariant.1
+          (rw (← c.read_bucket_at.ensures) (lt-ltb _ _ c.if-read_bucket_at-bucket_count.false)),
+    )
 
 returns-2 : tie.Need-returns invariant-loop decreases-loop
 returns-2 c =

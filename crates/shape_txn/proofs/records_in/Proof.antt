@@ -49,7 +49,8 @@ record-in-requires c κs = search rules
 returns : tie.Need-returns-then-not-record_in invariant-loop decreases-loop
 returns c =
     let at = c in
-    every-fails (fits at.before.before.before.before.before.before) at.loop-i.i (entered at.before.before.before.before.before.before).args.t.records_n (omega arith) (failed (told c.before) c.if-not-record_in.true-raw)
+    every-fails (fits at.before.before.before.before.before.before) at.loop-i.i (entered at.before.before.before.before.before.before).args.t.records_n
+    (omega arith) (failed (told c.before) c.if-not-record_in.true-raw)
 
 add-i : tie.Need-overflow_add-i invariant-loop decreases-loop
 add-i c = search rules
@@ -59,8 +60,10 @@ loop-less c = search rules
 
 loop-again : tie.Need-loop-i-preserved invariant-loop decreases-loop
 loop-again c =
-    let at = c in
-    (omega arith, every-next (fits at.before.before.before.before.before.before) at.loop-i.i at.loop-i.invariant.1 (passed (told c.before) c.if-not-record_in.false-raw))
+    let at = c in (
+      omega arith,
+      every-next (fits at.before.before.before.before.before.before) at.loop-i.i at.loop-i.invariant.1 (passed (told c.before) c.if-not-record_in.false-raw),
+    )
 
 returns-2 : tie.Need-returns invariant-loop decreases-loop
 returns-2 c =

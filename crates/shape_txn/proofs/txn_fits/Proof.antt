@@ -27,17 +27,35 @@ heads s = let a = s.args in heads_fit a.rows.now a.versions.now a.lists.now a.t
 abbrev entered : tie.After-snapshot-1 → tie.Start
 entered c = c.before.before.before.before
 
+abbrev back-1 : tie.Else-t-extent → tie.After-shared_slice_known-2-1
+back-1 c = c.before.before.before.before.before.before
+
 abbrev given1 : tie.Else-t-extent → tie.Start
-given1 c = c.before.before.before.before.before.before.before.before
+given1 c = (back-1 c).before.before
+
+abbrev back-2 : tie.Else-snapshot-least_of → tie.After-active-1
+back-2 c = c.before.before.before.before.before.before
 
 abbrev given2 : tie.Else-snapshot-least_of → tie.Start
-given2 c = c.before.before.before.before.before.before.before.before.before.before.before
+given2 c = (back-2 c).before.before.before.before.before
+
+abbrev back-3 : tie.Else-not-counts_fit → tie.After-struct_known-2-1
+back-3 c = c.before.before.before.before.before.before
+
+abbrev back-4 : tie.After-struct_known-2-1 → tie.After-shared_slice_known-1
+back-4 c = c.before.before.before.before.before.before
 
 abbrev given3 : tie.Else-not-counts_fit → tie.Start
-given3 c = c.before.before.before.before.before.before.before.before.before.before.before.before.before
+given3 c = (back-4 (back-3 c)).before
+
+abbrev back-5 : tie.Else-not-ranges_fit → tie.After-least_of
+back-5 c = c.before.before.before.before.before.before
+
+abbrev back-6 : tie.After-least_of → tie.After-shared_slice_known-3-1
+back-6 c = c.before.before.before.before.before.before
 
 abbrev given4 : tie.Else-not-ranges_fit → tie.Start
-given4 c = c.before.before.before.before.before.before.before.before.before.before.before.before.before.before.before
+given4 c = (back-6 (back-5 c)).before.before.before
 
 -- what is left past each test
 past-number : (c : tie.Else-t-extent) → let s = given1 c in fits s ≡ least s && counts_fit s.args.t && ranges s && heads s

@@ -12,8 +12,11 @@ use Rattle.step.proofs.step_keeping.Tie as tie
 abbrev lent : tie.After-misses → tie.After-slice_known-5-1
 lent c = c.before.before.before.before.before
 
+abbrev back-1 : tie.After-misses → tie.After-slice_known-4-1
+back-1 c = c.before.before.before.before.before.before
+
 abbrev start : tie.After-misses → tie.Start
-start c = c.before.before.before.before.before.before.before.before.before.before
+start c = (back-1 c).before.before.before.before
 
 -- the step names the transaction, past the first test
 named : (c : tie.Else-misses) → let a = (start c.before).args in misses_of a.parts.number a.s ≡ false
@@ -162,13 +165,22 @@ same_length c = search rules
 same-length-2 : tie.Need-shape_of-lists-in-Capture
 same-length-2 c = search rules
 
+abbrev back-2 : tie.After-keep-in-Capture → tie.After-capture-arg-in-Capture-1
+back-2 c = c.before.before.before.before.before.before
+
 returns-2 : tie.Need-returns-in-Capture
 unfolding step_of
 returns-2 c =
     let done = c in
     let made = done in
     let arm = made in
-    rw (named arm.before.before.before.before.before.before.before.before.before.before, arm.in-Capture.is, c.keep-in-Capture.ensures, ← made.whole-in-Capture.ensures, ← done.capture.ensures)
+    rw (
+      named (back-2 arm).before.before.before.before,
+      arm.in-Capture.is,
+      c.keep-in-Capture.ensures,
+      ← made.whole-in-Capture.ensures,
+      ← done.capture.ensures,
+    )
 
 same-length-3 : tie.Need-shape_of-rows-in-Collect
 same-length-3 c = search rules
@@ -179,13 +191,22 @@ same-length-4 c = search rules
 same-length-5 : tie.Need-shape_of-lists-in-Collect
 same-length-5 c = search rules
 
+abbrev back-3 : tie.After-keep-in-Collect → tie.After-collect-arg-in-Collect-1
+back-3 c = c.before.before.before.before.before.before
+
 returns-3 : tie.Need-returns-in-Collect
 unfolding step_of
 returns-3 c =
     let done = c in
     let made = done in
     let arm = made in
-    rw (named arm.before.before.before.before.before.before.before.before.before.before, arm.in-Collect.is, c.keep-in-Collect.ensures, ← made.whole-in-Collect.ensures, ← done.collect.ensures)
+    rw (
+      named (back-3 arm).before.before.before.before,
+      arm.in-Collect.is,
+      c.keep-in-Collect.ensures,
+      ← made.whole-in-Collect.ensures,
+      ← done.collect.ensures,
+    )
 
 same-length-6 : tie.Need-shape_of-rows-in-Rows
 same-length-6 c = search rules
@@ -199,16 +220,28 @@ same-length-8 c = search rules
 same-length-9 : tie.Need-shape_of-found
 same-length-9 c = search rules
 
+abbrev back-4 : tie.After-keep-in-Rows → tie.After-whole-in-Rows
+back-4 c = c.before.before.before.before.before.before
+
 returns-4 : tie.Need-returns-in-Rows
 unfolding step_of
 returns-4 c =
     let done = c in
     let made = done in
     let arm = made in
-    rw (named arm.before.before.before.before.before.before.before.before.before.before, arm.in-Rows.is, c.keep-in-Rows.ensures, ← made.whole-in-Rows.ensures, ← done.rows.ensures)
+    rw (
+      named (back-4 arm).before.before.before.before,
+      arm.in-Rows.is,
+      c.keep-in-Rows.ensures,
+      ← made.whole-in-Rows.ensures,
+      ← done.rows.ensures,
+    )
 
 same-length-10 : tie.Need-shape_of-lists-in-Put
 same-length-10 c = search rules
+
+abbrev back-5 : tie.After-keep-in-Put → tie.In-Put
+back-5 c = c.before.before.before.before.before.before
 
 returns-5 : tie.Need-returns-in-Put
 unfolding step_of
@@ -216,10 +249,13 @@ returns-5 c =
     let done = c in
     let made = done in
     let arm = made in
-    rw (named arm.before.before.before.before.before.before.before, arm.in-Put.is, c.keep-in-Put.ensures, ← made.whole-in-Put.ensures, ← done.put.ensures)
+    rw (named (back-5 arm).before, arm.in-Put.is, c.keep-in-Put.ensures, ← made.whole-in-Put.ensures, ← done.put.ensures)
 
 same-length-11 : tie.Need-shape_of-lists-in-Erase
 same-length-11 c = search rules
+
+abbrev back-6 : tie.After-keep-in-Erase → tie.In-Erase
+back-6 c = c.before.before.before.before.before.before
 
 returns-6 : tie.Need-returns-in-Erase
 unfolding step_of
@@ -227,7 +263,13 @@ returns-6 c =
     let done = c in
     let made = done in
     let arm = made in
-    rw (named arm.before.before.before.before.before.before.before, arm.in-Erase.is, c.keep-in-Erase.ensures, ← made.whole-in-Erase.ensures, ← done.erase.ensures)
+    rw (
+      named (back-6 arm).before,
+      arm.in-Erase.is,
+      c.keep-in-Erase.ensures,
+      ← made.whole-in-Erase.ensures,
+      ← done.erase.ensures,
+    )
 
 same-length-12 : tie.Need-shape_of-rows-in-Prepare
 same-length-12 c = search rules
@@ -241,13 +283,22 @@ same-length-14 c = search rules
 same-length-15 : tie.Need-shape_of-lists-in-Prepare
 same-length-15 c = search rules
 
+abbrev back-7 : tie.After-keep-in-Prepare → tie.After-whole-in-Prepare
+back-7 c = c.before.before.before.before.before.before
+
 returns-7 : tie.Need-returns-in-Prepare
 unfolding step_of
 returns-7 c =
     let done = c in
     let made = done in
     let arm = made in
-    rw (named arm.before.before.before.before.before.before.before.before.before.before, arm.in-Prepare.is, c.keep-in-Prepare.ensures, ← made.whole-in-Prepare.ensures, ← done.prepare.ensures)
+    rw (
+      named (back-7 arm).before.before.before.before,
+      arm.in-Prepare.is,
+      c.keep-in-Prepare.ensures,
+      ← made.whole-in-Prepare.ensures,
+      ← done.prepare.ensures,
+    )
 
 same-length-16 : tie.Need-shape_of-rows-in-Install
 same-length-16 c = search rules
@@ -258,13 +309,22 @@ same-length-17 c = search rules
 same-length-18 : tie.Need-shape_of-lists-in-Install
 same-length-18 c = search rules
 
+abbrev back-8 : tie.After-keep_installed → tie.After-whole-in-Install
+back-8 c = c.before.before.before.before.before.before
+
 returns-8 : tie.Need-returns-in-Install
 unfolding step_of
 returns-8 c =
     let done = c in
     let made = done in
     let arm = made in
-    rw (named arm.before.before.before.before.before.before.before.before.before.before, arm.in-Install.is, c.keep_installed.ensures, ← made.whole-in-Install.ensures, ← done.install.ensures)
+    rw (
+      named (back-8 arm).before.before.before.before,
+      arm.in-Install.is,
+      c.keep_installed.ensures,
+      ← made.whole-in-Install.ensures,
+      ← done.install.ensures,
+    )
 
 returns-9 : tie.Need-returns-in-End
 unfolding step_of

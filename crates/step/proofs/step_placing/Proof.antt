@@ -12,8 +12,11 @@ use Rattle.step.proofs.step_placing.Tie as tie
 abbrev lent : tie.After-misses → tie.After-shared_slice_known-2-1
 lent c = c.before.before.before.before.before.before
 
+abbrev back-1 : tie.After-misses → tie.After-shared_slice_known-2-1
+back-1 c = c.before.before.before.before.before.before
+
 abbrev start : tie.After-misses → tie.Start
-start c = c.before.before.before.before.before.before.before.before.before.before
+start c = (back-1 c).before.before.before.before
 
 -- the step names the transaction, past the first test
 named : (c : tie.Else-misses) → let a = (start c.before).args in misses_of a.t.number a.s ≡ false
@@ -80,12 +83,15 @@ same_length c = search rules
 same-length-2 : tie.Need-shape_of-buckets-in-Publish
 same-length-2 c = search rules
 
+abbrev back-2 : tie.After-slice_known-in-Publish-2-1 → tie.After-step_publish-arg-1
+back-2 c = c.before.before.before.before.before.before
+
 returns-3 : tie.Need-returns-in-Publish
 unfolding step_of
 returns-3 c =
     let done = c in
     let arm = done in
-    rw (named arm.before.before.before.before.before.before.before.before, arm.in-Publish.is, ← done.step_publish.ensures)
+    rw (named (back-2 arm).before.before, arm.in-Publish.is, ← done.step_publish.ensures)
 
 same-length-3 : tie.Need-shape_of-rows-in-Abort
 same-length-3 c = search rules
@@ -93,12 +99,15 @@ same-length-3 c = search rules
 same-length-4 : tie.Need-shape_of-buckets-in-Abort
 same-length-4 c = search rules
 
+abbrev back-3 : tie.After-with_clock-in-Abort → tie.After-abort-arg-in-Abort-1
+back-3 c = c.before.before.before.before.before.before
+
 returns-4 : tie.Need-returns-in-Abort
 unfolding step_of
 returns-4 c =
     let done = c in
     let arm = done in
-    rw (named arm.before.before.before.before.before.before.before.before.before, arm.in-Abort.is, c.with_clock-in-Abort.ensures, ← done.abort.ensures)
+    rw (named (back-3 arm).before.before.before, arm.in-Abort.is, c.with_clock-in-Abort.ensures, ← done.abort.ensures)
 
 returns-5 : tie.Need-returns-in_default
 unfolding step_of

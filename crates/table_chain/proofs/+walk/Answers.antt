@@ -27,8 +27,16 @@ returns-then-visible_at t c = rw (walk_step, ne_eqb _ _ c.if-p-eq0.false, sym c.
 
 pub returns-then-next-p : goal.returns-then-next-p
 returns-then-next-p t c =
-    c.walk.ensures ∙ sym (rw (unseen _ _ _ _ (ne_eqb _ _ c.if-p-eq0.false) (sym c.visible_at.ensures ∙ c.if-visible_at.false), ← c.word_of-next.ensures, lt-ltb _ _ c.if-next-p.true))
+    c.walk.ensures ∙ sym (rw (
+      unseen _ _ _ _ (ne_eqb _ _ c.if-p-eq0.false) (sym c.visible_at.ensures ∙ c.if-visible_at.false),
+      ← c.word_of-next.ensures,
+      lt-ltb _ _ c.if-next-p.true,
+    ))
 
 pub returns-else-next-p : goal.returns-else-next-p
 returns-else-next-p t c =
-    sym (rw (unseen _ _ _ _ (ne_eqb _ _ c.if-p-eq0.false) (sym c.visible_at.ensures ∙ c.if-visible_at.false), ← c.word_of-next.ensures, le-ltb _ _ c.if-next-p.false))
+    sym (rw (
+      unseen _ _ _ _ (ne_eqb _ _ c.if-p-eq0.false) (sym c.visible_at.ensures ∙ c.if-visible_at.false),
+      ← c.word_of-next.ensures,
+      le-ltb _ _ c.if-next-p.false,
+    ))

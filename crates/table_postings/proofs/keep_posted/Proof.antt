@@ -56,6 +56,9 @@ loop-less c =
     let told = c in
     turn-less _ _ _ told.loop-place-test.true (leb-true _ _ told.if-link-most.true-raw)
 
+abbrev back-1 : tie.After-quick_later-link invariant-loop decreases-loop → tie.Then-link-most invariant-loop decreases-loop
+back-1 c = c.before.before.before.before.before.before
+
 loop-again : tie.Need-loop-place-preserved invariant-loop decreases-loop
 loop-again c =
     let kept = c in
@@ -64,7 +67,7 @@ loop-again c =
     let at = tested in
     let low = leb-true _ _ tested.if-link-most.true-raw in
     let old : Kept = record { n = at.loop-place.n; lists = at.loop-place.lists } in
-    let slot = (entered at.before.before.before.before.before.before.before.before.before.before.before).args.slot in
+    let slot = (entered (back-1 at).before.before.before.before.before).args.slot in
     let few = keep-few slot (at.loop-place.link - 1) told.quick_posted_with.result old _ kept.keep_one-n.ensures in (
       low,
       omega arith,

@@ -44,7 +44,13 @@ returns-4 : tie.Need-returns
 returns-4 c =
     let old = c in
     let keyed = old in
-    rw (posted-not keyed.before.before.before.before.before, ne_eqb _ _ keyed.if-keyed-eq0.false, ← old.posted_key_at-old.ensures, ← c.list_for.ensures, ← c.list_for-2.ensures)
+    rw (
+      posted-not keyed.before.before.before.before.before,
+      ne_eqb _ _ keyed.if-keyed-eq0.false,
+      ← old.posted_key_at-old.ensures,
+      ← c.list_for.ensures,
+      ← c.list_for-2.ensures,
+    )
 
 pub stays_listed_spec : {M : Type 1} → statement M
 stays_listed_spec =

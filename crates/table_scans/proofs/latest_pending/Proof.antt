@@ -16,7 +16,8 @@ use Rattle.table_scans.proofs.latest_pending.Statement.{statement}
 use Rattle.table_scans.proofs.latest_pending.Tie as tie
 
 abbrev invariant-loop : tie.invariant-loop-i
-invariant-loop lists slot count row i₀ i = (i ≤ i₀) × (last_place (rows_written (writes_of lists slot i₀)) row ≡ last_below (rows_written (writes_of lists slot i₀)) row i)
+invariant-loop lists slot count row i₀ i =
+    (i ≤ i₀) × (last_place (rows_written (writes_of lists slot i₀)) row ≡ last_below (rows_written (writes_of lists slot i₀)) row i)
 
 abbrev decreases-loop : tie.decreases-loop-i
 decreases-loop lists slot count row i₀ i = i

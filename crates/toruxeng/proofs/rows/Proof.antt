@@ -4,9 +4,12 @@ use borrow.Author.Rules.{rules}
 use Rattle.toruxeng.proofs.rows.Statement.{statement}
 use Rattle.toruxeng.proofs.rows.Tie as tie
 
+abbrev back-1 : tie.After-slice_known-10-1 → tie.After-slice_known-7-1
+back-1 c = c.before.before.before.before.before.before
+
 -- the call, from the end
 abbrev called : tie.After-slice_known-10-1 → tie.After-call
-called c = c.before.before.before.before.before.before.before.before.before.before
+called c = (back-1 c).before.before.before.before
 
 call-requires : tie.Need-call-requires
 call-requires c κs = search rules

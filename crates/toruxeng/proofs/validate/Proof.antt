@@ -4,9 +4,12 @@ use borrow.Author.Rules.{rules}
 use Rattle.toruxeng.proofs.validate.Statement.{statement}
 use Rattle.toruxeng.proofs.validate.Tie as tie
 
+abbrev back-1 : tie.After-slice_known-8-1 → tie.After-slice_known-5-1
+back-1 c = c.before.before.before.before.before.before
+
 -- the call, from the end
 abbrev called : tie.After-slice_known-8-1 → tie.After-call_without_list
-called c = c.before.before.before.before.before.before.before.before
+called c = (back-1 c).before.before
 
 call-without-list-requires : tie.Need-call_without_list-requires
 call-without-list-requires c κs = search rules

@@ -57,12 +57,19 @@ add-i c = search rules
 loop-less : tie.Need-loop-i-smaller invariant-loop decreases-loop
 loop-less c = search rules
 
+abbrev back-1 : tie.After-slice_known-in-loop-i-1 invariant-loop decreases-loop → tie.After-struct_known-1 invariant-loop decreases-loop
+back-1 c = c.before.before.before.before.before.before
+
 loop-again : tie.Need-loop-i-preserved invariant-loop decreases-loop
 loop-again c =
     let done = c in
     let read = done in
-    let at = read in
-    (omega arith, done.set_claim.auto.rows ∙ at.loop-i.invariant.1, again at.before.before.before.before.before.before.before (omega arith) _ read.write_row_at.ensures _ done.set_claim.ensures)
+    let at = read in (
+      omega arith,
+      done.set_claim.auto.rows
+          ∙ at.loop-i.invariant.1,
+      again (back-1 at).before (omega arith) _ read.write_row_at.ensures _ done.set_claim.ensures,
+    )
 
 same_length : tie.Need-shape_of-rows invariant-loop decreases-loop
 same_length c = c.loop-i.invariant.1

@@ -43,13 +43,16 @@ add-i c = search rules
 loop-less : tie.Need-loop-i-smaller invariant-loop decreases-loop
 loop-less c = search rules
 
+abbrev back-1 : tie.After-slice_known-in-loop-i-1 invariant-loop decreases-loop → tie.In-loop-i invariant-loop decreases-loop
+back-1 c = c.before.before.before.before.before.before
+
 loop-again : tie.Need-loop-i-preserved invariant-loop decreases-loop
 loop-again c =
     let pushed = c in
     let told = pushed in
     let read = told in
     let at = read in
-    let a = (entered at.before.before.before.before.before.before.before.before).args in
+    let a = (entered (back-1 at).before.before).args in
     let l = at.loop-i in (
       omega arith,
       pushed.push_keys-n.auto.out ∙ l.invariant.1,

@@ -40,11 +40,14 @@ add-i c = search rules
 loop-less : tie.Need-loop-i-smaller invariant-loop decreases-loop
 loop-less c = search rules
 
+abbrev back-1 : tie.After-slice_known-in-loop-i-1 invariant-loop decreases-loop → tie.After-struct_known-1 invariant-loop decreases-loop
+back-1 c = c.before.before.before.before.before.before
+
 loop-again : tie.Need-loop-i-preserved invariant-loop decreases-loop
 loop-again c =
     let read = c in
     let at = read in
-    let a = (entered at.before.before.before.before.before.before.before).args in
+    let a = (entered (back-1 at).before).args in
     let l = at.loop-i in (
       omega arith,
       c.push-m.auto.out ∙ l.invariant.1,

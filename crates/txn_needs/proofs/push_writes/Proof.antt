@@ -52,13 +52,16 @@ add-i c = search rules
 loop-less : tie.Need-loop-i-smaller invariant-loop decreases-loop
 loop-less c = search rules
 
+abbrev back-1 : tie.After-slice_known-in-loop-i-1 invariant-loop decreases-loop → tie.After-write_row_at-row invariant-loop decreases-loop
+back-1 c = c.before.before.before.before.before.before
+
 loop-again : tie.Need-loop-i-preserved invariant-loop decreases-loop
 loop-again c =
     let pushed = c in
     let told = pushed in
     let read = told in
     let at = read in
-    let a = (entered at.before.before.before.before.before.before.before.before.before).args in
+    let a = (entered (back-1 at).before.before.before).args in
     let l = at.loop-i in (
       omega arith,
       pushed.push_keys-m.auto.out ∙ l.invariant.1,
@@ -66,7 +69,8 @@ loop-again c =
           ∙ join-turn _ (record { out = l.out; n = l.m }) _ (written_by a.lists.now a.t) l.i read.write_row_at-row.result
           (rows_next a.lists.now a.t l.i read.write_row_at-row.result (omega arith) read.write_row_at-row.ensures)
           (rw (← keys-are a.rows.now a.versions.now a.lists.now a.t read.write_row_at-row.result _ _ _
-          (begun at.before.before.before.before.before.before.before.before.before).is_installed-installed.ensures told.old_key-old.ensures told.new_key-new.ensures) pushed.push_keys-m.ensures),
+          (begun (back-1 at).before.before.before).is_installed-installed.ensures told.old_key-old.ensures
+          told.new_key-new.ensures) pushed.push_keys-m.ensures),
     )
 
 same_length : tie.Need-shape_of-out invariant-loop decreases-loop

@@ -59,11 +59,18 @@ add-i c = search rules
 loop-less : tie.Need-loop-i-smaller invariant-loop decreases-loop
 loop-less c = search rules
 
+abbrev back-1 : tie.After-slice_known-in-loop-i-1 invariant-loop decreases-loop → tie.In-loop-i invariant-loop decreases-loop
+back-1 c = c.before.before.before.before.before.before
+
 loop-again : tie.Need-loop-i-preserved invariant-loop decreases-loop
 loop-again c =
     let freed = c in
-    let at = freed in
-    (omega arith, freed.release.auto.buckets ∙ at.loop-i.invariant.1, again at.before.before.before.before.before.before.before (omega arith) (omega arith) _ freed.release.ensures)
+    let at = freed in (
+      omega arith,
+      freed.release.auto.buckets
+          ∙ at.loop-i.invariant.1,
+      again (back-1 at).before (omega arith) (omega arith) _ freed.release.ensures,
+    )
 
 same-length-2 : tie.Need-shape_of-buckets invariant-loop decreases-loop
 same-length-2 c = c.loop-i.invariant.1

@@ -165,13 +165,16 @@ same-length-9 c = search rules
 same-length-10 : tie.Need-shape_of-buckets
 same-length-10 c = search rules
 
+abbrev back-1 : tie.After-with_phase → tie.After-buckets-1
+back-1 c = c.before.before.before.before.before.before
+
 returns-6 : tie.Need-returns
 returns-6 c =
     let claims = c in
     let holds = claims in
     let room = holds in
     let counted = room in
-    let clear = cleared counted.before.before.before.before.before.before.before.before.before.before.before in
+    let clear = cleared (back-1 counted).before.before.before.before.before in
     let judged = clear in
     let own = unclaimed judged.before in
     let free = untaken own.before in

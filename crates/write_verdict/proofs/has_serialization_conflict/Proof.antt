@@ -12,7 +12,11 @@ use Rattle.table_scans.proofs.Laws.{active-end}
 use Rattle.write_verdict.specs.Judged.{changed_record}
 use Rattle.write_verdict.proofs.Laws.{looked-few, records_from, records-end, active-here, active_past, outright-found, active-found, none_found}
 use Rattle.write_verdict.proofs.has_serialization_conflict.Statement.{statement}
-use Rattle.write_verdict.proofs.has_serialization_conflict.Lts.{else-records-test, then-records-test+then-changed_outright, then-records-test+else-changed_outright+then-loop-j-test+then-active-j}
+use Rattle.write_verdict.proofs.has_serialization_conflict.Lts.{
+  else-records-test,
+  then-records-test+then-changed_outright,
+  then-records-test+else-changed_outright+then-loop-j-test+then-active-j,
+}
 use Rattle.write_verdict.proofs.has_serialization_conflict.Tie as tie
 
 abbrev invariant-loop : tie.invariant-loop-j
@@ -30,17 +34,21 @@ decreases-records versions lists t snapshot active i₀ i = t.records_n - i
 
 -- THE WAY BACK IN A TURN
 
-abbrev start : tie.At-records invariant-loop decreases-loop invariant-records decreases-records → tie.Start invariant-loop decreases-loop invariant-records decreases-records
+abbrev start : tie.At-records invariant-loop decreases-loop invariant-records decreases-records
+    → tie.Start invariant-loop decreases-loop invariant-records decreases-records
 start c = c.before.before.before.before.before
 
-abbrev ended : tie.After-looked_for-most invariant-loop decreases-loop invariant-records decreases-records → tie.After-ended_by-ended invariant-loop decreases-loop invariant-records decreases-records
+abbrev ended : tie.After-looked_for-most invariant-loop decreases-loop invariant-records decreases-records
+    → tie.After-ended_by-ended invariant-loop decreases-loop invariant-records decreases-records
 ended c = c.before.before.before
 
-abbrev turn : tie.After-ended_by-ended invariant-loop decreases-loop invariant-records decreases-records → tie.At-records invariant-loop decreases-loop invariant-records decreases-records
+abbrev turn : tie.After-ended_by-ended invariant-loop decreases-loop invariant-records decreases-records
+    → tie.At-records invariant-loop decreases-loop invariant-records decreases-records
 turn c = c.before.before.before.before
 
 -- no more numbers are looked at than the snapshot holds
-few : (c : tie.After-looked_for-most invariant-loop decreases-loop invariant-records decreases-records) → c.looked_for-most.result ≤ length (start (turn (ended c))).args.t.snapshot.active
+few : (c : tie.After-looked_for-most invariant-loop decreases-loop invariant-records decreases-records)
+    → c.looked_for-most.result ≤ length (start (turn (ended c))).args.t.snapshot.active
 few c =
     let at = turn (ended c) in
     omega (arith, at.records.invariant.1, c.looked_for-most.ensures, looked-few (ended c).ended_by-ended.result (start at).args.t.snapshot)
@@ -114,20 +122,20 @@ returns c =
     let a = (start at.before.before.before.before).args in
     let h : o.i < a.t.records_n = omega arith in
     elim c.records-test.branch [
-      else-records-test w ↦ absurd (omega arith)
-    | then-records-test+then-changed_outright w ↦ rw (
-      o.invariant.2,
-      outright-found a.versions.now a.lists.now a.t o.invariant.1 o.i w.record_at-read.result w.ended_by-ended.result
-          w.record_at-read.ensures w.ended_by-ended.ensures h (sym w.changed_outright.ensures ∙ w.if-changed_outright.true),
-    )
-    | then-records-test+else-changed_outright+then-loop-j-test+then-active-j w ↦ rw (
-      o.invariant.2,
-      active-found a.versions.now a.lists.now a.t o.invariant.1 o.i w.record_at-read.result w.ended_by-ended.result
-          w.record_at-read.ensures w.ended_by-ended.ensures h (sym w.changed_outright.ensures ∙ w.if-changed_outright.false)
-          w.looked_for-most.result w.looked_for-most.ensures
-          (w.loop-j.invariant.1 ∙ active-here a.t.snapshot.active w.looked_for-most.result w.loop-j.j w.ended_by-ended.result w.loop-j-test.true
-          (omega (arith, o.invariant.1, w.looked_for-most.ensures, looked-few w.ended_by-ended.result a.t.snapshot)) w.if-active-j.true),
-    )
+      | else-records-test w ↦ absurd (omega arith)
+      | then-records-test+then-changed_outright w ↦ rw (
+        o.invariant.2,
+        outright-found a.versions.now a.lists.now a.t o.invariant.1 o.i w.record_at-read.result w.ended_by-ended.result
+            w.record_at-read.ensures w.ended_by-ended.ensures h (sym w.changed_outright.ensures ∙ w.if-changed_outright.true),
+      )
+      | then-records-test+else-changed_outright+then-loop-j-test+then-active-j w ↦ rw (
+        o.invariant.2,
+        active-found a.versions.now a.lists.now a.t o.invariant.1 o.i w.record_at-read.result w.ended_by-ended.result
+            w.record_at-read.ensures w.ended_by-ended.ensures h (sym w.changed_outright.ensures ∙ w.if-changed_outright.false)
+            w.looked_for-most.result w.looked_for-most.ensures
+            (w.loop-j.invariant.1 ∙ active-here a.t.snapshot.active w.looked_for-most.result w.loop-j.j w.ended_by-ended.result w.loop-j-test.true
+            (omega (arith, o.invariant.1, w.looked_for-most.ensures, looked-few w.ended_by-ended.result a.t.snapshot)) w.if-active-j.true),
+      )
     ]
 
 returns-2 : tie.Need-returns-else-i-t invariant-loop decreases-loop invariant-records decreases-records

@@ -66,6 +66,9 @@ add-written c = search rules
 same_length : tie.Need-shape_of-lists
 same_length c = search rules
 
+abbrev back-1 : tie.After-slice_known-2-1 → tie.After-struct_known-1
+back-1 c = c.before.before.before.before.before.before
+
 returns-5 : tie.Need-returns
 unfolding write_of
 returns-5 c =
@@ -74,7 +77,7 @@ returns-5 c =
     let in-store = few in
     let unmarked = in-store in
     rw (
-      opened unmarked.before.before.before.before.before.before.before.before,
+      opened (back-1 unmarked).before.before,
       unmarked.if-self.false,
       lt-ltb _ _ in-store.if-w-row_count.false,
       lt-leb _ _ few.if-n-ge-MOST_WRITES.false,

@@ -17,7 +17,8 @@ invariant-loop lists slot count out₀ n₀ i₀ out n i =
     (i ≤ count)
     × (length out ≡ length out₀)
     × (n ≤ length out)
-    × (push_all (record { out = out₀; n = 0 }) (rows_written lists slot count) ≡ push_all (record { out = out; n = n }) (drop i (rows_written lists slot count)))
+    × (push_all (record { out = out₀; n = 0 }) (rows_written lists slot count)
+    ≡ push_all (record { out = out; n = n }) (drop i (rows_written lists slot count)))
 
 abbrev decreases-loop : tie.decreases-loop-i
 decreases-loop lists slot count out₀ n₀ i₀ out n i = count - i

@@ -80,6 +80,9 @@ add-i c = search rules
 loop-less : tie.Need-loop-i-smaller invariant-loop decreases-loop
 loop-less c = search rules
 
+abbrev back-1 : tie.After-slice_known-in-loop-i-1 invariant-loop decreases-loop → tie.In-loop-i invariant-loop decreases-loop
+back-1 c = c.before.before.before.before.before.before
+
 loop-again : tie.Need-loop-i-preserved invariant-loop decreases-loop
 unfolding kept
 loop-again c =
@@ -90,8 +93,11 @@ loop-again c =
       omega arith,
       put.keep_row-m.auto.out ∙ l.invariant.1,
       l.invariant.2
-          ∙ join-turn _ (record { out = l.out; n = l.m }) _ (take (listed at.before.before.before.before.before.before.before).pending_rows-n.result (pending at.before.before.before.before.before.before.before)) l.i _
-          (left-next (pending at.before.before.before.before.before.before.before) (listed at.before.before.before.before.before.before.before).pending_rows-n.result l.i (omega arith) (omega (arith, sixteen at.before.before.before.before.before.before.before)))
+          ∙ join-turn _ (record { out = l.out; n = l.m }) _ (take (listed (back-1 at).before).pending_rows-n.result
+          (pending (back-1 at).before)) l.i _
+          (left-next (pending (back-1 at).before)
+          (listed (back-1 at).before).pending_rows-n.result l.i (omega arith)
+          (omega (arith, sixteen (back-1 at).before)))
           (rw (← told.gets_version-gets.ensures) put.keep_row-m.ensures),
     )
 
