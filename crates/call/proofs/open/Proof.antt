@@ -118,11 +118,11 @@ same-length-5 c = search rules
 same-length-6 : tie.Need-shape_of-buckets
 same-length-6 c = search rules
 
-abbrev back-1 : tie.After-fresh-machine → tie.After-versions-1
-back-1 c = c.before.before.before.before.before.before
-
-abbrev back-2 : tie.After-versions-1 → tie.After-clear-arg-1
+abbrev back-2 : tie.After-fresh-machine → tie.After-versions-1
 back-2 c = c.before.before.before.before.before.before
+
+abbrev back-3 : tie.After-versions-1 → tie.After-clear-arg-1
+back-3 c = c.before.before.before.before.before.before
 
 returns-3 : tie.Need-returns
 unfolding open_of
@@ -132,14 +132,14 @@ returns-3 c =
     let rows-cleared = versions-cleared in
     let passed = rows-cleared in
     rw (
-      openable (opened (back-2 (back-1 passed)).before.before),
-      lent (back-2 (back-1 passed)).before,
+      openable (opened (back-3 (back-2 passed)).before.before),
+      lent (back-3 (back-2 passed)).before,
       c.fresh-machine.ensures,
       rows-cleared.clear.ensures,
       versions-cleared.clear-2.ensures,
       buckets-cleared.clear-3.ensures,
       add-one (entered
-          (opened (back-2 (back-1 passed)).before.before).before).args.sizes.versions,
+          (opened (back-3 (back-2 passed)).before.before).before).args.sizes.versions,
     )
 
 pub open_spec : {M : Type 1} → statement M

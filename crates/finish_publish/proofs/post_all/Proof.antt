@@ -38,16 +38,13 @@ add-i c = search rules
 loop-less : tie.Need-loop-i-smaller invariant-loop decreases-loop
 loop-less c = search rules
 
-abbrev back-1 : tie.After-slice_known-in-loop-i-1 invariant-loop decreases-loop → tie.After-struct_known-1 invariant-loop decreases-loop
-back-1 c = c.before.before.before.before.before.before
-
 loop-again : tie.Need-loop-i-preserved invariant-loop decreases-loop
 unfolding posted_all
 loop-again c =
     let posted = c in
     let read = posted in
     let at = read in
-    let a = (entered (back-1 at).before).args in
+    let a = c.args in
     let l = at.loop-i in (
       omega arith,
       posted.post.auto.rows ∙ l.invariant.1,
