@@ -12,12 +12,6 @@ use Rattle.step.proofs.Keeping.{kept-stepped, together}
 use Rattle.step.proofs.step.Statement.{statement}
 use Rattle.step.proofs.step.Tie as tie
 
-abbrev back-1 : tie.After-keeps → tie.After-slice_known-3-1
-back-1 c = c.before.before.before.before.before.before
-
-abbrev start : tie.After-keeps → tie.Start
-start c = (back-1 c).before.before.before
-
 keeps-requires : tie.Need-keeps-requires
 keeps-requires c κs = search rules
 
@@ -45,23 +39,13 @@ same-length-4 c = search rules
 same-length-5 : tie.Need-shape_of-found-then-keeps
 same-length-5 c = search rules
 
-abbrev back-2 : tie.After-with_kept → tie.After-buckets-1
-back-2 c = c.before.before.before.before.before.before
-
-abbrev back-3 : tie.After-buckets-1 → tie.After-step_keeping-arg-then-keeps-4-1
-back-3 c = c.before.before.before.before.before.before
-
-abbrev back-4 : tie.After-step_keeping-arg-then-keeps-4-1 → tie.Then-keeps
-back-4 c = c.before.before.before.before.before.before
-
 returns : tie.Need-returns-then-keeps
 returns c =
     let tables = c in
     let done = tables in
     let parted = done in
     let kept = parted in
-    let a = (start
-    (back-4 (back-3 (back-2 kept))).before).args in
+    let a = c.args in
     let b : Tables = record { rows = a.rows.now; versions = a.versions.now; buckets = a.buckets.now; lists = a.lists.now; found = a.found.now } in
     let q : keeps_of a.s ≡ true = rw (← kept.keeps.ensures) kept.if-keeps.true in
     let whole : kept_in (keeping_of b (record { extent = a.place.extent; others = a.place.others; txn = whole_of parted.parts_of-parts.result }) a.s)
@@ -84,14 +68,11 @@ same-length-8 c = search rules
 same-length-9 : tie.Need-shape_of-lists
 same-length-9 c = search rules
 
-abbrev back-5 : tie.After-slice_known-7-1 → tie.After-step_placing-arg-1
-back-5 c = c.before.before.before.before.before.before
-
 returns-2 : tie.Need-returns
 returns-2 c =
     let done = c in
     let other = done in
-    let a = (start (back-5 other).before.before).args in
+    let a = c.args in
     let e : keeps_of a.s ≡ false = rw (← other.keeps.ensures) other.if-keeps.false in
     let b : Tables = record { rows = a.rows.now; versions = a.versions.now; buckets = a.buckets.now; lists = a.lists.now; found = [] } in
     let placed : in_published _ b ≡ step_of b a.place a.s = done.step_placing.ensures ∙ rw e in
