@@ -44,7 +44,7 @@ loop-again c =
     let posted = c in
     let read = posted in
     let at = read in
-    let a = c.args in
+    let a = at.args in
     let l = at.loop-i in (
       omega arith,
       posted.post.auto.rows ∙ l.invariant.1,

@@ -26,13 +26,16 @@ module _ (c : tie.Start) where
   abbrev lent : Lent
   lent = let a = c.args in record { rows = a.rows.now; versions = a.versions.now; buckets = a.buckets.now; lists = a.lists.now }
 
+abbrev back-1 : tie.Then-log-eq0 → tie.After-shared_slice_known-1
+back-1 c = c.before.before.before.before.before.before
+
 -- ---- an empty log, and the first record of another
 returns : tie.Need-returns-then-log-eq0
 returns c =
     let tables = c in
     let s = tables in
     let empty : length s.args.log.now ≤ 0 = omega (arith, c.if-log-eq0.true) in
-    let u = unread s.args.log.now s.args.report.now (lent s.before.before.before.before.before.before.before) empty in
+    let u = unread s.args.log.now s.args.report.now (lent (back-1 s).before) empty in
     (rw u.0 (left-empty s.args.log.now s.args.report.now empty), sym u.1)
 
 decode-at-requires : tie.Need-decode_at-d-requires
@@ -41,9 +44,12 @@ decode-at-requires c κs = search rules
 enum-known-command : tie.Need-enum_known-command
 enum-known-command c = search rules
 
+abbrev back-2 : tie.After-decode_at-d → tie.After-slice_known-1
+back-2 c = c.before.before.before.before.before.before
+
 module _ (c : tie.After-decode_at-d) where
   abbrev begun : tie.Start
-  begun = c.before.before.before.before.before.before.before.before
+  begun = (back-2 c).before.before
 
   abbrev log : List ℕ
   log = begun.args.log.now
@@ -93,16 +99,19 @@ open-requires c κs = search rules
 number-of-requires : tie.Need-number_of-why-requires
 number-of-requires c κs = search rules
 
+abbrev back-3 : tie.After-number_of-why → tie.After-rows-1
+back-3 c = c.before.before.before.before.before.before
+
 -- ---- what the open answers, and what it leaves
 module _ (c : tie.After-number_of-why) where
   abbrev opened : tie.After-open-called
-  opened = c.before.before.before.before.before.before.before
+  opened = (back-3 c).before
 
   abbrev asked : tie.In-Open
-  asked = c.before.before.before.before.before.before.before.before.before.before.before
+  asked = (back-3 c).before.before.before.before.before
 
   abbrev read : tie.After-decode_at-d
-  read = c.before.before.before.before.before.before.before.before.before.before.before.before
+  read = (back-3 c).before.before.before.before.before.before
 
   abbrev tables : Lent
   tables = lent (begun read)
@@ -246,8 +255,11 @@ same-length-15 c = search rules
 same-length-16 : tie.Need-shape_of-lists
 same-length-16 c = search rules
 
+abbrev back-4 : tie.After-found-2-1 → tie.After-versions-2-1
+back-4 c = c.before.before.before.before.before.before
+
 abbrev gone : tie.After-found-2-1 → tie.After-replay_steps
-gone c = c.before.before.before.before.before.before.before.before.before.before.before
+gone c = (back-4 c).before.before.before.before.before
 
 returns-5 : tie.Need-returns
 returns-5 c =

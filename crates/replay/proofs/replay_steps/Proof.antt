@@ -49,9 +49,12 @@ abbrev decreases-loop : tie.decreases-loop-at
 decreases-loop log report₀ rows₀ versions₀ buckets₀ lists₀ found₀ snapshots₀ rests₀ others₀ extent₀ wrote₀ at₀
     report rows versions buckets lists found snapshots rests others extent wrote at = length log - at
 
+abbrev back-1 : tie.After-no_rest-1 invariant-loop decreases-loop → tie.After-slice_known-5-1 invariant-loop decreases-loop
+back-1 c = c.before.before.before.before.before.before
+
 -- ---- before the loop
 abbrev start : tie.After-no_rest-1 invariant-loop decreases-loop → tie.Start invariant-loop decreases-loop
-start c = c.before.before.before.before.before.before.before.before.before.before.before.before
+start c = (back-1 c).before.before.before.before.before.before
 
 idle-requires : tie.Need-idle-requires invariant-loop decreases-loop
 idle-requires c κs = tt
@@ -80,10 +83,16 @@ loop-holds c =
           s.requires.0 (omega (arith, s.well_formed)) s.requires.1,
     )
 
+abbrev back-2 : tie.In-loop-at invariant-loop decreases-loop → tie.After-sizes-1 invariant-loop decreases-loop
+back-2 c = c.before.before.before.before.before.before
+
+abbrev back-3 : tie.After-sizes-1 invariant-loop decreases-loop → tie.After-slice_known-1 invariant-loop decreases-loop
+back-3 c = c.before.before.before.before.before.before
+
 -- ---- a turn: the words that it begins with
 module _ (c : tie.In-loop-at invariant-loop decreases-loop) where
   abbrev begun : tie.Start invariant-loop decreases-loop
-  begun = c.before.before.before.before.before.before.before.before.before.before.before.before.before.before
+  begun = (back-3 (back-2 c)).before.before
 
   abbrev words : Words
   words =
@@ -107,8 +116,11 @@ stop-malformed-requires c κs = tt
 abbrev unasked : tie.After-slice_known-in_default-1 invariant-loop decreases-loop → tie.After-stop_malformed invariant-loop decreases-loop
 unasked c = c.before.before
 
+abbrev back-4 : tie.After-slice_known-in_default-1 invariant-loop decreases-loop → tie.In-loop-at invariant-loop decreases-loop
+back-4 c = c.before.before.before.before.before.before
+
 abbrev loop-unasked : tie.After-slice_known-in_default-1 invariant-loop decreases-loop → tie.At-loop-at invariant-loop decreases-loop
-loop-unasked c = c.before.before.before.before.before.before.before
+loop-unasked c = (back-4 c).before
 
 same_length : tie.Need-shape_of-report-in_default invariant-loop decreases-loop
 same_length c = (unasked c).stop_malformed.auto.report ∙ (loop-unasked c).loop-at.invariant.0
@@ -147,6 +159,9 @@ place-of-requires c κs = tt
 keeps-requires : tie.Need-keeps-requires invariant-loop decreases-loop
 keeps-requires c κs = tt
 
+abbrev back-5 : tie.After-keeps invariant-loop decreases-loop → tie.After-decode_at-d invariant-loop decreases-loop
+back-5 c = c.before.before.before.before.before.before
+
 -- ---- the step that is asked for, and its place
 module _ (c : tie.After-keeps invariant-loop decreases-loop) where
   abbrev placed : tie.After-place_of-k invariant-loop decreases-loop
@@ -162,10 +177,10 @@ module _ (c : tie.After-keeps invariant-loop decreases-loop) where
   read = c.before.before.before.before.before.before
 
   abbrev turn : tie.In-loop-at invariant-loop decreases-loop
-  turn = c.before.before.before.before.before.before.before
+  turn = (back-5 c).before
 
   abbrev from : tie.At-loop-at invariant-loop decreases-loop
-  from = c.before.before.before.before.before.before.before.before
+  from = (back-5 c).before.before
 
   abbrev place : ℕ
   place = placed.place_of-k.result
@@ -185,18 +200,30 @@ module _ (c : tie.After-keeps invariant-loop decreases-loop) where
   asks : read.decode_at-d.result.command ≡ Ask asked
   asks = told.in-Ask.is
 
+abbrev back-6 : tie.After-rest-1 invariant-loop decreases-loop → tie.After-buckets-1 invariant-loop decreases-loop
+back-6 c = c.before.before.before.before.before.before
+
 -- behind a step that keeps its transaction, and behind one that does not
 abbrev kept_step : tie.After-rest-1 invariant-loop decreases-loop → tie.After-step_keeping-kept invariant-loop decreases-loop
-kept_step c = c.before.before.before.before.before.before.before.before.before.before.before
+kept_step c = (back-6 c).before.before.before.before.before
+
+abbrev back-7 : tie.After-step_keeping-kept invariant-loop decreases-loop → tie.After-parts-then-keeps-2-1 invariant-loop decreases-loop
+back-7 c = c.before.before.before.before.before.before
 
 abbrev kept-keeps : tie.After-step_keeping-kept invariant-loop decreases-loop → tie.After-keeps invariant-loop decreases-loop
-kept-keeps c = c.before.before.before.before.before.before.before.before.before.before
+kept-keeps c = (back-7 c).before.before.before.before
+
+abbrev back-8 : tie.After-snapshot-1 invariant-loop decreases-loop → tie.After-slice_known-else-keeps-1 invariant-loop decreases-loop
+back-8 c = c.before.before.before.before.before.before
 
 abbrev placed-step : tie.After-snapshot-1 invariant-loop decreases-loop → tie.After-step_placing-u invariant-loop decreases-loop
-placed-step c = c.before.before.before.before.before.before.before.before
+placed-step c = (back-8 c).before.before
+
+abbrev back-9 : tie.After-step_placing-u invariant-loop decreases-loop → tie.After-parts-else-keeps-1 invariant-loop decreases-loop
+back-9 c = c.before.before.before.before.before.before
 
 abbrev placed-keeps : tie.After-step_placing-u invariant-loop decreases-loop → tie.After-keeps invariant-loop decreases-loop
-placed-keeps c = c.before.before.before.before.before.before.before.before
+placed-keeps c = (back-9 c).before.before
 
 mul-number : tie.Need-offset_bounds-others-k invariant-loop decreases-loop
 mul-number c = omega (arith, below (found c.before))

@@ -12,6 +12,12 @@ use Rattle.step.proofs.Keeping.{kept-stepped, together}
 use Rattle.step.proofs.step.Statement.{statement}
 use Rattle.step.proofs.step.Tie as tie
 
+abbrev back-1 : tie.After-keeps → tie.After-slice_known-3-1
+back-1 c = c.before.before.before.before.before.before
+
+abbrev start : tie.After-keeps → tie.Start
+start c = (back-1 c).before.before.before
+
 keeps-requires : tie.Need-keeps-requires
 keeps-requires c κs = search rules
 
@@ -45,7 +51,7 @@ returns c =
     let done = tables in
     let parted = done in
     let kept = parted in
-    let a = c.args in
+    let a = kept.args in
     let b : Tables = record { rows = a.rows.now; versions = a.versions.now; buckets = a.buckets.now; lists = a.lists.now; found = a.found.now } in
     let q : keeps_of a.s ≡ true = rw (← kept.keeps.ensures) kept.if-keeps.true in
     let whole : kept_in (keeping_of b (record { extent = a.place.extent; others = a.place.others; txn = whole_of parted.parts_of-parts.result }) a.s)
@@ -72,7 +78,7 @@ returns-2 : tie.Need-returns
 returns-2 c =
     let done = c in
     let other = done in
-    let a = c.args in
+    let a = other.args in
     let e : keeps_of a.s ≡ false = rw (← other.keeps.ensures) other.if-keeps.false in
     let b : Tables = record { rows = a.rows.now; versions = a.versions.now; buckets = a.buckets.now; lists = a.lists.now; found = [] } in
     let placed : in_published _ b ≡ step_of b a.place a.s = done.step_placing.ensures ∙ rw e in
