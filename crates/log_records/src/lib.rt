@@ -9,7 +9,7 @@ ghost use Rattle.log_records.specs.Records.{length_of, command_in, malformed_at,
 use base_protocol::{Sizes, Step};
 
 // What a record asks for: a store of these sizes with this clock, or a step of the store; or it cannot be read.
-#[derive(Drop)]
+#[derive(Clone, Copy)]
 pub enum Command {
     Open { sizes: Sizes, clock: u64 },
     Ask(Step),
@@ -17,7 +17,7 @@ pub enum Command {
 }
 
 // A record's command, and where the next record begins.
-#[derive(Drop)]
+#[derive(Clone, Copy)]
 pub struct Decoded {
     pub command: Command,
     pub next: usize,
@@ -168,14 +168,14 @@ fn record_at(log: &[u8], at: usize) -> Decoded
 }
 
 // The log reader keeps the caller's bytes and its place.
-#[derive(Drop)]
+#[derive(Clone, Copy)]
 pub struct Reader<'a> {
     pub log: &'a [u8],
     pub at: usize,
 }
 
 // What a reader's record asks for, and the reader moved past that record.
-#[derive(Drop)]
+#[derive(Clone, Copy)]
 pub struct Taken<'a> {
     pub command: Command,
     pub reader: Reader<'a>,

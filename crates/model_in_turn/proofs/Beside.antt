@@ -102,7 +102,7 @@ module _ (z : Sizes) (c₀ : ℕ) where
 
   -- a step of the one at b that ends nobody, with its entry
   module _ (s s' : Store) (es : List Entry) (e : Entry) {b : ℕ} (m : Move s b s') (h : SideBySide s es)
-      (end_None : end_in e.what ≡ [])
+      (end-none : end_in e.what ≡ [])
       (who-b : (i : ℕ) → i ≢ b → Live (s.txns i) → e.who ≢ (s.txns i).number)
       (who-old : e.who < s'.clock)
       (turn-free : (n : ℕ) → Among n (end_order es) → eqb e.who n && not (is_publish e.what) ≡ false)
@@ -126,7 +126,7 @@ module _ (z : Sizes) (c₀ : ℕ) where
     ]
 
     order_same : end_order (es ++ (e ∷ [])) ≡ end_order es
-    order_same = order-more es e ∙ (ap (λ l. end_order es ++ l) end_None ∙ append-nil (end_order es))
+    order_same = order-more es e ∙ (ap (λ l. end_order es ++ l) end-none ∙ append-nil (end_order es))
 
     pub beside-move : SideBySide s' (es ++ (e ∷ []))
     beside-move = record {

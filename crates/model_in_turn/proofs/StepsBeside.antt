@@ -37,8 +37,8 @@ module _ (z : Sizes) (c₀ : ℕ) where
       → ((x : Local) (m : ℕ → Content) → Follow s (at s t) t (done_by t es) x m
       → (y : Local) × Followed (step s a).store (at s t) t (done_by t es ++ (entry_of s a ∷ [])) y)
       → SideBySide z c₀ (step s a).store (es ++ (entry_of s a ∷ []))
-  beside-named s es h a t m who-is end_None no-publish lives few own =
-      beside-move z c₀ s (step s a).store es (entry_of s a) m h end_None
+  beside-named s es h a t m who-is end-none no-publish lives few own =
+      beside-move z c₀ s (step s a).store es (entry_of s a) m h end-none
       (λ i d l c. d (h.good.numbers.distinct i (at s t) l (sym c ∙ (who-is ∙ sym number-b))))
       (omega (arith, who-is, number-b, h.good.numbers.below (at s t), clock-move s _ m))
       (λ n o. rw (who-is, ne_eqb t n (λ e. omega (arith, (h.gone n o).1 (at s t) live-b (number-b ∙ e)))) refl)

@@ -117,8 +117,8 @@ module _ {b : Tables} {z : Extent} {o : Others} {ss : List Snapshot} {rs : List 
         → Turned from s k kept.answer (record { sizes = z.sizes; clock = z.clock; used = kept.used })
         (record { numbers = o.numbers; active = set o.active k a; prepared = set o.prepared k p }) ss (set rs k kept.rest) after
     keeping kept after a p q em ea ep =
-        let found_Here = place (whole_of parts) in
-        let step : kept_in (keeping_of b found_Here s) ≡ kept_in (step_of b found_Here s) = rw q in
+        let found-here = place (whole_of parts) in
+        let step : kept_in (keeping_of b found-here s) ≡ kept_in (step_of b found-here s) = rw q in
         let r = kept.rest in
         let t = (with_kept kept parts z.clock).txn in
         let back : wholes o.numbers ss (set rs k r) ≡ set from.txns k t =
@@ -126,7 +126,7 @@ module _ {b : Tables} {z : Extent} {o : Others} {ss : List Snapshot} {rs : List 
         ∙ rw (set-get_or o.numbers k 0, set-get_or ss k ds)) in
         record {
           txn = t;
-          moved = moved-from _ (together (step_of b found_Here s) (whole_of parts) (em ∙ step) refl refl (kept-stepped b found_Here s q));
+          moved = moved-from _ (together (step_of b found-here s) (whole_of parts) (em ∙ step) refl refl (kept-stepped b found-here s q));
           back = back;
           besides = ap (λ (ns : List ℕ). others_of ns (set o.active k a) (set o.prepared k p)) (sym (set-get_or o.numbers k 0))
               ∙ others-after o.numbers o.active o.prepared from.txns k t a p f.besides

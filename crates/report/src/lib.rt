@@ -14,7 +14,7 @@ use base_protocol::{Answer, MALFORMED, Step, Verdict};
 use report_answers::{Numbers, numbers_of};
 
 // Where the next line begins, or that the line does not fit.
-#[derive(Drop)]
+#[derive(Clone, Copy)]
 pub enum Wrote {
     Next(usize),
     Full,
