@@ -37,7 +37,8 @@ use Rattle.step.specs.Steps.{Moved, publish_step, published_from, in_published, 
 use Rattle.step.specs.Words.{Words, view, txn_at, place_for, Sized}
 use Rattle.step_bridge.proofs.Places.{standing, live_at}
 use Rattle.step_bridge.proofs.Placed.{unmoved}
-use Rattle.step_bridge.proofs.Same.{two-held, SameAt, SameAs, Same, refused-same, by-place-as}
+use Rattle.step_bridge.proofs.Same.{two-held, SameAt, SameAs, Same, refused-same}
+use Rattle.step_bridge.proofs.SameLaws.{by-place-as}
 use Rattle.step_bridge.proofs.Shaped.{Shaped, shaped}
 use Rattle.step_bridge.proofs.Tabled.{part}
 use Rattle.step_bridge.proofs.Freeing.{freed_at, clear-all, clear-length}

@@ -46,7 +46,8 @@ use Rattle.step.specs.Words.{Words, view, txn_at, SizedTxn, Sized}
 use Rattle.step_bridge.proofs.Shaped.{Shaped, shaped, count-pos}
 use Rattle.step_bridge.proofs.Places.{standing, sized-at, live_at}
 use Rattle.step_bridge.proofs.Placed.{idle-view, txns-set, sized_set}
-use Rattle.step_bridge.proofs.Same.{same_store, SameAt, Same, refused-same, by_place}
+use Rattle.step_bridge.proofs.Same.{same_store, SameAt, Same, refused-same}
+use Rattle.step_bridge.proofs.SameLaws.{by_place}
 use Rattle.step_bridge.proofs.Listing.{listed-all}
 use Rattle.step_bridge.proofs.Judging.{needs-length, read-in}
 use Rattle.step_bridge.proofs.Tabled.{InRange}

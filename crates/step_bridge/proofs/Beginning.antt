@@ -36,7 +36,8 @@ use Rattle.step.specs.Words.{Words, view, txn_at, others_in, place_for, moved_by
 use Rattle.txn_places.proofs.Laws.{default-any}
 use Rattle.step_bridge.proofs.Places.{standing, number_at, there, nowhere, not_there, sized-at}
 use Rattle.step_bridge.proofs.Placed.{txns-set, sized_set}
-use Rattle.step_bridge.proofs.Same.{same_store, same_from, SameAt, Same, refused-same}
+use Rattle.step_bridge.proofs.Same.{same_store, SameAt, Same, refused-same}
+use Rattle.step_bridge.proofs.SameLaws.{same_from}
 use Rattle.step_bridge.proofs.Starting.{nonzero, pick-nonzero, live-nonzero, pick_all, pick_less, keep-all}
 use Rattle.model.proofs.Tests.{place-number}
 

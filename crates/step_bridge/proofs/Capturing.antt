@@ -45,7 +45,8 @@ use Rattle.step.specs.Words.{Words, view, txn_at, SizedTxn, Sized}
 use Rattle.step_bridge.proofs.Shaped.{Shaped}
 use Rattle.step_bridge.proofs.Places.{standing, sized-at}
 use Rattle.step_bridge.proofs.Placed.{slot-view, txns-set, sized_set}
-use Rattle.step_bridge.proofs.Same.{same_store, SameAt, Same, refused-same, later-tests, by_place}
+use Rattle.step_bridge.proofs.Same.{same_store, SameAt, Same, refused-same, later-tests}
+use Rattle.step_bridge.proofs.SameLaws.{by_place}
 use Rattle.step_bridge.proofs.Tabled.{part-update, part-other}
 use Rattle.step_bridge.proofs.Judging.{reads-length, taken-same}
 

@@ -39,7 +39,8 @@ use Rattle.step.specs.Words.{Words, view, txn_at, SizedTxn, Sized}
 use Rattle.step_bridge.proofs.Shaped.{Shaped}
 use Rattle.step_bridge.proofs.Places.{standing, live_at, sized-at}
 use Rattle.step_bridge.proofs.Placed.{slot-view, txns-set, sized_set}
-use Rattle.step_bridge.proofs.Same.{same_store, SameAt, Same, refused-same, by_place}
+use Rattle.step_bridge.proofs.Same.{same_store, SameAt, Same, refused-same}
+use Rattle.step_bridge.proofs.SameLaws.{by_place}
 use Rattle.step_bridge.proofs.Capturing.{holder-set, stamps-kept}
 
 -- a run of stores reads as what was stored

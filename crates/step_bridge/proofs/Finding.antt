@@ -32,7 +32,8 @@ use Rattle.step.specs.Words.{Words, view, txn_at, extent_in, Sized}
 use Rattle.step_bridge.proofs.Shaped.{Shaped}
 use Rattle.step_bridge.proofs.Places.{standing, sized-at}
 use Rattle.step_bridge.proofs.Placed.{idle-view, txns-set, sized_set}
-use Rattle.step_bridge.proofs.Same.{same_store, SameAt, Same, refused-same, by_place}
+use Rattle.step_bridge.proofs.Same.{same_store, SameAt, Same, refused-same}
+use Rattle.step_bridge.proofs.SameLaws.{by_place}
 
 module _ (w : Words) (z : Sized w) (g : Shaped w) where
   -- the tables show the model's chains

@@ -36,7 +36,8 @@ use Rattle.step.specs.Steps.{with_clock, stays}
 use Rattle.step.specs.Words.{Words, view, txn_at, Sized}
 use Rattle.step_bridge.proofs.Shaped.{Shaped}
 use Rattle.step_bridge.proofs.Places.{standing, sized-at, live_at}
-use Rattle.step_bridge.proofs.Same.{SameAt, Same, unmoved-at, refused-same, by_place}
+use Rattle.step_bridge.proofs.Same.{SameAt, Same, unmoved-at, refused-same}
+use Rattle.step_bridge.proofs.SameLaws.{by_place}
 use Rattle.step_bridge.proofs.Listing.{listed-all, some_same}
 
 -- the index reads as the model has them

@@ -1,6 +1,7 @@
 pub mod Places
 pub mod Placed
 pub mod Same
+pub mod SameLaws
 pub mod Writing
 pub mod Tabled
 pub mod Listing

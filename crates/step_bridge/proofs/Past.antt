@@ -18,7 +18,6 @@ use Rattle.base_protocol.specs.declared.Sizes.{Sizes}
 use Rattle.base_protocol.specs.declared.Step.{Step}
 use Rattle.base_protocol.specs.declared.Step.TheVariants as ask
 use Rattle.table.specs.Fields.{row_words, bucket_words}
-use Rattle.table.specs.Lists.{writes}
 use Rattle.txn.specs.View.{phase_view}
 use Rattle.txn.specs.Methods.{idle_of}
 use Rattle.txn.specs.declared.Transaction.{Transaction}

@@ -37,7 +37,8 @@ use Rattle.step.specs.Words.{Words, view, txn_at, others_in, extent_in, Sized}
 use Rattle.step_bridge.proofs.Shaped.{Shaped}
 use Rattle.step_bridge.proofs.Places.{standing, live_at, sized-at}
 use Rattle.step_bridge.proofs.Placed.{txns-set, sized_set}
-use Rattle.step_bridge.proofs.Same.{same_store, SameAt, Same, refused-same, later-tests, by_place}
+use Rattle.step_bridge.proofs.Same.{same_store, SameAt, Same, refused-same, later-tests}
+use Rattle.step_bridge.proofs.SameLaws.{by_place}
 use Rattle.step_bridge.proofs.Listing.{listed-all, some_same}
 use Rattle.step_bridge.proofs.Tabled.{set_all, set_other, set-length}
 use Rattle.step_bridge.proofs.Telling.{Tells, tells-kept}

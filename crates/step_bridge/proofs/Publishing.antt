@@ -37,7 +37,8 @@ use Rattle.step.specs.Steps.{publish_step, published_from, in_published}
 use Rattle.step.specs.Words.{Words, view, txn_at, extent_in, Sized}
 use Rattle.step_bridge.proofs.Shaped.{Shaped, shaped}
 use Rattle.step_bridge.proofs.Places.{standing, sized-at, live_at}
-use Rattle.step_bridge.proofs.Same.{two-held, SameAt, Same, refused-same, later-tests, by_place}
+use Rattle.step_bridge.proofs.Same.{two-held, SameAt, Same, refused-same, later-tests}
+use Rattle.step_bridge.proofs.SameLaws.{by_place}
 use Rattle.step_bridge.proofs.Listing.{listed-all}
 use Rattle.step_bridge.proofs.Tabled.{part, set_all, set_other, set-length}
 use Rattle.step_bridge.proofs.Telling.{Tells, tells-kept}

@@ -43,7 +43,8 @@ use Rattle.step.specs.Words.{Words, view, txn_at, Sized}
 use Rattle.step_bridge.proofs.Shaped.{Shaped}
 use Rattle.step_bridge.proofs.Places.{standing, sized-at, live_at}
 use Rattle.step_bridge.proofs.Placed.{txns-set, sized_set}
-use Rattle.step_bridge.proofs.Same.{same_store, SameAt, Same, refused-same, later-tests, by_place}
+use Rattle.step_bridge.proofs.Same.{same_store, SameAt, Same, refused-same, later-tests}
+use Rattle.step_bridge.proofs.SameLaws.{by_place}
 use Rattle.step_bridge.proofs.Tabled.{part, part-update, part-other, InRange}
 use Rattle.step_bridge.proofs.Telling.{Tells, tells-kept}
 use Rattle.step_bridge.proofs.Writing.{sized-phase}

@@ -17,7 +17,6 @@ use Rattle.base_numbers.proofs.Laws.{lesser-by}
 use Rattle.base_lists.specs.Lists.{pick, least}
 use Rattle.base_lists.proofs.TableLaws.{cond-elim}
 use Rattle.base_lists.proofs.ListLaws.{pick-few}
-use Rattle.model.specs.Seeing.{active}
 use Rattle.txn_begin.specs.Begin.{keep_active, keep_all}
 use Rattle.txn_begin.specs.declared.Kept.{Kept}
 use Rattle.txn_places.specs.Places.{live_from}

@@ -36,7 +36,8 @@ use Rattle.step.specs.Steps.{with_clock, stays, in_lists}
 use Rattle.step.specs.Words.{Words, view, txn_at, SizedTxn, Sized}
 use Rattle.step_bridge.proofs.Places.{standing, sized-at}
 use Rattle.step_bridge.proofs.Placed.{slot-view, txns-set, sized_set}
-use Rattle.step_bridge.proofs.Same.{same_store, SameAt, Same, refused-same, by_place}
+use Rattle.step_bridge.proofs.Same.{same_store, SameAt, Same, refused-same}
+use Rattle.step_bridge.proofs.SameLaws.{by_place}
 
 -- a record whose lists stay: the counts are as they were
 pub sized-phase : (p : ℕ) (t : Transaction) (ph : _) → SizedTxn p t → SizedTxn p (with_phase t ph)
