@@ -23,10 +23,10 @@ returns-then-link_at-ne0 c =
 -- the link behind the list's last row names none
 pub loop-list-preserved : goal.loop-list-preserved
 loop-list-preserved c = (
-      omega arith,
-      every-next _ c.loop-list.list c.loop-list.invariant.1
-          (rw (← c.requires.1.kept c.loop-list.list (omega arith), ← c.link_at.ensures) (eq-eqb c.link_at.result 0 (omega arith))),
-    )
+  omega arith,
+  every-next _ c.loop-list.list c.loop-list.invariant.1
+      (rw (← c.requires.1.kept c.loop-list.list (omega arith), ← c.link_at.ensures) (eq-eqb c.link_at.result 0 (omega arith))),
+)
 
 pub returns : goal.returns
 returns c = every-done _ c.loop-list.list c.args.row_count (omega arith) (omega arith) c.loop-list.invariant.1
