@@ -1,26 +1,18 @@
--- One more below the last number; a sum against a limit; the lesser of two by a test.
+-- One more below the last number; what is not within a limit; the lesser of two by a test.
 -- Assumes nothing.
-use Prim.Native.Nat.{ℕ, suc, ◌+◌, ◌-◌, ◌<◌, ◌≤◌, min}
+use Prim.Native.Nat.{ℕ, suc, ◌<◌, min}
 use mathlib.Core.Path.{◌≡◌, refl, sym}
 use mathlib.Core.Bool.{Bool, true, false, cond, not}
 use native.Mathlib.Numerals.{add-one}
 use native.Mathlib.Omega.{arith}
 use lib.Dec.{leb, ltb}
-use borrow.Author.Tests.{leb-true, leb-false, le-leb, lt-leb, lt-ltb, le-ltb, ltb-true, ltb-false}
+use borrow.Author.Tests.{leb-true, leb-false, lt-ltb, le-ltb, ltb-true, ltb-false}
 use Rattle.base_limits.specs.Limits.{last_number}
 use Rattle.base_numbers.specs.Numbers.{one_more}
 
 pub one_up : (n : ℕ) → n < last_number → one_more n ≡ suc n
 unfolding one_more
 one_up n h = rw (lt-ltb n last_number h, add-one n)
-
--- a sum within a limit, by what is left of the limit
-pub sum-leb : (a b limit : ℕ) → a ≤ limit → leb b (limit - a) ≡ leb (a + b) limit
-sum-leb a b limit h = by (leb b (limit - a)) refl
-  where
-    by : (t : Bool) → leb b (limit - a) ≡ t → t ≡ leb (a + b) limit
-    by true e = sym (le-leb (a + b) limit (omega (arith, leb-true b (limit - a) e)))
-    by false e = sym (lt-leb (a + b) limit (omega (arith, leb-false b (limit - a) e)))
 
 -- not within a limit is above it
 pub above : (n limit : ℕ) → not (leb n limit) ≡ ltb limit n

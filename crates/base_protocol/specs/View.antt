@@ -1,5 +1,5 @@
 -- The code's sizes, steps and answers as the model has them.
-use Rattle.std.specs.Prelude.{length}
+use Rattle.std.specs.Prelude.{ℕ, length}
 use Rattle.model.specs.Store as store
 use Rattle.model.specs.Refusals as model
 use Rattle.model.specs.Verdict as judged
@@ -9,6 +9,8 @@ use Rattle.base_protocol.specs.declared.Step.{Step}
 use Rattle.base_protocol.specs.declared.Step.TheVariants as ask
 use Rattle.base_protocol.specs.declared.Verdict.{Verdict}
 use Rattle.base_protocol.specs.declared.Verdict.TheVariants as verdict
+use Rattle.base_protocol.specs.declared.Refusal.{Refusal}
+use Rattle.base_protocol.specs.declared.Refusal.TheVariants as why
 use Rattle.base_protocol.specs.declared.Answer.{Answer}
 use Rattle.base_protocol.specs.declared.Answer.TheVariants as tell
 
@@ -38,7 +40,51 @@ verdict_told (judged.Bucket b captured present) = verdict.Bucket b captured pres
 verdict_told (judged.Row r p) = verdict.Row r p
 verdict_told judged.Mark = verdict.Mark
 
--- how an answer is told: of found rows how many they are, of a refusal its number
+-- how a refusal is told
+abbrev pub refusal_told : model.Refusal → Refusal
+refusal_told model.WrongSize = why.WrongSize
+refusal_told model.NoNumbers = why.NoNumbers
+refusal_told model.Full = why.Full
+refusal_told model.NoSuch = why.NoSuch
+refusal_told model.WrongPhase = why.WrongPhase
+refusal_told model.NoRow = why.NoRow
+refusal_told model.Taken = why.Taken
+refusal_told model.Stale = why.Stale
+refusal_told model.Marked = why.Marked
+refusal_told model.ManyReads = why.ManyReads
+refusal_told model.NoRoom = why.NoRoom
+refusal_told model.ManyRecords = why.ManyRecords
+refusal_told model.ManyWrites = why.ManyWrites
+refusal_told model.NoVersions = why.NoVersions
+refusal_told model.Conflict = why.Conflict
+refusal_told model.Malformed = why.Malformed
+refusal_told model.WrongShape = why.WrongShape
+
+-- the refusal that is told
+abbrev pub refusal_view : Refusal → model.Refusal
+refusal_view why.WrongSize = model.WrongSize
+refusal_view why.NoNumbers = model.NoNumbers
+refusal_view why.Full = model.Full
+refusal_view why.NoSuch = model.NoSuch
+refusal_view why.WrongPhase = model.WrongPhase
+refusal_view why.NoRow = model.NoRow
+refusal_view why.Taken = model.Taken
+refusal_view why.Stale = model.Stale
+refusal_view why.Marked = model.Marked
+refusal_view why.ManyReads = model.ManyReads
+refusal_view why.NoRoom = model.NoRoom
+refusal_view why.ManyRecords = model.ManyRecords
+refusal_view why.ManyWrites = model.ManyWrites
+refusal_view why.NoVersions = model.NoVersions
+refusal_view why.Conflict = model.Conflict
+refusal_view why.Malformed = model.Malformed
+refusal_view why.WrongShape = model.WrongShape
+
+-- document 01's number for a refusal as the code has it
+abbrev pub number_told : Refusal → ℕ
+number_told r = model.refusal_number (refusal_view r)
+
+-- how an answer is told: of found rows how many they are
 abbrev pub told : machine.Answer → Answer
 told machine.Done = tell.Done
 told (machine.Number n) = tell.Number n
@@ -46,4 +92,4 @@ told (machine.Stamp n) = tell.Stamp n
 told (machine.Count n) = tell.Count n
 told (machine.Rows rs) = tell.Rows (length rs)
 told (machine.Judged v) = tell.Judged (verdict_told v)
-told (machine.Refused r) = tell.Refused (model.refusal_number r)
+told (machine.Refused r) = tell.Refused (refusal_told r)

@@ -1,6 +1,9 @@
 // What a store is asked for, and what it answers.
 #![tactic(auto)]
 
+ghost use Rattle.std.specs.Prelude.{◌≡◌};
+ghost use Rattle.base_protocol.specs.View.{number_told};
+
 // The sizes that a store is opened with.
 #[derive(Clone, Copy)]
 pub struct Sizes {
@@ -78,7 +81,57 @@ pub enum Verdict {
     Mark,
 }
 
-// What a step answers. The rows that were found stand in the lent list; a refusal carries its number.
+// Why a step is refused. `Stale` and `Marked` have one number.
+#[derive(Clone, Copy, PartialEq, Eq)]
+pub enum Refusal {
+    WrongSize,
+    NoNumbers,
+    Full,
+    NoSuch,
+    WrongPhase,
+    NoRow,
+    Taken,
+    Stale,
+    Marked,
+    ManyReads,
+    NoRoom,
+    ManyRecords,
+    ManyWrites,
+    NoVersions,
+    Conflict,
+    Malformed,
+    WrongShape,
+}
+
+// Document 01's number.
+impl From<Refusal> for u64 {
+    ghost from_gives = { λ why n. n ≡ number_told why };
+
+    fn from(why: Refusal) -> Self {
+        match why {
+            Refusal::WrongSize => 1,
+            Refusal::NoNumbers => 2,
+            Refusal::Full => 3,
+            Refusal::NoSuch => 4,
+            Refusal::WrongPhase => 5,
+            Refusal::NoRow => 6,
+            Refusal::Taken => 7,
+            Refusal::Stale => 8,
+            Refusal::Marked => 8,
+            Refusal::ManyReads => 9,
+            Refusal::NoRoom => 10,
+            Refusal::ManyRecords => 11,
+            Refusal::ManyWrites => 12,
+            Refusal::NoVersions => 13,
+            Refusal::Conflict => 14,
+            Refusal::Malformed => 15,
+            Refusal::WrongShape => 16,
+        }
+    }
+}
+
+// What a step answers. The rows that were found stand in the lent list.
+// Stays one enum and no Result: `told` of specs/View tells each answer of the model, a refusal among them, and theorems under it may not change.
 #[derive(Clone, Copy)]
 pub enum Answer {
     Done,
@@ -87,40 +140,5 @@ pub enum Answer {
     Count(u64),
     Rows(u64),
     Judged(Verdict),
-    Refused(u64),
+    Refused(Refusal),
 }
-
-// The numbers of the refusals.
-pub const WRONG_SIZE: u64 = 1;
-
-pub const NO_NUMBERS: u64 = 2;
-
-pub const FULL: u64 = 3;
-
-pub const NO_SUCH: u64 = 4;
-
-pub const WRONG_PHASE: u64 = 5;
-
-pub const NO_ROW: u64 = 6;
-
-pub const TAKEN: u64 = 7;
-
-pub const STALE: u64 = 8;
-
-pub const MARKED: u64 = 8;
-
-pub const MANY_READS: u64 = 9;
-
-pub const NO_ROOM: u64 = 10;
-
-pub const MANY_RECORDS: u64 = 11;
-
-pub const MANY_WRITES: u64 = 12;
-
-pub const NO_VERSIONS: u64 = 13;
-
-pub const CONFLICT: u64 = 14;
-
-pub const MALFORMED: u64 = 15;
-
-pub const WRONG_SHAPE: u64 = 16;

@@ -4,10 +4,6 @@ use Rattle.std.proofs.lemmas.Bool.Decides.{nat_tests}
 use Rattle.base_numbers.specs.Numbers.{one_more}
 use Rattle.base_numbers.proofs.one_more.Goals as goal
 
-pub returns-then-x-lt-LAST_NUMBER : goal.returns-then-x-lt-LAST_NUMBER
-unfolding one_more
-returns-then-x-lt-LAST_NUMBER c = grind (arith, nat_tests)
-
 pub returns : goal.returns
 unfolding one_more
 returns c = grind (arith, nat_tests)
