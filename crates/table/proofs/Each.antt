@@ -1,7 +1,7 @@
 -- A field set or cleared at each entry that a list names, or at each below a count: how that goes on by one; and what is left of the first n of a list.
 -- Assumes nothing.
 use Prim.Native.Nat.{ℕ, ◌+◌, ◌<◌, ◌≤◌, min}
-use mathlib.Core.Path.{◌≡◌, refl, ap, ◌∙◌}
+use mathlib.Core.Path.{◌≡◌, refl}
 use mathlib.Core.List.{List, [], ◌∷◌}
 use native.Mathlib.Numerals.{add-one}
 use native.Mathlib.Omega.{arith}
@@ -39,7 +39,7 @@ module _ (w k v : ℕ) (xs : List ℕ) where
   unfolding clear_fields
   clear_none l e = rw e
 
--- every entry below a count: none yet, one more, and all
+-- every entry below a count: none yet, and one more
 module _ (w k v : ℕ) (xs : List ℕ) where
   pub every-none : xs ≡ clear_every w k xs 0 v
   unfolding clear_every
@@ -48,6 +48,3 @@ module _ (w k v : ℕ) (xs : List ℕ) where
   pub every-next : (ys zs : List ℕ) (i : ℕ) → ys ≡ clear_every w k xs i v → zs ≡ clear_field w k ys i v → zs ≡ clear_every w k xs (i + 1) v
   unfolding clear_every
   every-next ys zs i e f = rw (add-one i, ← e) f
-
-  pub every-done : (ys : List ℕ) (i n : ℕ) → i ≤ n → n ≤ i → ys ≡ clear_every w k xs i v → ys ≡ clear_every w k xs n v
-  every-done ys i n l h e = let d : i ≡ n = omega arith in e ∙ ap (λ (c : ℕ). clear_every w k xs c v) d

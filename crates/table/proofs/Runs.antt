@@ -5,7 +5,7 @@ use mathlib.Core.Path.{◌≡◌, refl, ◌∙◌}
 use mathlib.Core.Logic.{inr}
 use mathlib.Core.List.{List, [], ◌∷◌, ◌++◌}
 use native.Mathlib.Nat.{add-zero, zero-add}
-use native.Mathlib.Numerals.{add-one, add-two, add-three}
+use native.Mathlib.Numerals.{add-one}
 use native.Mathlib.Omega.{arith}
 use lib.ListN.{length, get_or, set, take, drop}
 use lib.Seq.{sets, take-suc, take_at, sets-eq}
@@ -32,16 +32,3 @@ sets_behind xs vs i h = sets-other xs 0 vs i (inr (omega arith))
 -- one more of a front part
 pub front-next : (xs : List ℕ) (i : ℕ) → i < length xs → take (i + 1) xs ≡ take i xs ++ (get_or xs i 0 ∷ [])
 front-next xs i h = rw (add-one) (take-suc xs i 0 h)
-
--- an entry stored word by word
-pub two-stored : (xs : List ℕ) (p q a b : ℕ) (ys zs : List ℕ) → q ≡ p → ys ≡ set xs q a → zs ≡ set ys (q + 1) b → zs ≡ sets xs p (a ∷ b ∷ [])
-two-stored xs p q a b ys zs at e₁ e₂ = rw (e₂, e₁, add-one, at)
-
-pub three-stored : (xs : List ℕ) (p q a b c : ℕ) (ys zs us : List ℕ) → q ≡ p → ys ≡ set xs q a → zs ≡ set ys (q + 1) b → us ≡ set zs (q + 2) c
-    → us ≡ sets xs p (a ∷ b ∷ c ∷ [])
-three-stored xs p q a b c ys zs us at e₁ e₂ e₃ = rw (e₃, e₂, e₁, add-one, add-two, at)
-
-pub four-stored : (xs : List ℕ) (p q a b c d : ℕ) (ys zs us vs : List ℕ) → q ≡ p → ys ≡ set xs q a → zs ≡ set ys (q + 1) b → us ≡ set zs (q + 2) c
-    → vs ≡ set us (q + 3) d
-    → vs ≡ sets xs p (a ∷ b ∷ c ∷ d ∷ [])
-four-stored xs p q a b c d ys zs us vs at e₁ e₂ e₃ e₄ = rw (e₄, e₃, e₂, e₁, add-one, add-two, add-three, at)

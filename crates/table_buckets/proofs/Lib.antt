@@ -6,3 +6,4 @@ pub mod Checks
 pub mod Answers
 pub mod Indexed
 pub mod Upstream
+pub mod Placing

@@ -9,11 +9,10 @@ use native.Mathlib.Omega.{arith}
 use borrow.Author.Tests.{eqb-false, ltb-true, leb-true, lt-ltb, le-leb}
 use lib.Dec.{eqb, leb, ltb}
 use lib.ListN.{length}
+use Rattle.std.specs.Prelude.{Option, Some, None}
 use Rattle.base_lists.proofs.ListLaws.{and_l, and_r}
 use Rattle.table.specs.Fields.{version_words, xmin_of, xmax_of, next_of}
 use Rattle.table_chain.specs.declared.Snapshot.{Snapshot}
-use Rattle.table_chain.specs.declared.Pointer.{Pointer}
-use Rattle.table_chain.specs.declared.Pointer.TheVariants.{At, Nothing}
 use Rattle.table_chain.specs.Chain.{active_of, visible_to, step_from, walk_for, walk_from, known, first_visible}
 
 -- the first branch of a test may use that the test holds
@@ -47,7 +46,7 @@ module _ (versions active : List ℕ) (xmax : ℕ) where
       (λ q l. steps-enough k q q (omega arith) (omega arith))
 
 -- none is no pointer
-none-is-none : (q : ℕ) → ◌≡◌ {A = Pointer} Nothing (At q) → ⊥
+none-is-none : (q : ℕ) → ◌≡◌ {A = Option ℕ} None (Some q) → ⊥
 none-is-none q e = let z : ◌≡◌ {A = ℕ} 0 1 = cc in omega arith
 
 -- what a walk finds from a pointer below a known one is what it finds there
@@ -62,7 +61,7 @@ module _ (versions : List ℕ) (used : ℕ) (s : Snapshot) where
   -- one step, by the outcome of each test
   step_by : (p : ℕ) (k z v f : Bool) → known versions used p ≡ k → eqb p 0 ≡ z → visible_to (active_of s) s.xmax (xmin_of versions p) (xmax_of versions p)
       ≡ v → ltb (next_of versions p) p ≡ f
-      → first_visible versions used s p ≡ cond (k && not z) (cond v (At p) (cond f (first_visible versions used s (next_of versions p)) Nothing)) Nothing
+      → first_visible versions used s p ≡ cond (k && not z) (cond v (Some p) (cond f (first_visible versions used s (next_of versions p)) None)) None
   unfolding first_visible step_from
   step_by p false z v f ek ez ev ef = rw ek
   step_by p true true v f ek ez ev ef = rw (ek, walk_step, ez)
@@ -72,9 +71,9 @@ module _ (versions : List ℕ) (used : ℕ) (s : Snapshot) where
 
   -- `first_visible` unrolled: an unknown pointer or 0 gives none, then the version, then what the next pointer gives
   pub first-visible-step : (p : ℕ) → first_visible versions used s p ≡ cond (known versions used p && not (eqb p 0))
-      (cond (visible_to (active_of s) s.xmax (xmin_of versions p) (xmax_of versions p)) (At p)
-      (cond (ltb (next_of versions p) p) (first_visible versions used s (next_of versions p)) Nothing))
-      Nothing
+      (cond (visible_to (active_of s) s.xmax (xmin_of versions p) (xmax_of versions p)) (Some p)
+      (cond (ltb (next_of versions p) p) (first_visible versions used s (next_of versions p)) None))
+      None
   first-visible-step p = step_by p (known versions used p) (eqb p 0) _ (ltb (next_of versions p) p) refl refl refl refl
 
   -- an answered pointer is not 0, it is known, and its version is visible
@@ -85,15 +84,15 @@ module _ (versions : List ℕ) (used : ℕ) (s : Snapshot) where
 
   answered-by : (p q : ℕ) (k z v f : Bool) → known versions used p ≡ k → eqb p 0 ≡ z
       → visible_to (active_of s) s.xmax (xmin_of versions p) (xmax_of versions p) ≡ v → ltb (next_of versions p) p ≡ f
-      → (next_of versions p < p → first_visible versions used s (next_of versions p) ≡ At q → Answered q)
-      → cond (k && not z) (cond v (At p) (cond f (first_visible versions used s (next_of versions p)) Nothing)) Nothing ≡ At q → Answered q
+      → (next_of versions p < p → first_visible versions used s (next_of versions p) ≡ Some q → Answered q)
+      → cond (k && not z) (cond v (Some p) (cond f (first_visible versions used s (next_of versions p)) None)) None ≡ Some q → Answered q
   answered-by p q false z v f ek ez ev ef rest e = absurd (none-is-none q e)
   answered-by p q true true v f ek ez ev ef rest e = absurd (none-is-none q e)
   answered-by p q true false true f ek ez ev ef rest e = let d : p ≡ q = cc in rw (← d) (record { some = eqb-false p 0 ez; is_known = ek; is-visible = ev })
   answered-by p q true false false true ek ez ev ef rest e = rest (ltb-true (next_of versions p) p ef) e
   answered-by p q true false false false ek ez ev ef rest e = absurd (none-is-none q e)
 
-  answered-upto : (n p q : ℕ) → p ≤ n → first_visible versions used s p ≡ At q → Answered q
+  answered-upto : (n p q : ℕ) → p ≤ n → first_visible versions used s p ≡ Some q → Answered q
   answered-upto zero p q h e =
       answered-by p q (known versions used p) (eqb p 0) _ (ltb (next_of versions p) p) refl refl refl refl (λ l r. absurd (omega arith))
       (sym (first-visible-step p) ∙ e)
@@ -101,5 +100,5 @@ module _ (versions : List ℕ) (used : ℕ) (s : Snapshot) where
       answered-by p q (known versions used p) (eqb p 0) _ (ltb (next_of versions p) p) refl refl refl refl
       (λ l r. answered-upto n (next_of versions p) q (omega arith) r) (sym (first-visible-step p) ∙ e)
 
-  pub first-visible-answered : (p q : ℕ) → first_visible versions used s p ≡ At q → Answered q
+  pub first-visible-answered : (p q : ℕ) → first_visible versions used s p ≡ Some q → Answered q
   first-visible-answered p q e = answered-upto p p q (omega arith) e

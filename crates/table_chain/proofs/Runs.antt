@@ -8,13 +8,12 @@ use native.Mathlib.Omega.{arith}
 use borrow.Author.Tests.{leb-true, eqb-true, ne_eqb}
 use lib.Dec.{eqb, leb, ltb}
 use lib.ListN.{length}
+use Rattle.std.specs.Prelude.{Option, Some, None}
 use Rattle.base_lists.specs.Lists.{member}
 use Rattle.base_lists.proofs.ListLaws.{and_l, or_cases}
 use Rattle.table.specs.Words.{field}
 use Rattle.table.specs.Fields.{version_words, xmin_of, xmax_of, next_of}
 use Rattle.table_chain.specs.declared.Snapshot.{Snapshot}
-use Rattle.table_chain.specs.declared.Pointer.{Pointer}
-use Rattle.table_chain.specs.declared.Pointer.TheVariants.{At, Nothing}
 use Rattle.table_chain.specs.Chain.{active_of, seen_by, known, first_visible}
 use Rattle.table_chain.specs.Upstream.{chain_step, Taken}
 use Rattle.table_chain.proofs.Upstream.{first-visible-same}
@@ -26,10 +25,10 @@ s = record { xmin = 3; xmax = 6; active = 3 ∷ 0 ∷ 0 ∷ 0 ∷ 0 ∷ 0 ∷ 0 
 abbrev pub versions : List ℕ
 versions = 0 ∷ 0 ∷ 0 ∷ 0 ∷ 0 ∷ 0 ∷ 2 ∷ 0 ∷ 0 ∷ 1 ∷ 6 ∷ 10 ∷ []
 
-abbrev pub first : ℕ → Pointer
-first zero = Nothing
-first (suc zero) = At 1
-first (suc (suc p)) = Nothing
+abbrev pub first : ℕ → Option ℕ
+first zero = None
+first (suc zero) = Some 1
+first (suc (suc p)) = None
 
 past : (p : ℕ) → known versions 1 (suc (suc p)) ≡ true → ⊥
 past p e = omega (arith, leb-true (suc (suc p)) 1 (and_l (leb (suc (suc p)) 1) (ltb (suc (suc p)) (length versions / version_words)) e))
@@ -68,5 +67,5 @@ unrolls zero = refl
 unrolls (suc zero) = refl
 unrolls (suc (suc p)) = rw (unknown p, ne_eqb (suc (suc p)) 0 (λ e. omega arith))
 
-pub met : first_visible versions 1 s 1 ≡ At 1
+pub met : first_visible versions 1 s 1 ≡ Some 1
 met = sym (first-visible-same 5 s taken versions 1 falls kept first unrolls 1)

@@ -9,10 +9,10 @@ use native.Mathlib.Decide.{ℕ_discrete, dec_lt}
 use native.Mathlib.Omega.{arith}
 use borrow.Author.Tests.{eq-eqb, ne_eqb, eqb-false, lt-ltb, le-ltb, le-leb, lt-leb}
 use lib.Dec.{eqb, leb, ltb}
+use Rattle.std.specs.Prelude.{Option}
 use Rattle.base_lists.specs.Lists.{member}
 use Rattle.table.specs.Fields.{xmin_of, xmax_of, next_of}
 use Rattle.table_chain.specs.declared.Snapshot.{Snapshot}
-use Rattle.table_chain.specs.declared.Pointer.{Pointer}
 use Rattle.table_chain.specs.Chain.{active_of, seen_by, visible_to, known, first_visible}
 use Rattle.table_chain.specs.Upstream.{creator_visible, row_visible, chain_step, Taken}
 use Rattle.table_chain.proofs.Laws.{first-visible-step}
@@ -71,7 +71,7 @@ module _ (own : ℕ) (s : Snapshot) (t : Taken own s) (versions : List ℕ) (use
     (falls : (p : ℕ) → p ≢ 0 → known versions used p ≡ true → next_of versions p < p)
     (kept : (p : ℕ) → known versions used p ≡ true → xmin_of versions p ≡ own
     → (xmax_of versions p ≡ 0) ⊎ (seen_by (active_of s) s.xmax (xmax_of versions p) ≡ false))
-    (first : ℕ → Pointer) (unrolls : (p : ℕ) → first p ≡ chain_step own versions used s first p) where
+    (first : ℕ → Option ℕ) (unrolls : (p : ℕ) → first p ≡ chain_step own versions used s first p) where
   step_same : (p : ℕ) (k z : Bool) → known versions used p ≡ k → eqb p 0 ≡ z → ((q : ℕ) → q < p → first q ≡ first_visible versions used s q)
       → chain_step own versions used s first p ≡ first_visible versions used s p
   step_same p k true ek ez rest = rw (first-visible-step versions used s p, ez, and-false)

@@ -1,10 +1,8 @@
 -- What a snapshot sees, and the first visible version of a chain.
-use Rattle.std.specs.Prelude.{ℕ, zero, suc, ◌<◌, ◌/◌, ◌≡◌, List, Bool, false, cond, not, ◌&&◌, ◌||◌, length, take, eqb, leb, ltb}
+use Rattle.std.specs.Prelude.{ℕ, zero, suc, ◌<◌, ◌/◌, ◌≡◌, List, Bool, false, cond, not, ◌&&◌, ◌||◌, length, take, eqb, leb, ltb, Option, Some, None}
 use Rattle.base_lists.specs.Lists.{member}
 use Rattle.table.specs.Fields.{version_words, xmin_of, xmax_of, next_of}
 use Rattle.table_chain.specs.declared.Snapshot.{Snapshot}
-use Rattle.table_chain.specs.declared.Pointer.{Pointer}
-use Rattle.table_chain.specs.declared.Pointer.TheVariants.{At, Nothing}
 
 -- a snapshot's active numbers
 abbrev pub active_of : Snapshot → List ℕ
@@ -43,9 +41,9 @@ abbrev pub known : List ℕ → ℕ → ℕ → Bool
 known versions used p = leb p used && ltb p (length versions / version_words)
 
 -- a pointer, or none for 0
-abbrev pub pointer : ℕ → Pointer
-pointer p = cond (eqb p 0) Nothing (At p)
+abbrev pub pointer : ℕ → Option ℕ
+pointer p = cond (eqb p 0) None (Some p)
 
 -- the first version of the chain from p that the snapshot sees; an unknown pointer gives none
-unfoldable pub first_visible : List ℕ → ℕ → Snapshot → ℕ → Pointer
-first_visible versions used s p = cond (known versions used p) (pointer (walk_from versions (active_of s) s.xmax p)) Nothing
+unfoldable pub first_visible : List ℕ → ℕ → Snapshot → ℕ → Option ℕ
+first_visible versions used s p = cond (known versions used p) (pointer (walk_from versions (active_of s) s.xmax p)) None

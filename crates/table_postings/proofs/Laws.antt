@@ -1,36 +1,27 @@
 -- What a turn of the walk over a list keeps, and the link behind a place.
 -- Assumes nothing.
 use Prim.Native.Nat.{ℕ, zero, suc, ◌+◌, ◌-◌, ◌≤◌, ◌<◌}
-use mathlib.Core.Path.{◌≡◌, refl, sym, ap, ◌∙◌}
+use mathlib.Core.Path.{◌≡◌, refl, sym, ap}
 use mathlib.Core.List.{List, [], ◌∷◌, ◌++◌}
 use mathlib.Core.Bool.{Bool, true, false, cond}
 use mathlib.Core.Logic.{◌≢◌}
 use native.Mathlib.Nat.{add-zero, zero-add}
 use native.Mathlib.Omega.{arith}
-use borrow.Author.Tests.{lt-ltb}
-use lib.ListN.{length, set, length-append}
-use lib.Seq.{sets}
+use lib.ListN.{length, length-append}
 use Rattle.table.specs.Fields.{later_of, set_later, first_of, set_first}
 use Rattle.table.specs.Lists.{candidates, place_of}
 use Rattle.table_postings.specs.Postings.{posted_with, follow, keyed_of, kept_in}
-use Rattle.table_postings.specs.Links.{link_at, set_link, last_place, posted_to, stays_listed, taken_out, put_in, reposted}
+use Rattle.table_postings.specs.Links.{link_at, set_link, last_place}
 use Rattle.table_postings.specs.Keeping.{Kept, keep_all}
+use Rattle.table.proofs.Runs.{sets-append}
 use Rattle.table_postings.proofs.Following.{follow-back, follow-past, follow-next}
-
--- a run of stores in two
-sets-pieces : (xs : List ℕ) (at : ℕ) (us vs : List ℕ) → sets xs at (us ++ vs) ≡ sets (sets xs at us) (at + length us) vs
-sets-pieces xs at [] vs = rw (add-zero at)
-sets-pieces xs at (u ∷ us) vs = sets-pieces (set xs at u) (suc at) us vs ∙ rw e
-  where
-    e : suc at + length us ≡ at + suc (length us)
-    e = omega arith
 
 -- rows kept, and then others behind them
 keep-pieces : (slot : ℕ) (us vs : List ℕ) (st : Kept) → keep_all slot vs (keep_all slot us st) ≡ keep_all slot (us ++ vs) st
 keep-pieces slot us vs st =
     let at : place_of candidates slot (st.n + length us) ≡ place_of candidates slot st.n + length us = omega arith in
     let n : st.n + length us + length vs ≡ st.n + (length us + length vs) = omega arith in
-    rw (length-append, sets-pieces, ← at, n)
+    rw (length-append, sets-append, ← at, n)
 
 -- of a list those posted with the key: the first, where it is, and those of the rest
 keyed-next : (rows : List ℕ) (key r : ℕ) (rs : List ℕ)
@@ -100,13 +91,6 @@ unfolding set_link
 set-link-later rows i zero v d = absurd (d refl)
 set-link-later rows i (suc p) v d = let e : suc p - 1 ≡ p = omega arith in rw e
 
--- a row that leaves its list: taken out, posted anew, put in again
-pub moved : (rows : List ℕ) (row_count r keyed key : ℕ) (out posted after : List ℕ) → r < length rows
-    → stays_listed rows row_count r keyed key ≡ false → out ≡ taken_out rows row_count r → posted ≡ posted_to out r keyed key
-    → after ≡ put_in posted row_count r keyed key → after ≡ reposted rows row_count r keyed key
-unfolding reposted
-moved rows row_count r keyed key out posted after h s t p a = rw (lt-ltb r (length rows) h, s) (a ∙ rw (p, t))
-
 -- the last place of what a link leads to, of the rows from a place up to most
 abbrev pub last_of : List ℕ → ℕ → ℕ → ℕ → ℕ
 last_of rows link place most = last_place place (follow rows link place (most - place))
@@ -128,10 +112,6 @@ module _ (rows : List ℕ) (link place most : ℕ) where
   pub last-past : place ≤ most → most < link → last_of rows link place most ≡ place
   unfolding last_place
   last-past l h = rw (follow-past rows link place (most - place) (omega arith))
-
--- a turn leaves fewer rows
-pub turn-less : (link place most : ℕ) → place < link → link ≤ most → most - link < most - place
-turn-less link place most h u = omega arith
 
 -- the place that the walk comes to, as the contract has it
 pub last-all : (rows : List ℕ) (first most place : ℕ) → last_of rows first 0 most ≡ place → place ≡ last_place 0 (follow rows first 0 most)

@@ -1,17 +1,10 @@
 -- The list that a key is in is one of the store's.
 -- Assumes nothing.
-use Prim.Native.Nat.{ℕ, ◌+◌, ◌*◌, ◌/◌, ◌%◌, ◌≤◌, ◌<◌, min}
+use Prim.Native.Nat.{ℕ, ◌*◌, ◌≤◌, ◌<◌, min}
 use native.Mathlib.Nat.{mod-lt, mul_comm, mul-le-mul_left}
 use native.Mathlib.Omega.{arith}
-use Rattle.base_limits.specs.Limits.{most_rows, last_number}
-use Rattle.table_postings.specs.Postings.{half, upper_factor, lower_factor, spread, list_for}
-
--- the halves of a key, each below a half, times their factors are together no more than a word holds
-sum_fits : (x y : ℕ) → x ≤ 4294967295 → y ≤ 4294967295 → x * upper_factor + y * lower_factor ≤ last_number
-sum_fits x y h l = omega arith
-
-pub halves-fit : (k : ℕ) → k ≤ last_number → k / half * upper_factor + k % half * lower_factor ≤ last_number
-halves-fit k h = sum_fits (k / half) (k % half) (omega arith) (omega arith)
+use Rattle.base_limits.specs.Limits.{most_rows}
+use Rattle.table_postings.specs.Postings.{half, spread, list_for}
 
 -- a spread key is below a half
 pub spread-low : (k : ℕ) → spread k < half

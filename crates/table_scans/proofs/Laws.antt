@@ -3,7 +3,7 @@
 use Prim.Native.Nat.{ℕ, ◌+◌, ◌<◌, ◌≤◌, min}
 use mathlib.Core.Path.{◌≡◌, refl, sym, ◌∙◌}
 use mathlib.Core.List.{List, map}
-use mathlib.Core.Bool.{false, cond, ◌||◌}
+use mathlib.Core.Bool.{cond}
 use native.Mathlib.Numerals.{add-one}
 use native.Mathlib.Decide.{ℕ_discrete, dec_lt}
 use native.Mathlib.Omega.{arith}
@@ -11,49 +11,27 @@ use borrow.Author.Tests.{eq-eqb, ne_eqb, lt-ltb, le-ltb}
 use lib.Dec.{eqb, ltb}
 use lib.ListN.{length, drop, take, get_or, length-take, drop_of_length-le}
 use lib.Seq.{drop-cons, get_or-take}
-use Rattle.base_lists.specs.Lists.{member, least}
+use Rattle.std.specs.Prelude.{Some, None}
+use Rattle.base_lists.specs.Lists.{least}
 use Rattle.base_numbers.proofs.Laws.{lesser-by}
 use Rattle.table.specs.Lists.{Kind, start_of, entry_at, list_at}
 use Rattle.table.proofs.Spans.{list-at, list_length, list-map}
-use Rattle.table_scans.specs.declared.Found.TheVariants.{At, Nothing}
-use Rattle.table_scans.specs.Scans.{first_from, last_below}
+use Rattle.table_scans.specs.Scans.{last_below}
 
 -- a test of two numbers either way round
 pub eqb-sym : (m n : ℕ) → eqb m n ≡ eqb n m
 eqb-sym m n = elim (ℕ_discrete m n) [ yes e ↦ rw (eq-eqb m n e, eq-eqb n m (sym e)) | no d ↦ rw (ne_eqb m n d, ne_eqb n m (λ e. d (sym e))) ]
 
 module _ (l : List ℕ) (i x : ℕ) where
-  pub member-next : i < length l → member x (drop i l) ≡ (eqb (get_or l i 0) x || member x (drop (i + 1) l))
-  unfolding member
-  member-next h = rw (add-one, drop-cons l i 0, eqb-sym x (get_or l i 0))
-
-  pub member-end : length l ≤ i → member x (drop i l) ≡ false
-  unfolding member
-  member-end h = rw (drop_of_length-le l h)
-
-  pub first_next : i < length l → first_from i (drop i l) x ≡ cond (eqb (get_or l i 0) x) (At i) (first_from (i + 1) (drop (i + 1) l) x)
-  unfolding first_from
-  first_next h = rw (add-one, drop-cons l i 0)
-
-  pub first-end : length l ≤ i → first_from i (drop i l) x ≡ Nothing
-  unfolding first_from
-  first-end h = rw (drop_of_length-le l h)
-
-  pub last-next : last_below l x (i + 1) ≡ cond (eqb (get_or l i 0) x) (At i) (last_below l x i)
+  pub last-next : last_below l x (i + 1) ≡ cond (eqb (get_or l i 0) x) (Some i) (last_below l x i)
   unfolding last_below
   last-next = rw add-one
 
-pub last_end : (l : List ℕ) (x : ℕ) → last_below l x 0 ≡ Nothing
+pub last_end : (l : List ℕ) (x : ℕ) → last_below l x 0 ≡ None
 unfolding last_below
 last_end l x = refl
 
 module _ (a : List ℕ) (n i x : ℕ) where
-  pub active-next : i < n → i < length a → member x (drop i (take n a)) ≡ (eqb (get_or a i 0) x || member x (drop (i + 1) (take n a)))
-  active-next h k = rw (← get_or-take n a i 0 h) (member-next (take n a) i x (rw length-take (omega arith)))
-
-  pub active-end : min n (length a) ≤ i → member x (drop i (take n a)) ≡ false
-  active-end h = member-end (take n a) i x (rw length-take h)
-
   -- a place past the count takes no part in the least
   pub least-next : i < length a → least x (drop i (take n a)) ≡ least (cond (ltb i n) (min (get_or a i 0) x) x) (drop (i + 1) (take n a))
   unfolding least
@@ -78,15 +56,7 @@ module _ {A : Type 0} (g : A → ℕ) (f : List ℕ → A) (k : Kind) (xs : List
   pub fields_at : (i : ℕ) → i < n → get_or (map g (list_at f k xs s n)) i 0 ≡ g (entry_at f k xs s i)
   fields_at i h = rw (list-map g f k.w (start_of k s) xs n) (list-at (λ ws. g (f ws)) k.w (start_of k s) xs n i 0 h)
 
-  -- a walk up and a walk down such a list, where v is read at entry i
+  -- a walk down such a list, where v is read at entry i
   module _ (i v x : ℕ) (e : v ≡ g (entry_at f k xs s i)) (h : i < n) where
-    pub fields-first : first_from i (drop i (map g (list_at f k xs s n))) x
-        ≡ cond (eqb v x) (At i) (first_from (i + 1) (drop (i + 1) (map g (list_at f k xs s n))) x)
-    fields-first = let l : i < length (map g (list_at f k xs s n)) = omega (arith, fields-length) in
-        first_next (map g (list_at f k xs s n)) i x l ∙ rw (fields_at i h, e)
-
-    pub fields-last : last_below (map g (list_at f k xs s n)) x (i + 1) ≡ cond (eqb v x) (At i) (last_below (map g (list_at f k xs s n)) x i)
+    pub fields-last : last_below (map g (list_at f k xs s n)) x (i + 1) ≡ cond (eqb v x) (Some i) (last_below (map g (list_at f k xs s n)) x i)
     fields-last = last-next (map g (list_at f k xs s n)) i x ∙ rw (fields_at i h, e)
-
-  pub fields-end : (i x : ℕ) → n ≤ i → first_from i (drop i (map g (list_at f k xs s n))) x ≡ Nothing
-  fields-end i x h = first-end (map g (list_at f k xs s n)) i x (omega (arith, fields-length))

@@ -21,14 +21,14 @@ pub returns-then-p-eq0 : goal.returns-then-p-eq0
 unfolding step_from
 returns-then-p-eq0 t c = rw (walk_step, eq-eqb _ _ c.if-p-eq0.true)
 
-pub returns-then-visible_at : goal.returns-then-visible_at
+pub returns-then-sees_version : goal.returns-then-sees_version
 unfolding step_from
-returns-then-visible_at t c = rw (walk_step, ne_eqb _ _ c.if-p-eq0.false, sym c.visible_at.ensures ∙ c.if-visible_at.true)
+returns-then-sees_version t c = rw (walk_step, ne_eqb _ _ c.if-p-eq0.false, sym c.sees_version.ensures ∙ c.if-sees_version.true)
 
 pub returns-then-next-p : goal.returns-then-next-p
 returns-then-next-p t c =
     c.walk.ensures ∙ sym (rw (
-      unseen _ _ _ _ (ne_eqb _ _ c.if-p-eq0.false) (sym c.visible_at.ensures ∙ c.if-visible_at.false),
+      unseen _ _ _ _ (ne_eqb _ _ c.if-p-eq0.false) (sym c.sees_version.ensures ∙ c.if-sees_version.false),
       ← c.word_of-next.ensures,
       lt-ltb _ _ c.if-next-p.true,
     ))
@@ -36,7 +36,7 @@ returns-then-next-p t c =
 pub returns-else-next-p : goal.returns-else-next-p
 returns-else-next-p t c =
     sym (rw (
-      unseen _ _ _ _ (ne_eqb _ _ c.if-p-eq0.false) (sym c.visible_at.ensures ∙ c.if-visible_at.false),
+      unseen _ _ _ _ (ne_eqb _ _ c.if-p-eq0.false) (sym c.sees_version.ensures ∙ c.if-sees_version.false),
       ← c.word_of-next.ensures,
       le-ltb _ _ c.if-next-p.false,
     ))
