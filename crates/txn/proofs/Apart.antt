@@ -5,14 +5,13 @@ use mathlib.Core.Path.{◌≡◌, refl}
 use mathlib.Core.Bool.{Bool, true, false, cond, not}
 use mathlib.Core.List.{List}
 use lib.Dec.{eqb, ltb, leb}
+use Rattle.std.specs.Prelude.{Option, Some, None}
 use Rattle.base_limits.specs.Limits.{most_writes}
 use Rattle.model.specs.Store.{rank, phase_open, phase_holding, bucket_in, key_in}
 use Rattle.table.specs.Fields.{stamp_of, holder_of}
 use Rattle.table.specs.declared.lists.Write.{Write}
 use Rattle.table_buckets.specs.Buckets.{precedes}
 use Rattle.table_scans.specs.Scans.{read_prefix}
-use Rattle.table_scans.specs.declared.Found.{Found}
-use Rattle.table_scans.specs.declared.Found.TheVariants.{At, Nothing}
 use Rattle.txn.specs.declared.Phase.{Phase}
 use Rattle.txn.specs.declared.Phase.TheVariants as phase
 use Rattle.txn.specs.declared.Transaction.{Transaction}
@@ -55,10 +54,10 @@ module _ (t : Transaction) where
   either f true x y sx sy = sx
   either f false x y sx sy = sy
 
-  held_stays : (lists : List ℕ) (f : Found) (b k stamp : ℕ) → Stays t (hold_of t lists f b k stamp).txn
+  held_stays : (lists : List ℕ) (f : Option ℕ) (b k stamp : ℕ) → Stays t (hold_of t lists f b k stamp).txn
   unfolding hold_of
-  held_stays lists (At i) b k stamp = record { number = refl; snapshot = refl; slot = refl }
-  held_stays lists Nothing b k stamp = record { number = refl; snapshot = refl; slot = refl }
+  held_stays lists (Some i) b k stamp = record { number = refl; snapshot = refl; slot = refl }
+  held_stays lists None b k stamp = record { number = refl; snapshot = refl; slot = refl }
 
   abbrev reply : Left → Transaction
   reply l = l.reply.txn

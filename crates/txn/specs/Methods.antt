@@ -1,15 +1,15 @@
 -- What the record's methods give back, and the words they leave.
-use Rattle.std.specs.Prelude.{ℕ, ◌+◌, ◌%◌, Bool, true, false, cond, not, ◌&&◌, List, [], ◌∷◌, eqb, ltb, leb, replicate, length}
+use Rattle.std.specs.Prelude.{ℕ, ◌+◌, ◌%◌, Bool, true, false, cond, not, ◌&&◌, List, [], ◌∷◌, eqb, ltb, leb, replicate, length, Option, Some, None}
 use Rattle.base_limits.specs.Limits.{most_active, most_index_reads, most_writes}
 use Rattle.model.specs.Store.{rank, phase_open, phase_holding, phase_collected, phase_prepared, phase_installed, phase_ended, bucket_in, key_in}
-use Rattle.model.specs.Refusals.{WrongPhase, NoRow, Taken, Marked, ManyReads, ManyWrites, Stale, refusal_number}
+use Rattle.model.specs.Refusals.{WrongPhase, NoRow, Taken, Marked, ManyReads, ManyWrites, Stale}
+use Rattle.base_protocol.specs.View.{refusal_told}
+use Rattle.base_protocol.specs.declared.Refusal.{Refusal}
 use Rattle.base_protocol.specs.declared.Answer.TheVariants as tell
 use Rattle.table.specs.Fields.{stamp_of, holder_of, set_holder}
 use Rattle.table.specs.Lists.{reads, writes, stored}
 use Rattle.table.specs.declared.lists.Write.{Write}
 use Rattle.table_scans.specs.Scans.{read_prefix}
-use Rattle.table_scans.specs.declared.Found.{Found}
-use Rattle.table_scans.specs.declared.Found.TheVariants.{At, Nothing}
 use Rattle.table_buckets.specs.Buckets.{precedes}
 use Rattle.table_postings.specs.Postings.{listed_with, kept_in}
 use Rattle.txn.specs.declared.Phase.{Phase}
@@ -149,7 +149,7 @@ abbrev pub taken_by : ℕ → ℕ → Bool
 taken_by carried n = not (eqb carried 0) && not (eqb carried n)
 
 -- a refusal, with the record that came in
-abbrev pub refused_of : Transaction → ℕ → Answered
+abbrev pub refused_of : Transaction → Refusal → Answered
 refused_of t why = record { answer = tell.Refused why; txn = t }
 
 -- the record and the lists
@@ -174,14 +174,14 @@ left a buckets lists = record { reply = a; buckets = buckets; lists = lists }
 -- ---- capture
 
 -- a bucket without an index read would get a 17th
-abbrev pub too_many : Found → ℕ → Bool
-too_many (At i) n = false
-too_many Nothing n = leb most_index_reads n
+abbrev pub too_many : Option ℕ → ℕ → Bool
+too_many (Some i) n = false
+too_many None n = leb most_index_reads n
 
 -- the first capture of a bucket adds one index read (bucket, stamp), a later one adds none; becomes Holding
-unfoldable pub hold_of : Transaction → List ℕ → Found → ℕ → ℕ → ℕ → WithLists
-hold_of t lists (At i) b k stamp = record { txn = with_phase t (phase.Holding b k); lists = lists }
-hold_of t lists Nothing b k stamp =
+unfoldable pub hold_of : Transaction → List ℕ → Option ℕ → ℕ → ℕ → ℕ → WithLists
+hold_of t lists (Some i) b k stamp = record { txn = with_phase t (phase.Holding b k); lists = lists }
+hold_of t lists None b k stamp =
     record { txn = with_reads (with_phase t (phase.Holding b k)) (t.reads_n + 1); lists = stored reads lists t.slot t.reads_n (b ∷ stamp ∷ []) }
 
 abbrev pub held_left : ℕ → WithLists → List ℕ → Left
@@ -190,11 +190,11 @@ held_left stamp h buckets = left (record { answer = tell.Stamp stamp; txn = h.tx
 -- capture of bucket b: wrong phase, mark, held by another, stale stamp, a 17th index read; else the bucket is taken
 unfoldable pub capture_at : Transaction → List ℕ → List ℕ → ℕ → ℕ → Left
 capture_at t buckets lists b k =
-    cond (not (eqb (rank (phase_view t.phase)) phase_open)) (left (refused_of t (refusal_number WrongPhase)) buckets lists)
-    (cond t.marked (left (refused_of t (refusal_number Marked)) buckets lists)
-    (cond (taken_by (holder_of buckets b) t.number) (left (refused_of t (refusal_number Taken)) buckets lists)
-    (cond (not (precedes (stamp_of buckets b) t.number)) (left (refused_of (with_mark t) (refusal_number Stale)) buckets lists)
-    (cond (too_many (read_prefix lists t.slot t.reads_n b) t.reads_n) (left (refused_of t (refusal_number ManyReads)) buckets lists)
+    cond (not (eqb (rank (phase_view t.phase)) phase_open)) (left (refused_of t (refusal_told WrongPhase)) buckets lists)
+    (cond t.marked (left (refused_of t (refusal_told Marked)) buckets lists)
+    (cond (taken_by (holder_of buckets b) t.number) (left (refused_of t (refusal_told Taken)) buckets lists)
+    (cond (not (precedes (stamp_of buckets b) t.number)) (left (refused_of (with_mark t) (refusal_told Stale)) buckets lists)
+    (cond (too_many (read_prefix lists t.slot t.reads_n b) t.reads_n) (left (refused_of t (refusal_told ManyReads)) buckets lists)
     (held_left (stamp_of buckets b) (hold_of t lists (read_prefix lists t.slot t.reads_n b) b k (stamp_of buckets b)) (set_holder buckets b t.number))))))
 
 abbrev pub capture_of : Transaction → List ℕ → List ℕ → ℕ → ℕ → Left
@@ -203,10 +203,10 @@ capture_of t buckets lists bucket_count k = capture_at t buckets lists (k % buck
 -- ---- put, erase: wrong phase, mark, row not below the row count, a 17th pending write; else it is appended
 unfoldable pub write_of : Transaction → List ℕ → ℕ → Write → LeftLists
 write_of t lists row_count w =
-    cond (not (eqb (rank (phase_view t.phase)) phase_open)) (record { reply = refused_of t (refusal_number WrongPhase); lists = lists })
-    (cond t.marked (record { reply = refused_of t (refusal_number Marked); lists = lists })
-    (cond (not (ltb w.row row_count)) (record { reply = refused_of t (refusal_number NoRow); lists = lists })
-    (cond (leb most_writes t.writes_n) (record { reply = refused_of t (refusal_number ManyWrites); lists = lists })
+    cond (not (eqb (rank (phase_view t.phase)) phase_open)) (record { reply = refused_of t (refusal_told WrongPhase); lists = lists })
+    (cond t.marked (record { reply = refused_of t (refusal_told Marked); lists = lists })
+    (cond (not (ltb w.row row_count)) (record { reply = refused_of t (refusal_told NoRow); lists = lists })
+    (cond (leb most_writes t.writes_n) (record { reply = refused_of t (refusal_told ManyWrites); lists = lists })
     (record {
       reply = record { answer = tell.Done; txn = with_writes t (t.writes_n + 1) };
       lists = stored writes lists t.slot t.writes_n (w.row ∷ w.keyed ∷ w.key ∷ w.payload ∷ []);
@@ -223,6 +223,6 @@ collected_left t b k rs buckets lists =
 -- wrong phase; else of the key's list the rows posted with the key are kept, and the bucket that the phase carries is free
 unfoldable pub collect_of : Transaction → List ℕ → List ℕ → List ℕ → ℕ → Left
 collect_of t rows buckets lists row_count =
-    cond (not (eqb (rank (phase_view t.phase)) phase_holding)) (left (refused_of t (refusal_number WrongPhase)) buckets lists)
+    cond (not (eqb (rank (phase_view t.phase)) phase_holding)) (left (refused_of t (refusal_told WrongPhase)) buckets lists)
     (collected_left t (bucket_in (phase_view t.phase)) (key_in (phase_view t.phase))
     (listed_with rows row_count (key_in (phase_view t.phase))) buckets lists)

@@ -4,20 +4,20 @@
 ghost use Rattle.std.specs.Prelude.{◌≡◌, false};
 ghost use Rattle.model.specs.Store.{rank, bucket_in, key_in};
 ghost use Rattle.txn.specs.View.{phase_view};
-ghost use Rattle.txn.specs.Methods.{idle_of, phase_from, mark_word, rest_of, parts_of, whole_of, with_phase, with_mark};
+ghost use Rattle.txn.specs.Methods.{idle_of, phase_from, rest_of, parts_of, whole_of, with_phase, with_mark};
 ghost use Rattle.txn.specs.Methods.{taken_by, refused_of, too_many, hold_of, capture_of, write_of, collect_of};
 
 use base_limits::{MOST_ACTIVE, MOST_INDEX_READS, MOST_WRITES};
-use base_protocol::{Answer, MANY_READS, MANY_WRITES, MARKED, NO_ROW, STALE, TAKEN, WRONG_PHASE};
+use base_protocol::{Answer, Refusal};
 use table::lists::{IndexRead, Write, put_read, put_write};
 use table::{holder_at, set_holder, stamp_at};
 use table_buckets::{bucket_of, stamp_precedes_snapshot};
 use table_chain::Snapshot;
 use table_postings::keep_posted;
-use table_scans::{Found, find_read_prefix};
+use table_scans::find_read_prefix;
 
 // The phase carries its bucket and key.
-#[derive(Clone, Copy)]
+#[derive(Clone, Copy, PartialEq, Eq)]
 pub enum Phase {
     Open,
     Holding { bucket: u64, key: u64 },
@@ -28,6 +28,7 @@ pub enum Phase {
 }
 
 // Number 0 marks a free place.
+// Stays with four counts beside its slot: the lists themselves stand in lent words (docs/DECISIONS.md, 34 and 37).
 #[derive(Clone, Copy)]
 pub struct Transaction {
     pub number: u64,
@@ -42,6 +43,7 @@ pub struct Transaction {
 }
 
 // A record without its number, its snapshot and its slot, in words: what a step may change that keeps its transaction.
+// Stays words, the phase as its number: `whole_of` and its theorems (`whole-unmarked`, `whole_open`) speak of any words, and a replay keeps an array of these.
 #[derive(Clone, Copy)]
 pub struct Rest {
     pub marked: u64,
@@ -71,6 +73,7 @@ pub struct Answered {
 }
 
 // Phases as numbers, in document 01's order.
+// Stays numbers: `phase_rank` promises them (`rank` of the model), and a replay keeps a phase as its number (`Rest`).
 pub const OPEN: u64 = 1;
 
 pub const HOLDING: u64 = 2;
@@ -84,13 +87,14 @@ pub const INSTALLED: u64 = 5;
 pub const ENDED: u64 = 6;
 
 // The number of a phase.
+// Stays a function, as does `phase_from`: docs/PROMISES.md names both; a `From` beside would be a second name of each, and from three words no plainer.
 pub fn phase_rank(phase: Phase) -> u64
     ensures { result ≡ rank (phase_view phase) }
 {
     match phase {
         Phase::Open => OPEN,
-        Phase::Holding { bucket: _, key: _ } => HOLDING,
-        Phase::Collected { key: _ } => COLLECTED,
+        Phase::Holding { .. } => HOLDING,
+        Phase::Collected { .. } => COLLECTED,
         Phase::Prepared => PREPARED,
         Phase::Installed => INSTALLED,
         Phase::Ended => ENDED,
@@ -98,16 +102,13 @@ pub fn phase_rank(phase: Phase) -> u64
 }
 
 // The bucket that a phase carries, and the key; 0 where it carries none.
+// Stays 0 for none: `bucket_in` and `key_in` promise it, and a replay keeps both as words (`Rest`).
 pub fn bucket_in(phase: Phase) -> u64
     ensures { result ≡ bucket_in (phase_view phase) }
 {
     match phase {
-        Phase::Open => 0,
-        Phase::Holding { bucket, key: _ } => bucket,
-        Phase::Collected { key: _ } => 0,
-        Phase::Prepared => 0,
-        Phase::Installed => 0,
-        Phase::Ended => 0,
+        Phase::Holding { bucket, .. } => bucket,
+        _ => 0,
     }
 }
 
@@ -115,12 +116,8 @@ pub fn key_in(phase: Phase) -> u64
     ensures { result ≡ key_in (phase_view phase) }
 {
     match phase {
-        Phase::Open => 0,
-        Phase::Holding { bucket: _, key } => key,
-        Phase::Collected { key } => key,
-        Phase::Prepared => 0,
-        Phase::Installed => 0,
-        Phase::Ended => 0,
+        Phase::Holding { key, .. } | Phase::Collected { key } => key,
+        _ => 0,
     }
 }
 
@@ -138,7 +135,7 @@ pub fn idle(slot: u32) -> Transaction
         },
         marked: false,
         phase: Phase::Open,
-        slot: slot,
+        slot,
         reads_n: 0,
         writes_n: 0,
         records_n: 0,
@@ -150,10 +147,7 @@ pub fn idle(slot: u32) -> Transaction
 pub fn by_another(carried: u64, number: u64) -> bool
     ensures { result ≡ taken_by carried number }
 {
-    if carried == 0 {
-        return false;
-    }
-    carried != number
+    carried != 0 && carried != number
 }
 
 // The phase of a number, with the bucket and the key that it carries.
@@ -161,11 +155,8 @@ pub fn phase_from(rank: u64, bucket: u64, key: u64) -> Phase
     ensures { result ≡ phase_from rank bucket key }
 {
     match rank {
-        HOLDING => Phase::Holding {
-            bucket: bucket,
-            key: key,
-        },
-        COLLECTED => Phase::Collected { key: key },
+        HOLDING => Phase::Holding { bucket, key },
+        COLLECTED => Phase::Collected { key },
         PREPARED => Phase::Prepared,
         INSTALLED => Phase::Installed,
         ENDED => Phase::Ended,
@@ -173,72 +164,80 @@ pub fn phase_from(rank: u64, bucket: u64, key: u64) -> Phase
     }
 }
 
-// The mark as a word.
-fn mark_word(marked: bool) -> u64
-    ensures { result ≡ mark_word marked }
-{
-    if marked { 1 } else { 0 }
-}
-
 // The rest of a record.
-pub fn rest_of(t: Transaction) -> Rest
-    ensures { result ≡ rest_of t }
-{
-    let phase = t.phase;
-    let marked = mark_word(t.marked);
-    Rest {
-        marked: marked,
-        rank: phase_rank(phase),
-        bucket: bucket_in(phase),
-        key: key_in(phase),
-        reads_n: t.reads_n,
-        writes_n: t.writes_n,
-        records_n: t.records_n,
-        candidates_n: t.candidates_n,
+impl From<Transaction> for Rest {
+    ghost from_gives = { λ t r. r ≡ rest_of t };
+
+    fn from(t: Transaction) -> Rest {
+        Rest {
+            marked: u64::from(t.marked),
+            rank: phase_rank(t.phase),
+            bucket: bucket_in(t.phase),
+            key: key_in(t.phase),
+            reads_n: t.reads_n,
+            writes_n: t.writes_n,
+            records_n: t.records_n,
+            candidates_n: t.candidates_n,
+        }
     }
 }
 
 // The parts of a record.
-pub fn parts_of(t: Transaction) -> Parts
-    ensures { result ≡ parts_of t }
-{
-    let snapshot = t.snapshot;
-    let rest = rest_of(t);
-    Parts {
-        number: t.number,
-        snapshot: snapshot,
-        rest: rest,
-        slot: t.slot,
+impl From<Transaction> for Parts {
+    ghost from_gives = { λ t p. p ≡ parts_of t };
+
+    fn from(t: Transaction) -> Parts {
+        Parts {
+            number: t.number,
+            snapshot: t.snapshot,
+            rest: Rest::from(t),
+            slot: t.slot,
+        }
     }
 }
 
 // The record of its parts.
-pub fn whole(p: Parts) -> Transaction
-    ensures { result ≡ whole_of p }
-{
-    let snapshot = p.snapshot;
-    let rest = p.rest;
-    let phase = phase_from(rest.rank, rest.bucket, rest.key);
-    Transaction {
-        number: p.number,
-        snapshot: snapshot,
-        marked: rest.marked != 0,
-        phase: phase,
-        slot: p.slot,
-        reads_n: rest.reads_n,
-        writes_n: rest.writes_n,
-        records_n: rest.records_n,
-        candidates_n: rest.candidates_n,
+impl From<Parts> for Transaction {
+    ghost from_gives = { λ p t. t ≡ whole_of p };
+
+    fn from(p: Parts) -> Transaction {
+        let Parts {
+            number,
+            snapshot,
+            rest,
+            slot,
+        } = p;
+        let Rest {
+            marked,
+            rank,
+            bucket,
+            key,
+            reads_n,
+            writes_n,
+            records_n,
+            candidates_n,
+        } = rest;
+        Transaction {
+            number,
+            snapshot,
+            marked: marked != 0,
+            phase: phase_from(rank, bucket, key),
+            slot,
+            reads_n,
+            writes_n,
+            records_n,
+            candidates_n,
+        }
     }
 }
 
 // A refusal, with the record that came in.
-pub fn refused(txn: Transaction, why: u64) -> Answered
+pub fn refused(txn: Transaction, why: Refusal) -> Answered
     ensures { result ≡ refused_of txn why }
 {
     Answered {
         answer: Answer::Refused(why),
-        txn: txn,
+        txn,
     }
 }
 
@@ -247,58 +246,49 @@ impl Transaction {
     pub fn with_phase(self, phase: Phase) -> Transaction
         ensures { result ≡ with_phase self phase }
     {
-        let snapshot = self.snapshot;
-        Transaction {
-            number: self.number,
-            snapshot: snapshot,
-            marked: self.marked,
-            phase: phase,
-            slot: self.slot,
-            reads_n: self.reads_n,
-            writes_n: self.writes_n,
-            records_n: self.records_n,
-            candidates_n: self.candidates_n,
-        }
+        Self { phase, ..self }
     }
 
     // The same transaction, marked.
     pub fn with_mark(self) -> Transaction
         ensures { result ≡ with_mark self }
     {
-        let mut marked = self;
-        marked.marked = true;
-        marked
+        Self {
+            marked: true,
+            ..self
+        }
     }
 
     // Holds a bucket: the first capture of it adds an index read, a later one none.
-    fn hold(self, lists: &mut [u64], found: Found, bucket: u64, key: u64, stamp: u64) -> Transaction
+    #[tactic(auto, unfolding(crate::specs::Methods::hold_of))]
+    fn hold(
+        self,
+        lists: &mut [u64],
+        found: Option<u32>,
+        bucket: u64,
+        key: u64,
+        stamp: u64,
+    ) -> Transaction
         requires { too_many found self.reads_n ≡ false }
         ensures { record { txn = result; lists = lists.new } ≡ hold_of self lists.old found bucket key stamp }
     {
         let n = self.reads_n;
-        let mut held = self.with_phase(Phase::Holding {
-            bucket: bucket,
-            key: key,
-        });
+        let held = self.with_phase(Phase::Holding { bucket, key });
         match found {
-            Found::At(_) => held,
-            Found::Nothing => {
-                put_read(
-                    lists,
-                    self.slot,
-                    n,
-                    IndexRead {
-                        bucket: bucket,
-                        stamp: stamp,
-                    },
-                );
-                held.reads_n = n + 1;
-                held
+            Some(_) => held,
+            None => {
+                put_read(lists, self.slot, n, IndexRead { bucket, stamp });
+                Self {
+                    reads_n: n + 1,
+                    ..held
+                }
             }
         }
     }
 
     // Capture: takes the key's bucket; a stale stamp marks the transaction.
+    // Stays with the lent tables one by one, here and below: the C interface lends them and the definitions over words take them so (docs/DECISIONS.md, 69).
+    #[tactic(auto, unfolding(crate::specs::Methods::capture_at))]
     pub fn capture(
         self,
         buckets: &mut [u64],
@@ -309,58 +299,57 @@ impl Transaction {
         ensures { record { reply = result; buckets = buckets.new; lists = lists.new }
             ≡ capture_of self buckets.old lists.old bucket_count key }
     {
-        let phase = self.phase;
         let n = self.reads_n;
-        if phase_rank(phase) != OPEN {
-            return refused(self, WRONG_PHASE);
+        if self.phase != Phase::Open {
+            return refused(self, Refusal::WrongPhase);
         }
         if self.marked {
-            return refused(self, MARKED);
+            return refused(self, Refusal::Marked);
         }
         let bucket = bucket_of(bucket_count, key);
         if by_another(holder_at(buckets, bucket as usize), self.number) {
-            return refused(self, TAKEN);
+            return refused(self, Refusal::Taken);
         }
         let stamp = stamp_at(buckets, bucket as usize);
         if !stamp_precedes_snapshot(stamp, self.number) {
-            return refused(self.with_mark(), STALE);
+            return refused(self.with_mark(), Refusal::Stale);
         }
         let found = find_read_prefix(lists, self.slot, n, bucket);
         if too_many(found, n) {
-            return refused(self, MANY_READS);
+            return refused(self, Refusal::ManyReads);
         }
         set_holder(buckets, bucket as usize, self.number);
-        let txn = self.hold(lists, found, bucket, key, stamp);
         Answered {
             answer: Answer::Stamp(stamp),
-            txn: txn,
+            txn: self.hold(lists, found, bucket, key, stamp),
         }
     }
 
     // Put and erase: appends a pending write; an erase has no key.
+    #[tactic(auto, unfolding(crate::specs::Methods::write_of))]
     fn write(self, lists: &mut [u64], row_count: u64, w: Write) -> Answered
         ensures { record { reply = result; lists = lists.new } ≡ write_of self lists.old row_count w }
     {
-        let phase = self.phase;
         let n = self.writes_n;
-        if phase_rank(phase) != OPEN {
-            return refused(self, WRONG_PHASE);
+        if self.phase != Phase::Open {
+            return refused(self, Refusal::WrongPhase);
         }
         if self.marked {
-            return refused(self, MARKED);
+            return refused(self, Refusal::Marked);
         }
         if w.row >= row_count {
-            return refused(self, NO_ROW);
+            return refused(self, Refusal::NoRow);
         }
         if n >= MOST_WRITES {
-            return refused(self, MANY_WRITES);
+            return refused(self, Refusal::ManyWrites);
         }
         put_write(lists, self.slot, n, w);
-        let mut written = self;
-        written.writes_n = n + 1;
         Answered {
             answer: Answer::Done,
-            txn: written,
+            txn: Self {
+                writes_n: n + 1,
+                ..self
+            },
         }
     }
 
@@ -376,10 +365,10 @@ impl Transaction {
             ≡ write_of self lists.old row_count (record { row = row; keyed = 1; key = key; payload = payload }) }
     {
         let pending = Write {
-            row: row,
+            row,
             keyed: 1,
-            key: key,
-            payload: payload,
+            key,
+            payload,
         };
         self.write(lists, row_count, pending)
     }
@@ -389,7 +378,7 @@ impl Transaction {
             ≡ write_of self lists.old row_count (record { row = row; keyed = 0; key = 0; payload = 0 }) }
     {
         let erasure = Write {
-            row: row,
+            row,
             keyed: 0,
             key: 0,
             payload: 0,
@@ -398,6 +387,7 @@ impl Transaction {
     }
 
     // Collect: of the key's list the rows posted with exactly the key are kept ascending. The bucket that the phase carries is freed, whoever holds it.
+    #[tactic(auto, unfolding(crate::specs::Methods::collect_of))]
     pub fn collect(
         self,
         rows: &[u64],
@@ -408,29 +398,25 @@ impl Transaction {
         ensures { record { reply = result; buckets = buckets.new; lists = lists.new }
             ≡ collect_of self rows.now buckets.old lists.old row_count }
     {
-        let phase = self.phase;
-        if phase_rank(phase) != HOLDING {
-            return refused(self, WRONG_PHASE);
-        }
-        let bucket = bucket_in(phase);
-        let key = key_in(phase);
+        let Phase::Holding { bucket, key } = self.phase else {
+            return refused(self, Refusal::WrongPhase);
+        };
         let n = keep_posted(rows, lists, self.slot, row_count, key);
         set_holder(buckets, bucket as usize, 0);
-        let mut txn = self.with_phase(Phase::Collected { key: key });
-        txn.candidates_n = n;
+        let collected = self.with_phase(Phase::Collected { key });
         Answered {
             answer: Answer::Count(n as u64),
-            txn: txn,
+            txn: Self {
+                candidates_n: n,
+                ..collected
+            },
         }
     }
 }
 
 // Whether a bucket without an index read would get a 17th.
-fn too_many(found: Found, n: u32) -> bool
+fn too_many(found: Option<u32>, n: u32) -> bool
     ensures { result ≡ too_many found n }
 {
-    match found {
-        Found::At(_) => false,
-        Found::Nothing => n >= MOST_INDEX_READS,
-    }
+    found.is_none() && n >= MOST_INDEX_READS
 }

@@ -1,7 +1,9 @@
 -- What begin answers and leaves.
 use Rattle.std.specs.Prelude.{ℕ, ◌+◌, min, Bool, false, cond, not, List, [], ◌∷◌, eqb, ltb, leb, set, replicate}
 use Rattle.base_limits.specs.Limits.{most_active, last_number}
-use Rattle.model.specs.Refusals.{NoNumbers, Full, refusal_number}
+use Rattle.model.specs.Refusals.{NoNumbers, Full}
+use Rattle.base_protocol.specs.View.{refusal_told}
+use Rattle.base_protocol.specs.declared.Refusal.{Refusal}
 use Rattle.base_protocol.specs.declared.Answer.TheVariants as tell
 use Rattle.table_chain.specs.declared.Snapshot.{Snapshot}
 use Rattle.txn.specs.declared.Phase.TheVariants as phase
@@ -53,12 +55,12 @@ begun_of t s clock = record {
   clock = one_more clock;
 }
 
-abbrev pub refused_begin : Transaction → ℕ → ℕ → Begun
+abbrev pub refused_begin : Transaction → ℕ → Refusal → Begun
 refused_begin t clock why = record { answer = tell.Refused why; txn = t; clock = clock }
 
 -- no free place, no numbers left; else the transaction stands at the place of the record that came in
 unfoldable pub begin_of : List ℕ → ℕ → ℕ → Transaction → Begun
 begin_of active live clock t =
-    cond (not (eqb t.number 0)) (refused_begin t clock (refusal_number Full))
-    (cond (spent clock live) (refused_begin t clock (refusal_number NoNumbers))
+    cond (not (eqb t.number 0)) (refused_begin t clock (refusal_told Full))
+    (cond (spent clock live) (refused_begin t clock (refusal_told NoNumbers))
     (begun_of t (snapshot_of active clock) clock))

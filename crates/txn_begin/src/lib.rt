@@ -5,12 +5,13 @@ ghost use Rattle.std.specs.Prelude.{◌≡◌};
 ghost use Rattle.txn_begin.specs.Begin.{keep_active, snapshot_of, spent, begin_of};
 
 use base_limits::{LAST_NUMBER, MOST_ACTIVE, MOST_LIVE};
-use base_numbers::{lesser_u64, one_more, sum_within};
-use base_protocol::{Answer, FULL, NO_NUMBERS};
+use base_numbers::{one_more, sum_within};
+use base_protocol::{Answer, Refusal};
 use table_chain::Snapshot;
-use txn::{Phase, Transaction};
+use txn::{Transaction, idle};
 
 // The active numbers kept so far, and how many they are.
+// Stays an array with a count: it goes into a `Snapshot` as it is, whose form document 01 names (docs/DECISIONS.md), and `keep_active` promises both.
 #[derive(Clone, Copy)]
 pub struct Kept {
     pub active: [u64; MOST_ACTIVE],
@@ -26,88 +27,73 @@ pub struct Begun {
     pub clock: u64,
 }
 
-// One place more: its number is kept where it is active, 0 where it is not.
-fn keep_active(k: Kept, number: u64) -> Kept
-    ensures { result ≡ keep_active k number }
-{
-    let n = k.n;
-    if number == 0 {
-        return k;
+impl Kept {
+    // One place more: its number is kept where it is active, 0 where it is not.
+    #[tactic(auto, unfolding(crate::specs::Begin::keep_active))]
+    fn keep(&mut self, number: u64)
+        ensures { self.new ≡ keep_active self.old number }
+    {
+        if number != 0 && self.n < MOST_ACTIVE {
+            self.active[self.n] = number;
+            self.n += 1;
+            self.least = number.min(self.least);
+        }
     }
-    if n >= MOST_ACTIVE {
-        return k;
-    }
-    let mut kept = k;
-    kept.active[n] = number;
-    kept.n = n + 1;
-    kept.least = lesser_u64(number, k.least);
-    kept
 }
 
 // The snapshot of a new transaction: the clock after begin as xmax, and as active numbers those of the eight places that are not 0.
 fn snapshot(active: [u64; MOST_LIVE], clock: u64) -> Snapshot
     ensures { result ≡ snapshot_of active clock }
 {
-    let mut k = Kept {
+    let mut kept = Kept {
         active: [0; MOST_ACTIVE],
         n: 0,
         least: clock,
     };
-    let mut i = 0;
-    while i < MOST_LIVE {
-        k = keep_active(k, active[i]);
-        i += 1;
+    for number in &active {
+        kept.keep(*number);
     }
-    let kept = k.active;
     Snapshot {
-        xmin: k.least,
+        xmin: kept.least,
         xmax: one_more(clock),
-        active: kept,
-        active_n: k.n,
+        active: kept.active,
+        active_n: kept.n,
     }
 }
 
 // Whether clock, live transactions and 2 are above the last number.
+#[tactic(auto, unfolding(crate::specs::Begin::spent))]
 fn no_numbers(clock: u64, live: u64) -> bool
     ensures { result ≡ spent clock live }
 {
-    if !sum_within(live, 2, LAST_NUMBER) {
-        return true;
-    }
-    !sum_within(clock, live + 2, LAST_NUMBER)
+    !sum_within(live, 2, LAST_NUMBER) || !sum_within(clock, live + 2, LAST_NUMBER)
 }
 
 // Begin, at a free place: the record that comes in has number 0.
+#[tactic(auto, unfolding(crate::specs::Begin::begin_of))]
 pub fn begin(active: [u64; MOST_LIVE], live: u64, clock: u64, t: Transaction) -> Begun
     ensures { result ≡ begin_of active live clock t }
 {
     if t.number != 0 {
         return Begun {
-            answer: Answer::Refused(FULL),
+            answer: Answer::Refused(Refusal::Full),
             txn: t,
-            clock: clock,
+            clock,
         };
     }
     if no_numbers(clock, live) {
         return Begun {
-            answer: Answer::Refused(NO_NUMBERS),
+            answer: Answer::Refused(Refusal::NoNumbers),
             txn: t,
-            clock: clock,
+            clock,
         };
     }
-    let seen = snapshot(active, clock);
     Begun {
         answer: Answer::Number(clock),
         txn: Transaction {
             number: clock,
-            snapshot: seen,
-            marked: false,
-            phase: Phase::Open,
-            slot: t.slot,
-            reads_n: 0,
-            writes_n: 0,
-            records_n: 0,
-            candidates_n: 0,
+            snapshot: snapshot(active, clock),
+            ..idle(t.slot)
         },
         clock: one_more(clock),
     }

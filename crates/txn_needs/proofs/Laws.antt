@@ -2,26 +2,25 @@
 -- Assumes nothing.
 use Prim.Native.Nat.{ℕ, zero, suc, ◌+◌, ◌<◌, ◌≤◌}
 use mathlib.Core.Path.{◌≡◌, refl, sym, ap, ◌∙◌}
-use mathlib.Core.Bool.{Bool, true, false, cond}
-use mathlib.Core.Option.{none}
+use mathlib.Core.Bool.{Bool, cond}
 use mathlib.Core.List.{List, [], ◌∷◌, ◌++◌, map, append_assoc, append-nil}
 use native.Mathlib.Numerals.{add-one}
 use native.Mathlib.Omega.{arith}
-use lib.Dec.{eqb, ltb}
-use borrow.Author.Tests.{ltb-true, lt-ltb, le-ltb}
+use borrow.Author.Tests.{lt-ltb, le-ltb}
 use lib.ListN.{length, take, drop, set, replicate, length-set, length-replicate, drop_of_length-le}
 use lib.Seq.{drop-cons, take-suc-set}
-use Rattle.base_lists.specs.Lists.{join}
-use Rattle.model.specs.Store.{same_key}
-use Rattle.txn.specs.View.{key_view}
+use Rattle.std.specs.List.{list_any, range_with_len}
+use Rattle.std.proofs.lemmas.List.FromFn.{fill_by_all}
+use Rattle.base_lists.specs.Lists.{join, some_of}
 use Rattle.txn.specs.declared.Transaction.{Transaction}
-use Rattle.table.specs.Lists.{Kind, list_at, entry_at, writes, write_of, write_at}
+use Rattle.table.specs.Lists.{Kind, list_at, entry_at, reads, read_of, read_at, writes, write_of, write_at}
+use Rattle.table.specs.declared.lists.IndexRead.{IndexRead}
 use Rattle.table.specs.declared.lists.Write.{Write}
 use Rattle.table_scans.proofs.Laws.{fields-length, fields_at}
 use Rattle.txn_needs.specs.declared.Key.{Key}
 use Rattle.txn_needs.specs.declared.Keys.{Keys}
 use Rattle.txn_needs.specs.Keys.{is_installed, old_key_of, new_key_of, keys_of}
-use Rattle.txn_needs.specs.Needs.{Listed, push_one, push_all, listed_in, front, written_by}
+use Rattle.txn_needs.specs.Needs.{Listed, push_one, push_all, listed_in, front, reads_need, written_by}
 
 -- a list pushed after a list
 pub push-append : (st : Listed) (xs ys : List ℕ) → push_all st (xs ++ ys) ≡ push_all (push_all st xs) ys
@@ -54,11 +53,24 @@ listed-front (x ∷ xs) (suc room) st h =
 pub listed-cut : (room : ℕ) (xs : List ℕ) → front (listed_in room xs) ≡ take room xs
 listed-cut room xs = listed-front xs room (record { out = replicate room 0; n = 0 }) (rw (length-replicate {A = ℕ} room 0) (omega arith))
 
--- none against a key
-pub none-same : (keyed key : ℕ) (b : Bool) → eqb keyed 0 ≡ b → same_key none (key_view keyed key) ≡ b
-unfolding same_key
-none-same keyed key true e = rw e
-none-same keyed key false e = rw e
+-- ---- `any` is the definitions' test: over a list, and over the numbers of the entries of a slot's list
+pub some_listed : (p : ℕ → Bool) (xs : List ℕ) → list_any p xs ≡ some_of p xs
+unfolding some_of
+some_listed p [] = refl
+some_listed p (x ∷ xs) = rw (some_listed p xs)
+
+pub some_mapped : (p : ℕ → Bool) (h : ℕ → ℕ) (is : List ℕ) → list_any (λ i. p (h i)) is ≡ some_of p (map h is)
+unfolding some_of
+some_mapped p h [] = refl
+some_mapped p h (i ∷ is) = rw (some_mapped p h is)
+
+module _ {A : Type 0} (g : A → ℕ) (f : List ℕ → A) (k : Kind) (xs : List ℕ) (s n : ℕ) where
+  pub fields_numbered : map g (list_at f k xs s n) ≡ map (λ i. g (entry_at f k xs s i)) (range_with_len 0 n)
+  fields_numbered =
+      fill_by_all (λ i. g (entry_at f k xs s i)) (map g (list_at f k xs s n)) n 0 (fields-length g f k xs s n) (fields_at g f k xs s n)
+
+  pub some_numbered : (p : ℕ → Bool) → list_any (λ i. p (g (entry_at f k xs s i))) (range_with_len 0 n) ≡ some_of p (map g (list_at f k xs s n))
+  some_numbered p = rw fields_numbered (some_mapped p (λ i. g (entry_at f k xs s i)) (range_with_len 0 n))
 
 -- ---- what is left of a field of a slot's list, from i on
 module _ {A : Type 0} (g : A → ℕ) (f : List ℕ → A) (k : Kind) (xs : List ℕ) (s n i : ℕ) where
@@ -72,7 +84,14 @@ module _ {A : Type 0} (g : A → ℕ) (f : List ℕ → A) (k : Kind) (xs : List
       let m : length (map g (list_at f k xs s n)) ≤ i = rw (fields-length g f k xs s n) h in
       drop_of_length-le (map g (list_at f k xs s n)) m
 
--- and of the rows of a transaction's pending writes
+-- of the buckets of a transaction's index reads, and of the rows of its pending writes
+module _ (lists : List ℕ) (t : Transaction) (i : ℕ) where
+  pub reads_next : (v : ℕ) → i < t.reads_n → v ≡ (read_at lists t.slot i).bucket → drop i (reads_need lists t) ≡ v ∷ drop (i + 1) (reads_need lists t)
+  reads_next v h e = fields-next (λ (r : IndexRead). r.bucket) read_of reads lists t.slot t.reads_n i v h e
+
+  pub reads_done : t.reads_n ≤ i → drop i (reads_need lists t) ≡ []
+  reads_done h = fields-done (λ (r : IndexRead). r.bucket) read_of reads lists t.slot t.reads_n i h
+
 module _ (lists : List ℕ) (t : Transaction) (i : ℕ) where
   pub rows_next : (v : ℕ) → i < t.writes_n → v ≡ (write_at lists t.slot i).row → drop i (written_by lists t) ≡ v ∷ drop (i + 1) (written_by lists t)
   rows_next v h e = fields-next (λ (w : Write). w.row) write_of writes lists t.slot t.writes_n i v h e
@@ -98,15 +117,6 @@ push-none st l e = rw e
 pub join-none : (f : ℕ → List ℕ) (st : Listed) (l : List ℕ) → l ≡ [] → push_all st (join f l) ≡ st
 unfolding join push_all
 join-none f st l e = rw e
-
--- a count within its list stays within it
-pub push-fits : (st st' : Listed) (v : ℕ) → st' ≡ push_one st v → st.n ≤ length st.out → st'.n ≤ length st'.out
-unfolding push_one
-push-fits st st' v e h = rw e (by (ltb st.n (length st.out)) refl)
-  where
-    by : (b : Bool) → ltb st.n (length st.out) ≡ b → (push_one st v).n ≤ length (push_one st v).out
-    by true t = rw (t, length-set) (omega (arith, ltb-true st.n (length st.out) t))
-    by false t = rw t h
 
 -- the two keys of a row, once it is known whether the writes are installed
 pub keys-are : (rows versions lists : List ℕ) (t : Transaction) (r : ℕ) (installed : Bool) (old new : Key) → installed ≡ is_installed t.phase

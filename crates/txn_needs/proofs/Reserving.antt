@@ -1,23 +1,36 @@
 -- The pending rows, listed and then sorted; and how many versions can be reserved at most.
 -- Assumes nothing.
-use Prim.Native.Nat.{ℕ, zero, suc, ◌+◌, ◌*◌, ◌≤◌}
+use Prim.Native.Nat.{ℕ, zero, suc, ◌+◌, ◌*◌, ◌≤◌, min}
 use mathlib.Core.Path.{◌≡◌, refl}
+use mathlib.Core.Bool.{Bool, true, false}
 use mathlib.Core.List.{List}
 use native.Mathlib.Numerals.{add-one}
 use native.Mathlib.Omega.{arith}
-use lib.ListN.{take, get_or, replicate}
-use Rattle.base_limits.specs.Limits.{most_buckets, most_writes}
+use lib.ListN.{length, take, get_or}
+use Rattle.std.proofs.lemmas.List.{take_min}
+use Rattle.base_limits.specs.Limits.{most_writes}
 use Rattle.base_lists.specs.Lists.{join}
 use Rattle.table.specs.Regions.{list_of}
-use Rattle.table_buckets.specs.Buckets.{Made, canonical_of}
-use Rattle.txn_needs.specs.Needs.{Listed, push_all, rows_written}
-use Rattle.txn_needs.specs.Versions.{listed, rows_listed, pending_into, versions_into, versions_in, reserved_in}
+use Rattle.table_buckets.specs.Buckets.{canonical_of}
+use Rattle.txn_needs.specs.Keys.{gets_version_of}
+use Rattle.txn_needs.specs.Needs.{Listed, push_one, push_all, front}
+use Rattle.txn_needs.specs.Versions.{rows_listed, kept, pending_into, versions_into, versions_in, reserved_in}
 
-pub pending-made : (lists : List ℕ) (slot n : ℕ) (out : List ℕ) (st : Listed) (made : Made)
-    → st ≡ push_all (record { out = replicate most_writes 0; n = 0 }) (rows_written lists slot n)
-    → made ≡ canonical_of (take st.n st.out) most_buckets out → listed made ≡ pending_into lists slot n out
-unfolding pending_into rows_listed
-pending-made lists slot n out st made e m = rw (m, e)
+-- what is listed in sixteen words, cut at sixteen
+pub front_cut : (l : Listed) (m : ℕ) → m ≡ min l.n most_writes → length l.out ≡ most_writes → take m l.out ≡ front l
+front_cut l m e h = rw (e, ← h) (take_min l.n l.out)
+
+-- a row is listed where it gets a version
+module _ (rows versions lists : List ℕ) (slot n r : ℕ) (st st' : Listed) (gets : Bool) where
+  pub row_kept : gets ≡ gets_version_of rows versions lists slot n r → gets ≡ true → st' ≡ push_one st r
+      → st' ≡ push_all st (kept rows versions lists slot n r)
+  unfolding kept push_all
+  row_kept g t e = rw (← g, t) e
+
+  pub row_passed : gets ≡ gets_version_of rows versions lists slot n r → gets ≡ false → st' ≡ st
+      → st' ≡ push_all st (kept rows versions lists slot n r)
+  unfolding kept push_all
+  row_passed g f e = rw (← g, f) e
 
 module _ (rows versions lists : List ℕ) where
   -- no pending writes get no version

@@ -1,13 +1,11 @@
 -- The old and the new key of a pending row.
-use Rattle.std.specs.Prelude.{ℕ, Bool, false, cond, not, ◌&&◌, ◌||◌, List, eqb, leb}
+use Rattle.std.specs.Prelude.{ℕ, Bool, false, cond, not, ◌&&◌, ◌||◌, List, eqb, leb, Option as StdOption, Some, None}
 use Rattle.std.proofs.Math.Option.{Option}
 use Rattle.model.specs.Store.{rank, phase_installed, same_key}
 use Rattle.txn.specs.View.{key_view, phase_view}
 use Rattle.txn.specs.declared.Phase.{Phase}
 use Rattle.txn.specs.declared.Transaction.{Transaction}
 use Rattle.table_scans.specs.Scans.{latest_pending}
-use Rattle.table_scans.specs.declared.Found.{Found}
-use Rattle.table_scans.specs.declared.Found.TheVariants.{At, Nothing}
 use Rattle.table.specs.Fields as fields
 use Rattle.table.specs.Lists.{write_at}
 use Rattle.txn_needs.specs.declared.Key.{Key}
@@ -28,9 +26,9 @@ version_key versions p = cond (eqb p 0) no_key (record { keyed = fields.keyed_of
 unfoldable pub old_key_of : List ℕ → List ℕ → Bool → ℕ → Key
 old_key_of rows versions installed r = version_key versions (cond installed (fields.next_of versions (fields.head_of rows r)) (fields.head_of rows r))
 
-abbrev pub written_at : List ℕ → ℕ → Found → Key
-written_at lists slot (At i) = record { keyed = (write_at lists slot i).keyed; key = (write_at lists slot i).key }
-written_at lists slot Nothing = no_key
+abbrev pub written_at : List ℕ → ℕ → StdOption ℕ → Key
+written_at lists slot (Some i) = record { keyed = (write_at lists slot i).keyed; key = (write_at lists slot i).key }
+written_at lists slot None = no_key
 
 -- of the row's last pending write
 unfoldable pub new_key_of : List ℕ → ℕ → ℕ → ℕ → Key

@@ -1,0 +1,7 @@
+use Rattle.std.proofs.Common.{◌≡◌, drop}
+use Rattle.table.specs.Fields.{clear_claims}
+use Rattle.txn_needs.specs.Needs.{written_by}
+use Rattle.txn_needs.proofs.unclaim_all.Given as goal
+
+abbrev pub invariant-loop-i : goal.invariant-loop-i
+invariant-loop-i l = clear_claims l.initial.rows l.t.number (written_by l.lists l.t) ≡ clear_claims l.rows l.t.number (drop l.i (written_by l.lists l.t))
