@@ -18,11 +18,11 @@ use Rattle.model.specs.Store as model
 use Rattle.model.specs.Seeing.{version_of, pending, matches}
 use Rattle.model.specs.Seeing as seeing
 use Rattle.model.specs.Steps.{found_rows, recorded, recording, record_all, records_after, read_txn}
-use Rattle.model.specs.Refusals.{Refusal, WrongPhase, NoRoom, ManyRecords, refusal_number, rows_checks, refusal}
+use Rattle.model.specs.Refusals.{Refusal, WrongPhase, NoRoom, ManyRecords, rows_checks, refusal}
 use Rattle.model.specs.Machine as machine
 use Rattle.model.specs.Machine.{lent_after}
 use Rattle.model.proofs.SeeingLaws.{key_at-pos, match-version, version-in, found-which}
-use Rattle.base_protocol.specs.View.{told}
+use Rattle.base_protocol.specs.View.{told, refusal_told}
 use Rattle.base_protocol.specs.declared.Extent.{Extent}
 use Rattle.table.specs.Lists.{records, record_of, start_of, writes_of, records_of}
 use Rattle.table.proofs.Spans.{list_length}
@@ -98,7 +98,7 @@ pub record ReadAs (s : Store) (lists found : List ℕ) (t : Transaction) (w : Le
 
 -- by the model's refusal: its number, with all as it was; or what the step leaves
 abbrev pub RowsAs : Store → List ℕ → List ℕ → Transaction → Option Refusal → LeftRows → Type 0
-RowsAs s lists found t (some why) w = w ≡ refused_rows lists found t (refusal_number why)
+RowsAs s lists found t (some why) w = w ≡ refused_rows lists found t (refusal_told why)
 RowsAs s lists found t none w = ReadAs s lists found t w
 
 module _ (s : Store) (rows versions lists : List ℕ) (e : Extent) (t : Transaction) (room : ℕ) (size : e.sizes.rows ≡ s.sizes.rows)
@@ -204,9 +204,9 @@ module _ (s : Store) (rows versions lists : List ℕ) (e : Extent) (t : Transact
 
     by_tests : (phase short many : Bool) → (many ≡ false → ReadAs s lists found t (done_rows lists found (matched_rows seen s.sizes.rows) new t))
         → RowsAs s lists found t (cond phase (some WrongPhase) (cond short (some NoRoom) (cond many (some ManyRecords) none)))
-        (cond phase (refused_rows lists found t (refusal_number WrongPhase))
-        (cond short (refused_rows lists found t (refusal_number NoRoom))
-        (cond many (refused_rows lists found t (refusal_number ManyRecords)) (done_rows lists found (matched_rows seen s.sizes.rows) new t))))
+        (cond phase (refused_rows lists found t (refusal_told WrongPhase))
+        (cond short (refused_rows lists found t (refusal_told NoRoom))
+        (cond many (refused_rows lists found t (refusal_told ManyRecords)) (done_rows lists found (matched_rows seen s.sizes.rows) new t))))
     by_tests true short many ok = refl
     by_tests false true many ok = refl
     by_tests false false true ok = refl

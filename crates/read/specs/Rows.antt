@@ -3,7 +3,9 @@ use Rattle.std.specs.Prelude.{ℕ, ◌+◌, min, cond, not, ◌&&◌, ◌||◌, 
 use Rattle.base_limits.specs.Limits.{most_rows, most_records}
 use Rattle.base_lists.specs.Lists.{member, pick}
 use Rattle.model.specs.Store.{rank, phase_collected, key_in}
-use Rattle.model.specs.Refusals.{WrongPhase, NoRoom, ManyRecords, refusal_number}
+use Rattle.model.specs.Refusals.{WrongPhase, NoRoom, ManyRecords}
+use Rattle.base_protocol.specs.View.{refusal_told}
+use Rattle.base_protocol.specs.declared.Refusal.{Refusal}
 use Rattle.base_protocol.specs.declared.Answer.TheVariants as tell
 use Rattle.base_protocol.specs.declared.Extent.{Extent}
 use Rattle.table.specs.declared.lists.ReadRecord.{ReadRecord}
@@ -57,7 +59,7 @@ pub record LeftRows : Type 0 where
   pub lists : List ℕ
   pub found : List ℕ
 
-abbrev pub refused_rows : List ℕ → List ℕ → Transaction → ℕ → LeftRows
+abbrev pub refused_rows : List ℕ → List ℕ → Transaction → Refusal → LeftRows
 refused_rows lists found t why = record { reply = refused_of t why; lists = lists; found = found }
 
 -- a read that is done: the rows go to the front of the lent list, the new records behind the old
@@ -71,8 +73,8 @@ done_rows lists found rs new t = record {
 -- the tests: a lent list too short, then more than 128 read records
 abbrev pub answer_of : List ℕ → List ℕ → List ℕ → List ReadRecord → Reading → LeftRows
 answer_of lists found rs new d =
-    cond (ltb (room_for d.room (length found)) (length rs)) (refused_rows lists found d.txn (refusal_number NoRoom))
-    (cond (ltb most_records (d.txn.records_n + length new)) (refused_rows lists found d.txn (refusal_number ManyRecords))
+    cond (ltb (room_for d.room (length found)) (length rs)) (refused_rows lists found d.txn (refusal_told NoRoom))
+    (cond (ltb most_records (d.txn.records_n + length new)) (refused_rows lists found d.txn (refusal_told ManyRecords))
     (done_rows lists found rs new d.txn))
 
 -- a read of what is looked at
@@ -88,5 +90,5 @@ reading_by e t room = record { txn = t; key = key_in (phase_view t.phase); used 
 -- rows: wrong phase first
 unfoldable pub rows_of : List ℕ → List ℕ → List ℕ → List ℕ → Extent → Transaction → ℕ → LeftRows
 rows_of rows versions lists found e t room =
-    cond (not (eqb (rank (phase_view t.phase)) phase_collected)) (refused_rows lists found t (refusal_number WrongPhase))
+    cond (not (eqb (rank (phase_view t.phase)) phase_collected)) (refused_rows lists found t (refusal_told WrongPhase))
     (reading_of (look rows versions lists (reading_by e t room)) found e.sizes.rows)

@@ -12,6 +12,7 @@ use native.Mathlib.Omega.{arith}
 use borrow.Author.Tests.{ne_eqb, lt-ltb, le-leb, leb-true}
 use lib.Dec.{eqb, ltb, leb}
 use lib.ListN.{length}
+use Rattle.std.specs.Prelude.{Option as StdOption, Some, None}
 use Rattle.base_limits.specs.Limits.{most_writes}
 use Rattle.base_lists.proofs.ListLaws.{and_l}
 use Rattle.model.specs.Store.{Chains, same_key}
@@ -23,17 +24,12 @@ use Rattle.table.proofs.Parts.{part_field}
 use Rattle.table.specs.Fields.{row_words, version_words, head_of, xmin_of, xmax_of, next_of, keyed_of, key_of}
 use Rattle.table.specs.Regions.{list_of}
 use Rattle.table.specs.Lists.{writes, write_of, start_of, write_at, writes_of}
-use Rattle.table.specs.declared.lists.Write.{Write}
 use Rattle.table.proofs.Spans.{list-next}
 use Rattle.table_scans.specs.Scans.{last_below, rows_written, latest_pending}
-use Rattle.table_scans.specs.declared.Found.{Found}
-use Rattle.table_scans.specs.declared.Found.TheVariants as place
 use Rattle.table_scans.proofs.Laws.{fields-length, fields-last, last_end}
 use Rattle.table_scans.proofs.Places.{is_place}
 use Rattle.table_chain.specs.Chain.{active_of, visible_to, first_visible}
 use Rattle.table_chain.specs.declared.Snapshot.{Snapshot}
-use Rattle.table_chain.specs.declared.Pointer.{Pointer}
-use Rattle.table_chain.specs.declared.Pointer.TheVariants as pointer
 use Rattle.table_chain.proofs.Laws.{first-visible-step, first-visible-answered}
 use Rattle.txn.specs.declared.Transaction.{Transaction}
 use Rattle.txn.specs.View.{key_view, rows_part, versions_part, chains_view, snapshot_view, write_view, writes_in, txn_view}
@@ -75,9 +71,9 @@ shows-parts z rows versions used few whole heads down =
     }
 
 -- a pointer as the model has it: 0 for none
-abbrev pub number_of : Pointer → ℕ
-number_of (pointer.At p) = p
-number_of pointer.Nothing = 0
+abbrev pub number_of : StdOption ℕ → ℕ
+number_of (Some p) = p
+number_of None = 0
 
 -- ---- the walk
 module _ (c : Chains) (n : ℕ) (rows versions : List ℕ) (used : ℕ) (g : Shows c n rows versions used) (s : Snapshot) where
@@ -85,7 +81,7 @@ module _ (c : Chains) (n : ℕ) (rows versions : List ℕ) (used : ℕ) (g : Sho
   unfolding visible seen
   visible-same p l u = rw (g.xmin-same p l u, g.xmax-same p l u)
 
-  none_at_zero : first_visible versions used s 0 ≡ pointer.Nothing
+  none_at_zero : first_visible versions used s 0 ≡ None
   none_at_zero = rw (first-visible-step versions used s 0, and-false)
 
   walk-at-zero : (f : ℕ) → walk c (snapshot_view s) f 0 ≡ 0
@@ -105,7 +101,7 @@ module _ (c : Chains) (n : ℕ) (rows versions : List ℕ) (used : ℕ) (g : Sho
       rw (first-visible-step versions used s p, low, in_table, some-p, lt-ltb 0 p l, le-leb p c.used u, visible-same p l u, ev, down) (by v)
     where
       by : (v : Bool)
-          → number_of (cond v (pointer.At p) (first_visible versions used s (next_of versions p))) ≡ cond v p (walk c (snapshot_view s) f (c.next p))
+          → number_of (cond v (Some p) (first_visible versions used s (next_of versions p))) ≡ cond v p (walk c (snapshot_view s) f (c.next p))
       by true = refl
       by false = rest
 
@@ -125,9 +121,9 @@ module _ (c : Chains) (n : ℕ) (rows versions : List ℕ) (used : ℕ) (g : Sho
 
 -- ---- the last pending write of a row
 -- the write at an answered place, as the model has it
-abbrev written_by : List ℕ → ℕ → Found → Option model.Write
-written_by lists slot (place.At i) = some (write_view (write_at lists slot i))
-written_by lists slot place.Nothing = none
+abbrev written_by : List ℕ → ℕ → StdOption ℕ → Option model.Write
+written_by lists slot (Some i) = some (write_view (write_at lists slot i))
+written_by lists slot None = none
 
 last_snoc : (so : Option model.Write) (ws : List model.Write) (w : model.Write) (r : ℕ)
     → last_write_from so (ws ++ (w ∷ [])) r ≡ cond (eqb w.row r) (some w) (last_write_from so ws r)
@@ -151,7 +147,7 @@ module _ (lists : List ℕ) (slot n r : ℕ) where
   write-next i = rw (list-next write_of writes.w (start_of writes slot) lists i, map-append)
 
   place-next : (i : ℕ) → i < n
-      → last_below (rows_written (writes_of lists slot n)) r (i + 1) ≡ cond (eqb (write_at lists slot i).row r) (place.At i)
+      → last_below (rows_written (writes_of lists slot n)) r (i + 1) ≡ cond (eqb (write_at lists slot i).row r) (Some i)
       (last_below (rows_written (writes_of lists slot n)) r i)
   place-next i h = fields-last (λ w. w.row) write_of writes lists slot n i (write_at lists slot i).row r refl h
 
@@ -181,7 +177,8 @@ module _ (lists : List ℕ) (slot n r : ℕ) where
       )
       (by (eqb (write_at lists slot i).row r) (last_below (rows_written (writes_of lists slot n)) r i))
     where
-      by : (b : Bool) (f : Found) → cond b (some (write_view (write_at lists slot i))) (written_by lists slot f) ≡ written_by lists slot (cond b (place.At i) f)
+      by : (b : Bool) (f : StdOption ℕ)
+          → cond b (some (write_view (write_at lists slot i))) (written_by lists slot f) ≡ written_by lists slot (cond b (Some i) f)
       by true f = refl
       by false f = refl
 
@@ -197,7 +194,7 @@ module _ (lists : List ℕ) (slot n r : ℕ) where
       )
       (by (eqb (write_at lists slot i).row r) (last_below (rows_written (writes_of lists slot n)) r i))
     where
-      by : (b : Bool) (f : Found) → (b || is_place f) ≡ is_place (cond b (place.At i) f)
+      by : (b : Bool) (f : StdOption ℕ) → (b || is_place f) ≡ is_place (cond b (Some i) f)
       by true f = refl
       by false f = refl
 
@@ -231,34 +228,34 @@ write-through : (b : Bool) → through_of (cond b how.Write No) ≡ 0
 write-through true = refl
 write-through false = refl
 
-version-through : (versions : List ℕ) (k : ℕ) (f : Pointer) → is_match (by_version versions k f) ≡ true → through_of (by_version versions k f) ≡ number_of f
-version-through versions k (pointer.At p) = by (carries (keyed_of versions p) (key_of versions p) k)
+version-through : (versions : List ℕ) (k : ℕ) (f : StdOption ℕ) → is_match (by_version versions k f) ≡ true → through_of (by_version versions k f) ≡ number_of f
+version-through versions k (Some p) = by (carries (keyed_of versions p) (key_of versions p) k)
   where
     by : (b : Bool) → is_match (cond b (Version p) No) ≡ true → through_of (cond b (Version p) No) ≡ p
     by true e = refl
     by false e = absurd (false≢true e)
-version-through versions k pointer.Nothing = λ e. refl
+version-through versions k None = λ e. refl
 
 module _ (c : Chains) (n : ℕ) (l : Look) (g : Shows c n l.rows l.versions l.reading.used) (few : l.reading.txn.writes_n ≤ most_writes)
     (r : ℕ) (h : r < n) where
   abbrev txn : model.Txn
   txn = txn_view l.lists l.reading.txn
 
-  pointer-by : (f : Pointer) → first_visible l.versions l.reading.used l.reading.txn.snapshot (head_of l.rows r) ≡ f
+  pointer-by : (f : StdOption ℕ) → first_visible l.versions l.reading.used l.reading.txn.snapshot (head_of l.rows r) ≡ f
       → same_key (key_at c (number_of f)) (some l.reading.key) ≡ is_match (by_version l.versions l.reading.key f)
   unfolding key_at same_key
-  pointer-by (pointer.At p) e =
+  pointer-by (Some p) e =
       let a = first-visible-answered l.versions l.reading.used l.reading.txn.snapshot (head_of l.rows r) p e in
       let d : p ≢ 0 = a.some in
       let u : p ≤ c.used = omega (arith, g.used-same, leb-true p l.reading.used (and_l (leb p l.reading.used) _ a.is_known)) in
       rw (ne_eqb p 0 d, g.key-same p (omega (arith, d)) u) (carries_same (keyed_of l.versions p) (key_of l.versions p) l.reading.key
       ∙ match-if (carries (keyed_of l.versions p) (key_of l.versions p) l.reading.key) (Version p) refl)
-  pointer-by pointer.Nothing e = refl
+  pointer-by None e = refl
 
-  match-by : (f : Found) → latest_pending l.lists l.reading.txn.slot l.reading.txn.writes_n r ≡ f
+  match-by : (f : StdOption ℕ) → latest_pending l.lists l.reading.txn.slot l.reading.txn.writes_n r ≡ f
       → matches c txn l.reading.key r ≡ is_match (match_by l r f)
   unfolding matches shown_key written_key
-  match-by (place.At i) e =
+  match-by (Some i) e =
       rw (
         pending-same l.lists l.reading.txn few r,
         last-same l.lists l.reading.txn few r,
@@ -267,7 +264,7 @@ module _ (c : Chains) (n : ℕ) (l : Look) (g : Shows c n l.rows l.versions l.re
       )
       (match-if (carries (write_at l.lists l.reading.txn.slot i).keyed (write_at l.lists l.reading.txn.slot i).key l.reading.key)
       how.Write refl)
-  match-by place.Nothing e =
+  match-by None e =
       rw (pending-same l.lists l.reading.txn few r, e, ← version-same c n l.rows l.versions l.reading.used g l.reading.txn.snapshot r h)
       (pointer-by _ refl)
 
@@ -276,12 +273,12 @@ module _ (c : Chains) (n : ℕ) (l : Look) (g : Shows c n l.rows l.versions l.re
   unfolding match_of
   matches-same = match-by _ refl
 
-  through-by : (f : Found) → latest_pending l.lists l.reading.txn.slot l.reading.txn.writes_n r ≡ f → is_match (match_by l r f) ≡ true
+  through-by : (f : StdOption ℕ) → latest_pending l.lists l.reading.txn.slot l.reading.txn.writes_n r ≡ f → is_match (match_by l r f) ≡ true
       → through_of (match_by l r f) ≡ cond (pending (writes_in l.lists l.reading.txn) r) 0 (version_of c (snapshot_view l.reading.txn.snapshot) r)
-  through-by (place.At i) e m =
+  through-by (Some i) e m =
       rw (pending-same l.lists l.reading.txn few r, e)
       (write-through (carries (write_at l.lists l.reading.txn.slot i).keyed (write_at l.lists l.reading.txn.slot i).key l.reading.key))
-  through-by place.Nothing e m =
+  through-by None e m =
       rw (pending-same l.lists l.reading.txn few r, e, ← version-same c n l.rows l.versions l.reading.used g l.reading.txn.snapshot r h)
       (version-through l.versions l.reading.key (first_visible l.versions l.reading.used l.reading.txn.snapshot (head_of l.rows r)) m)
 

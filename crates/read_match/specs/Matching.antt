@@ -1,13 +1,9 @@
 -- The matching rule over the words.
-use Rattle.std.specs.Prelude.{ℕ, Bool, true, false, cond, not, ◌&&◌, List, eqb}
+use Rattle.std.specs.Prelude.{ℕ, Bool, true, false, cond, not, ◌&&◌, List, eqb, Option, Some, None}
 use Rattle.table.specs.Fields.{head_of, keyed_of, key_of}
 use Rattle.table.specs.Lists.{write_at}
 use Rattle.table_scans.specs.Scans.{latest_pending}
-use Rattle.table_scans.specs.declared.Found.{Found}
-use Rattle.table_scans.specs.declared.Found.TheVariants as place
 use Rattle.table_chain.specs.Chain.{first_visible}
-use Rattle.table_chain.specs.declared.Pointer.{Pointer}
-use Rattle.table_chain.specs.declared.Pointer.TheVariants as pointer
 use Rattle.read_match.specs.declared.Reading.{Reading}
 use Rattle.read_match.specs.declared.Match.{Match}
 use Rattle.read_match.specs.declared.Match.TheVariants.{No, Write, Version}
@@ -27,18 +23,18 @@ abbrev pub carries : ℕ → ℕ → ℕ → Bool
 carries keyed key k = not (eqb keyed 0) && eqb key k
 
 -- by the version that the walk finds
-abbrev pub by_version : List ℕ → ℕ → Pointer → Match
-by_version versions k (pointer.At p) = cond (carries (keyed_of versions p) (key_of versions p) k) (Version p) No
-by_version versions k pointer.Nothing = No
+abbrev pub by_version : List ℕ → ℕ → Option ℕ → Match
+by_version versions k (Some p) = cond (carries (keyed_of versions p) (key_of versions p) k) (Version p) No
+by_version versions k None = No
 
 -- by the pending write at place i
 abbrev pub by_write : List ℕ → ℕ → ℕ → ℕ → Match
 by_write lists slot i k = cond (carries (write_at lists slot i).keyed (write_at lists slot i).key k) Write No
 
 -- the row's last pending write decides; where it has none, the version that the walk finds
-abbrev pub match_by : Look → ℕ → Found → Match
-match_by l r (place.At i) = by_write l.lists l.reading.txn.slot i l.reading.key
-match_by l r place.Nothing =
+abbrev pub match_by : Look → ℕ → Option ℕ → Match
+match_by l r (Some i) = by_write l.lists l.reading.txn.slot i l.reading.key
+match_by l r None =
     by_version l.versions l.reading.key (first_visible l.versions l.reading.used l.reading.txn.snapshot (head_of l.rows r))
 
 unfoldable pub match_of : Look → ℕ → Match

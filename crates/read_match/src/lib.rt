@@ -6,11 +6,12 @@ ghost use Rattle.read_match.specs.Matching.{look, carries, by_version, by_write,
 
 use table::lists::write_at;
 use table::{head_at, key_at, keyed_at};
-use table_chain::{Pointer, first_visible};
-use table_scans::{Found, latest_pending};
+use table_chain::first_visible;
+use table_scans::latest_pending;
 use txn::Transaction;
 
 // How a row matches the key: not, through its last pending write, or through the version that the walk finds.
+// Stays an enum of three: in an Option of the pointer, pointer 0 would stand for an own write.
 #[derive(Clone, Copy)]
 pub enum Match {
     No,
@@ -28,29 +29,25 @@ pub struct Reading {
 }
 
 // Whether a key, beside the word that says whether there is one, is the key wanted.
+// Stays two numbers: both are read as they stand in a version or a pending write, whose `keyed` may be any word (`carries`); a `Key` would be made for it.
 fn carries_key(keyed: u64, key: u64, wanted: u64) -> bool
     ensures { result ≡ carries keyed key wanted }
 {
-    if keyed == 0 {
-        return false;
-    }
-    key == wanted
+    keyed != 0 && key == wanted
 }
 
 // By the version that the walk found.
-fn by_version(versions: &[u64], key: u64, seen: Pointer) -> Match
+fn by_version(versions: &[u64], key: u64, seen: Option<u64>) -> Match
     ensures { result ≡ by_version versions.now key seen }
 {
     match seen {
-        Pointer::At(p) => {
-            let at = p as usize;
-            if carries_key(keyed_at(versions, at), key_at(versions, at), key) {
-                Match::Version(p)
-            } else {
-                Match::No
-            }
-        }
-        Pointer::Nothing => Match::No,
+        Some(p)
+            if carries_key(
+                keyed_at(versions, p as usize),
+                key_at(versions, p as usize),
+                key,
+            ) => Match::Version(p),
+        _ => Match::No,
     }
 }
 
@@ -67,21 +64,24 @@ fn by_write(lists: &[u64], slot: u32, i: u32, key: u64) -> Match
 }
 
 // How a row matches: its last pending write decides, and where it has none the version seen.
+// Stays with the lent tables one by one: so the C interface lends them, and `look`, which `match_of` promises, takes their words.
+#[tactic(auto, unfolding(crate::specs::Matching::match_of))]
 pub fn match_of(rows: &[u64], versions: &[u64], lists: &[u64], reading: Reading, row: u64) -> Match
     ensures { result ≡ match_of (look rows.now versions.now lists.now reading) row }
 {
-    let t = reading.txn;
-    let snapshot = t.snapshot;
-    let written = latest_pending(lists, t.slot, t.writes_n, row);
-    match written {
-        Found::At(i) => by_write(lists, t.slot, i, reading.key),
-        Found::Nothing => {
-            let head = head_at(rows, row as usize);
-            by_version(
-                versions,
-                reading.key,
-                first_visible(versions, reading.used as usize, snapshot, head),
-            )
-        }
+    let Reading {
+        txn: t,
+        key,
+        used,
+        ..
+    } = reading;
+    if let Some(i) = latest_pending(lists, t.slot, t.writes_n, row) {
+        return by_write(lists, t.slot, i, key);
     }
+    let head = head_at(rows, row as usize);
+    by_version(
+        versions,
+        key,
+        first_visible(versions, used as usize, t.snapshot, head),
+    )
 }

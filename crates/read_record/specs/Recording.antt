@@ -1,13 +1,11 @@
 -- The read records that a read adds, in row order.
-use Rattle.std.specs.Prelude.{ℕ, ◌+◌, min, cond, ◌||◌, List, [], ◌∷◌, eqb, ltb, length, drop, get_or}
+use Rattle.std.specs.Prelude.{ℕ, ◌+◌, min, cond, ◌||◌, List, [], ◌∷◌, eqb, ltb, length, drop, get_or, Option, Some, None}
 use Rattle.base_limits.specs.Limits.{most_records}
 use Rattle.base_lists.specs.Lists.{member}
 use Rattle.table.specs.Fields.{xmin_of}
 use Rattle.table.specs.Lists.{records, records_of, stored}
 use Rattle.table.specs.declared.lists.ReadRecord.{ReadRecord}
 use Rattle.table_scans.specs.Scans.{pointers}
-use Rattle.read_record.specs.declared.Recorded.{Recorded}
-use Rattle.read_record.specs.declared.Recorded.TheVariants.{TooMany, Kept}
 
 -- the pointers that are recorded; a count above 128 acts as 128
 abbrev pub known_pointers : List ℕ → ℕ → ℕ → List ℕ
@@ -33,17 +31,17 @@ unfoldable pub put_records : List ℕ → ℕ → ℕ → List ReadRecord → Li
 put_records lists slot n [] = lists
 put_records lists slot n (r ∷ rs) = put_records (stored records lists slot n (r.row ∷ r.ptr ∷ r.xmin ∷ [])) slot (n + 1) rs
 
--- what is told, the lists, and of the pointers those that are new
+-- how many read records there are then, or none where they would be too many, the lists, and of the pointers those that are new
 pub record LeftRecords : Type 0 where
-  pub told : Recorded
+  pub told : Option ℕ
   pub lists : List ℕ
   pub pointers : List ℕ
 
 -- new records behind the old, unless they are more than 128 then
 abbrev pub kept_records : List ℕ → ℕ → ℕ → List ReadRecord → List ℕ → LeftRecords
 kept_records lists slot n new ps =
-    cond (ltb most_records (n + length new)) (record { told = TooMany; lists = lists; pointers = ps })
-    (record { told = Kept (n + length new); lists = put_records lists slot n new; pointers = ps })
+    cond (ltb most_records (n + length new)) (record { told = None; lists = lists; pointers = ps })
+    (record { told = Some (n + length new); lists = put_records lists slot n new; pointers = ps })
 
 -- a record for each row whose pointer is new
 unfoldable pub recorded_of : List ℕ → List ℕ → List ℕ → List ℕ → ℕ → ℕ → LeftRecords

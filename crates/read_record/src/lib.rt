@@ -8,59 +8,40 @@ ghost use Rattle.read_record.specs.Inner.{new_pointer, count_of, add_record};
 
 use base_limits::MOST_RECORDS;
 use table::lists::{ReadRecord, put_record};
-use table::{set_word, word, xmin_at};
-use table_scans::{active_contains, read_already_recorded};
+use table::{word, xmin_at};
+use table_scans::read_already_recorded;
 
-// How many read records there are then; TooMany where they would be more than 128.
-#[derive(Clone, Copy)]
-pub enum Recorded {
-    TooMany,
-    Kept(u32),
-}
-
-// The pointer at place i, or 0 where a record has it or it stands before that place.
-fn new_pointer(lists: &[u64], through: &[u64], slot: u32, records_n: u32, i: usize) -> u64
-    ensures { result ≡ new_pointer (known_pointers lists.now slot records_n) (take i through.now) (get_or through.now i 0) }
+// The pointer, or 0 where a record has it or it is one of those before it.
+// Stays 0 for none: `record_versions` promises the pointers so (`planned`).
+fn new_pointer(lists: &[u64], before: &[u64], slot: u32, records_n: u32, ptr: u64) -> u64
+    ensures { result ≡ new_pointer (known_pointers lists.now slot records_n) before.now ptr }
 {
-    let ptr = word(through, i);
-    if read_already_recorded(lists, slot, records_n, ptr) {
-        return 0;
-    }
-    // a scan of numbers, here of pointers
-    if active_contains(through, i, ptr) {
+    if read_already_recorded(lists, slot, records_n, ptr) || before.contains(&ptr) {
         return 0;
     }
     ptr
 }
 
-// One more where there is a pointer.
-fn one_more(added: usize, ptr: u64) -> usize
-    requires { added < last_number }
-    ensures { result ≡ cond (eqb ptr 0) added (added + 1) }
-{
-    if ptr == 0 {
-        return added;
-    }
-    added + 1
-}
-
 // Leaves of the pointers those that are new, 0 for the others; tells how many they are.
+// Stays a loop over places: each word is changed where it stands, by those before it.
 fn plan(lists: &[u64], through: &mut [u64], slot: u32, records_n: u32) -> usize
-    ensures { (result ≡ count_of (planned (known_pointers lists.now slot records_n) through.old))
-        × (through.new ≡ planned (known_pointers lists.now slot records_n) through.old) }
+    ensures added { result ≡ count_of (planned (known_pointers lists.now slot records_n) through.old) }
+    ensures left { through.new ≡ planned (known_pointers lists.now slot records_n) through.old }
 {
     let mut added = 0;
-    let mut i = 0;
-    while i < through.len() {
-        let ptr = new_pointer(lists, through, slot, records_n, i);
-        set_word(through, i, ptr);
-        added = one_more(added, ptr);
-        i += 1;
+    for i in 0..through.len() {
+        let ptr = through[i];
+        let new = new_pointer(lists, &through[..i], slot, records_n, ptr);
+        through[i] = new;
+        if new != 0 {
+            added += 1;
+        }
     }
     added
 }
 
 // Stores the record of a new pointer as read record `at`.
+// Stays with the lent tables one by one, here and below: so the C interface lends them, and `records_for`, `recorded_of` take their words.
 fn add_record(versions: &[u64], lists: &mut [u64], slot: u32, at: u32, row: u64, ptr: u64) -> u32
     requires { at ≤ most_records }
     ensures { record { at = result; lists = lists.new }
@@ -74,8 +55,8 @@ fn add_record(versions: &[u64], lists: &mut [u64], slot: u32, at: u32, row: u64,
         slot,
         at,
         ReadRecord {
-            row: row,
-            ptr: ptr,
+            row,
+            ptr,
             xmin: xmin_at(versions, ptr as usize),
         },
     );
@@ -96,21 +77,14 @@ fn add_records(
         ≡ put_records lists.old slot from (records_for versions.now matched.now through.now) }
 {
     let mut at = from;
-    let mut i = 0;
-    while i < through.len() {
-        at = add_record(
-            versions,
-            lists,
-            slot,
-            at,
-            word(matched, i),
-            word(through, i),
-        );
-        i += 1;
+    for (i, ptr) in through.iter().enumerate() {
+        at = add_record(versions, lists, slot, at, word(matched, i), *ptr);
     }
 }
 
-// Adds a record for each matched row whose pointer is new, in row order; none where they would be too many.
+// Adds a record for each matched row whose pointer is new, in row order; tells how many read records there are then.
+// None where they would be more than 128.
+// Stays with rows and pointers in two lists: `record_versions` promises of lists of any two lengths, as a row that is missing is 0 (`records_for`).
 pub fn record_versions(
     versions: &[u64],
     lists: &mut [u64],
@@ -118,15 +92,15 @@ pub fn record_versions(
     through: &mut [u64],
     slot: u32,
     records_n: u32,
-) -> Recorded
+) -> Option<u32>
     ensures { record { told = result; lists = lists.new; pointers = through.new }
         ≡ recorded_of versions.now lists.old matched.now through.old slot records_n }
 {
     let added = plan(lists, through, slot, records_n);
     let after = records_n as usize + added;
     if after > MOST_RECORDS as usize {
-        return Recorded::TooMany;
+        return None;
     }
     add_records(versions, lists, matched, through, slot, records_n);
-    Recorded::Kept(after as u32)
+    Some(after as u32)
 }
