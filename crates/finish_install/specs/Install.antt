@@ -1,16 +1,15 @@
 -- Install: a new version for each of the pending rows that get one.
-use Rattle.std.specs.Prelude.{ℕ, cond, not, List, [], ◌∷◌, eqb, replicate}
+use Rattle.std.specs.Prelude.{ℕ, cond, not, List, [], ◌∷◌, eqb, replicate, Option, Some, None}
 use Rattle.base_limits.specs.Limits.{most_writes}
 use Rattle.model.specs.Store.{rank, phase_prepared}
-use Rattle.model.specs.Refusals.{WrongPhase, refusal_number}
+use Rattle.model.specs.Refusals.{WrongPhase}
+use Rattle.base_protocol.specs.View.{refusal_told}
 use Rattle.base_numbers.specs.Numbers.{one_more}
 use Rattle.base_protocol.specs.declared.Answer.TheVariants as tell
 use Rattle.table.specs.Fields.{head_of, set_head, set_xmin, set_xmax, set_next, set_keyed, set_key, set_payload}
 use Rattle.table.specs.Lists.{write_at}
 use Rattle.table.specs.declared.lists.Write.{Write}
 use Rattle.table_scans.specs.Scans.{latest_pending}
-use Rattle.table_scans.specs.declared.Found.{Found}
-use Rattle.table_scans.specs.declared.Found.TheVariants.{At, Nothing}
 use Rattle.txn.specs.View.{phase_view}
 use Rattle.txn.specs.Methods.{with_phase}
 use Rattle.txn.specs.declared.Phase.TheVariants as phase
@@ -20,9 +19,9 @@ use Rattle.txn_needs.specs.Versions.{versions_into}
 use Rattle.finish_install.specs.declared.Installed.{Installed}
 
 -- a row's last pending write; an erase where it has none
-abbrev pub write_found : List ℕ → ℕ → ℕ → Found → Write
-write_found lists slot r (At i) = write_at lists slot i
-write_found lists slot r Nothing = record { row = r; keyed = 0; key = 0; payload = 0 }
+abbrev pub write_found : List ℕ → ℕ → ℕ → Option ℕ → Write
+write_found lists slot r (Some i) = write_at lists slot i
+write_found lists slot r None = record { row = r; keyed = 0; key = 0; payload = 0 }
 
 unfoldable pub last_write_of : List ℕ → ℕ → ℕ → ℕ → Write
 last_write_of lists slot n r = write_found lists slot r (latest_pending lists slot n r)
@@ -68,5 +67,5 @@ installed t c = record { reply = record { answer = tell.Done; txn = with_phase t
 unfoldable pub install_of : Chains → List ℕ → Transaction → Left
 install_of c lists t =
     cond (not (eqb (rank (phase_view t.phase)) phase_prepared))
-    (record { reply = record { answer = tell.Refused (refusal_number WrongPhase); txn = t; used = c.used }; rows = c.rows; versions = c.versions })
+    (record { reply = record { answer = tell.Refused (refusal_told WrongPhase); txn = t; used = c.used }; rows = c.rows; versions = c.versions })
     (installed t (pushed_rows c lists t (front (to_install c lists t))))

@@ -1,15 +1,15 @@
 // Install: for each distinct pending row that gets a version, ascending, one from its last write.
 #![tactic(auto)]
 
-ghost use Rattle.std.specs.Prelude.{◌≡◌, take};
+ghost use Rattle.std.specs.Prelude.{◌≡◌};
 ghost use Rattle.finish_install.specs.Install.{last_write_of, version_stored, pushed_row, pushed_rows, install_of};
 
 use base_numbers::one_more;
-use base_protocol::{Answer, WRONG_PHASE};
+use base_protocol::{Answer, Refusal};
 use table::lists::{Write, write_at};
 use table::{head_at, set_head, set_key, set_keyed, set_next, set_payload, set_xmax, set_xmin};
-use table_scans::{Found, latest_pending};
-use txn::{PREPARED, Phase, Transaction, phase_rank};
+use table_scans::latest_pending;
+use txn::{Phase, Transaction};
 use txn_needs::versions::{MOST_PENDING, version_rows};
 
 // What install leaves beside the tables.
@@ -21,14 +21,14 @@ pub struct Installed {
 }
 
 // The last pending write of a row; an erase where it has none.
+#[tactic(auto, unfolding(crate::specs::Install::last_write_of))]
 fn last_write(lists: &[u64], slot: u32, count: u32, row: u64) -> Write
     ensures { result ≡ last_write_of lists.now slot count row }
 {
-    let last = latest_pending(lists, slot, count, row);
-    match last {
-        Found::At(i) => write_at(lists, slot, i),
-        Found::Nothing => Write {
-            row: row,
+    match latest_pending(lists, slot, count, row) {
+        Some(i) => write_at(lists, slot, i),
+        None => Write {
+            row,
             keyed: 0,
             key: 0,
             payload: 0,
@@ -37,6 +37,7 @@ fn last_write(lists: &[u64], slot: u32, count: u32, row: u64) -> Write
 }
 
 // A new version at pointer p, not ended.
+#[tactic(auto, unfolding(crate::specs::Install::version_stored))]
 fn store_version(versions: &mut [u64], p: usize, xmin: u64, next: u64, w: Write)
     ensures { versions.new ≡ version_stored versions.old p xmin next w }
 {
@@ -49,6 +50,8 @@ fn store_version(versions: &mut [u64], p: usize, xmin: u64, next: u64, w: Write)
 }
 
 // One row gets a new version before its old head, which ends; tells the last used pointer.
+// Stays with the lent tables one by one, here and below: the C interface lends them and the definitions over words take them so (docs/DECISIONS.md, 69).
+#[tactic(auto, unfolding(crate::specs::Install::pushed_row))]
 fn push_row(
     rows: &mut [u64],
     versions: &mut [u64],
@@ -69,32 +72,27 @@ fn push_row(
     p
 }
 
-// The same for the first n rows of a list.
+// The same for each row of a list.
 fn push_all_rows(
     rows: &mut [u64],
     versions: &mut [u64],
     lists: &[u64],
     t: Transaction,
     list: &[u64],
-    n: usize,
     used: u64,
 ) -> u64
     ensures { record { rows = rows.exit.now; versions = versions.new; used = result }
-        ≡ pushed_rows (record { rows = rows.entry.now; versions = versions.old; used = used }) lists.now t (take n list.now) }
+        ≡ pushed_rows (record { rows = rows.entry.now; versions = versions.old; used = used }) lists.now t list.now }
 {
     let mut last = used;
-    let mut i = 0;
-    while i < list.len() {
-        if n <= i {
-            return last;
-        }
-        last = push_row(rows, versions, lists, t, list[i], last);
-        i += 1;
+    for row in list {
+        last = push_row(rows, versions, lists, t, *row, last);
     }
     last
 }
 
 // Install (Prepared): becomes Installed.
+#[tactic(auto, unfolding(crate::specs::Install::install_of, crate::specs::Install::to_install))]
 pub fn install(
     rows: &mut [u64],
     versions: &mut [u64],
@@ -105,21 +103,19 @@ pub fn install(
     ensures { record { reply = result; rows = rows.exit.now; versions = versions.new }
         ≡ install_of (record { rows = rows.entry.now; versions = versions.old; used = used }) lists.now t }
 {
-    let phase = t.phase;
-    if phase_rank(phase) != PREPARED {
+    if t.phase != Phase::Prepared {
         return Installed {
-            answer: Answer::Refused(WRONG_PHASE),
+            answer: Answer::Refused(Refusal::WrongPhase),
             txn: t,
-            used: used,
+            used,
         };
     }
-    let mut list = [0u64; MOST_PENDING];
+    let mut list = [0; MOST_PENDING];
     let n = version_rows(rows, versions, lists, t.slot, t.writes_n, &mut list);
-    let last = push_all_rows(rows, versions, lists, t, &list, n, used);
-    let txn = t.with_phase(Phase::Installed);
+    let last = push_all_rows(rows, versions, lists, t, &list[..n.min(MOST_PENDING)], used);
     Installed {
         answer: Answer::Done,
-        txn: txn,
+        txn: t.with_phase(Phase::Installed),
         used: last,
     }
 }

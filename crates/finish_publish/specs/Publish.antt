@@ -2,7 +2,8 @@
 use Rattle.std.specs.Prelude.{ℕ, ◌+◌, cond, not, List, [], ◌∷◌, ◌++◌, eqb, leb, replicate}
 use Rattle.base_limits.specs.Limits.{most_index_reads, most_writes}
 use Rattle.model.specs.Store.{rank, phase_installed, phase_ended, bucket_in}
-use Rattle.model.specs.Refusals.{WrongPhase, refusal_number}
+use Rattle.model.specs.Refusals.{WrongPhase}
+use Rattle.base_protocol.specs.View.{refusal_told}
 use Rattle.base_protocol.specs.declared.Answer.TheVariants as tell
 use Rattle.base_protocol.specs.declared.Extent.{Extent}
 use Rattle.txn.specs.View.{phase_view}
@@ -17,7 +18,7 @@ use Rattle.table_postings.specs.Links.{reposted}
 
 -- end: wrong phase; else Ended
 unfoldable pub end_of : Transaction → Answered
-end_of t = cond (not (eqb (rank (phase_view t.phase)) phase_installed)) (refused_of t (refusal_number WrongPhase))
+end_of t = cond (not (eqb (rank (phase_view t.phase)) phase_installed)) (refused_of t (refusal_told WrongPhase))
     (record { answer = tell.Done; txn = with_phase t phase.Ended })
 
 -- the posting of one row, and of every pending one, follows its new key, from list to list
@@ -58,7 +59,7 @@ pub record Left : Type 0 where
 -- publish: wrong phase; else changed buckets are stamped, buckets freed, postings moved, claims freed, and the record ends
 unfoldable pub publish_of : List ℕ → List ℕ → List ℕ → List ℕ → Extent → Transaction → Left
 publish_of rows versions buckets lists e t =
-    cond (not (eqb (rank (phase_view t.phase)) phase_ended)) (record { reply = refused_of t (refusal_number WrongPhase); rows = rows; buckets = buckets })
+    cond (not (eqb (rank (phase_view t.phase)) phase_ended)) (record { reply = refused_of t (refusal_told WrongPhase); rows = rows; buckets = buckets })
     (record {
       reply = record { answer = tell.Stamp e.clock; txn = idle_of t.slot };
       rows = clear_claims (posted_all rows lists e.sizes.rows t (written_by lists t)) t.number (written_by lists t);
@@ -68,7 +69,7 @@ publish_of rows versions buckets lists e t =
 -- abort: wrong phase; else buckets and claims are freed, and the record ends
 unfoldable pub abort_of : List ℕ → List ℕ → List ℕ → List ℕ → ℕ → Transaction → Left
 abort_of rows versions buckets lists bucket_count t =
-    cond (leb phase_installed (rank (phase_view t.phase))) (record { reply = refused_of t (refusal_number WrongPhase); rows = rows; buckets = buckets })
+    cond (leb phase_installed (rank (phase_view t.phase))) (record { reply = refused_of t (refusal_told WrongPhase); rows = rows; buckets = buckets })
     (record {
       reply = record { answer = tell.Done; txn = idle_of t.slot };
       rows = clear_claims rows t.number (written_by lists t);

@@ -2,7 +2,8 @@
 use Rattle.std.specs.Prelude.{ℕ, ◌+◌, Bool, true, false, cond, not, List, ◌++◌, eqb, ltb, replicate}
 use Rattle.base_limits.specs.Limits.{most_index_reads, most_writes, most_live}
 use Rattle.model.specs.Store.{rank, phase_open}
-use Rattle.model.specs.Refusals.{WrongPhase, Taken, NoVersions, Conflict, refusal_number}
+use Rattle.model.specs.Refusals.{WrongPhase, Taken, NoVersions, Conflict}
+use Rattle.base_protocol.specs.View.{refusal_told}
 use Rattle.base_protocol.specs.declared.Answer.TheVariants as tell
 use Rattle.base_protocol.specs.declared.Extent.{Extent}
 use Rattle.base_protocol.specs.declared.Verdict.{Verdict}
@@ -29,8 +30,8 @@ reads_taken_in buckets lists t = any_taken buckets (front (listed_in most_needed
 -- validate: wrong phase, a needed bucket held by another; else the verdict
 unfoldable pub validate_of : List ℕ → List ℕ → List ℕ → Transaction → Answered
 validate_of versions buckets lists t =
-    cond (not (eqb (rank (phase_view t.phase)) phase_open)) (refused_of t (refusal_number WrongPhase))
-    (cond (reads_taken_in buckets lists t) (refused_of t (refusal_number Taken))
+    cond (not (eqb (rank (phase_view t.phase)) phase_open)) (refused_of t (refusal_told WrongPhase))
+    (cond (reads_taken_in buckets lists t) (refused_of t (refusal_told Taken))
     (record { answer = tell.Judged (verdict_of versions buckets lists t); txn = t }))
 
 -- no conflict
@@ -45,10 +46,12 @@ unfoldable pub lacks : List ℕ → List ℕ → List ℕ → Extent → List �
 lacks rows versions lists e prepared t =
     ltb e.sizes.versions (e.used + reserved_in rows versions lists prepared most_live + versions_in rows versions lists t.slot t.writes_n)
 
--- the buckets that prepare needs, listed
+-- the buckets that prepare needs, and the same listed
+abbrev pub needs : List ℕ → List ℕ → List ℕ → ℕ → Transaction → List ℕ
+needs rows versions lists bucket_count t = reads_need lists t ++ writes_need rows versions lists bucket_count t
+
 unfoldable pub needed_into : List ℕ → List ℕ → List ℕ → ℕ → Transaction → List ℕ → Listed
-needed_into rows versions lists bucket_count t out =
-    push_all (record { out = out; n = 0 }) (reads_need lists t ++ writes_need rows versions lists bucket_count t)
+needed_into rows versions lists bucket_count t out = push_all (record { out = out; n = 0 }) (needs rows versions lists bucket_count t)
 
 -- an answer, rows and buckets
 pub record Left : Type 0 where
@@ -62,14 +65,14 @@ left a rows buckets = record { reply = a; rows = rows; buckets = buckets }
 -- prepare, with the needed buckets listed: wrong phase; a bucket held or a row claimed by another; a conflict; too few versions; else all is taken
 unfoldable pub prepare_with : List ℕ → List ℕ → List ℕ → List ℕ → Extent → List ℕ → Transaction → Listed → Left
 prepare_with rows versions buckets lists e prepared t needed =
-    cond (any_taken buckets (front needed) t.number) (left (refused_of t (refusal_number Taken)) rows buckets)
-    (cond (any_claimed rows lists t) (left (refused_of t (refusal_number Taken)) rows buckets)
-    (cond (not (is_clear (verdict_of versions buckets lists t))) (left (refused_of t (refusal_number Conflict)) rows buckets)
-    (cond (lacks rows versions lists e prepared t) (left (refused_of t (refusal_number NoVersions)) rows buckets)
+    cond (any_taken buckets (front needed) t.number) (left (refused_of t (refusal_told Taken)) rows buckets)
+    (cond (any_claimed rows lists t) (left (refused_of t (refusal_told Taken)) rows buckets)
+    (cond (not (is_clear (verdict_of versions buckets lists t))) (left (refused_of t (refusal_told Conflict)) rows buckets)
+    (cond (lacks rows versions lists e prepared t) (left (refused_of t (refusal_told NoVersions)) rows buckets)
     (left (record { answer = tell.Done; txn = with_phase t phase.Prepared }) (set_claims rows t.number (written_by lists t))
     (set_holders buckets t.number (front needed))))))
 
 unfoldable pub prepare_of : List ℕ → List ℕ → List ℕ → List ℕ → Extent → List ℕ → Transaction → Left
 prepare_of rows versions buckets lists e prepared t =
-    cond (not (eqb (rank (phase_view t.phase)) phase_open)) (left (refused_of t (refusal_number WrongPhase)) rows buckets)
+    cond (not (eqb (rank (phase_view t.phase)) phase_open)) (left (refused_of t (refusal_told WrongPhase)) rows buckets)
     (prepare_with rows versions buckets lists e prepared t (needed_into rows versions lists e.sizes.buckets t (replicate most_needed 0)))

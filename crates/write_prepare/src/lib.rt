@@ -2,16 +2,18 @@
 #![tactic(auto)]
 
 ghost use Rattle.std.specs.Prelude.{◌≡◌};
-ghost use Rattle.write_prepare.specs.Prepare.{reads_taken_in, validate_of, is_clear, lacks, needed_into, prepare_of};
+ghost use Rattle.txn_needs.specs.Listing.{listed_of};
+ghost use Rattle.txn_needs.specs.Needs.{push_all};
+ghost use Rattle.write_prepare.specs.Prepare.{reads_taken_in, validate_of, is_clear, lacks, needs, prepare_of};
 
 use base_limits::{MOST_INDEX_READS, MOST_LIVE, MOST_WRITES};
-use base_numbers::{lesser_u32, sum_within};
-use base_protocol::{Answer, CONFLICT, Extent, NO_VERSIONS, TAKEN, Verdict, WRONG_PHASE};
+use base_numbers::sum_within;
+use base_protocol::{Answer, Extent, Refusal, Verdict};
 use table::lists::read_bucket_at;
 use table::{holder_at, set_holders};
-use txn::{Answered, OPEN, Phase, Transaction, by_another, phase_rank, refused};
+use txn::{Answered, Phase, Transaction, by_another, refused};
 use txn_needs::versions::{count_versions, reserved};
-use txn_needs::{any_claimed, any_taken, claim_all, push_reads, push_writes};
+use txn_needs::{Listing, any_claimed, any_taken, claim_all};
 use write_verdict::verdict;
 
 // Words for the buckets of all index reads and of the old and the new keys of all pending writes.
@@ -21,30 +23,26 @@ pub const MOST_NEEDED: usize = (MOST_INDEX_READS + MOST_WRITES + MOST_WRITES) as
 fn reads_taken(buckets: &[u64], lists: &[u64], t: Transaction) -> bool
     ensures { result ≡ reads_taken_in buckets.now lists.now t }
 {
-    let most = lesser_u32(t.reads_n, MOST_NEEDED as u32);
-    let mut i: u32 = 0;
-    while i < most {
-        if by_another(
+    let most = t.reads_n.min(MOST_NEEDED as u32);
+    (0..most).any(|i| {
+        by_another(
             holder_at(buckets, read_bucket_at(lists, t.slot, i) as usize),
             t.number,
-        ) {
-            return true;
-        }
-        i += 1;
-    }
-    false
+        )
+    })
 }
 
 // Validate (Open): the verdict; changes nothing.
+// Stays with the lent tables one by one, here and below: the C interface lends them and the definitions over words take them so (docs/DECISIONS.md, 69).
+#[tactic(auto, unfolding(crate::specs::Prepare::validate_of))]
 pub fn validate(versions: &[u64], buckets: &[u64], lists: &[u64], t: Transaction) -> Answered
     ensures { result ≡ validate_of versions.now buckets.now lists.now t }
 {
-    let phase = t.phase;
-    if phase_rank(phase) != OPEN {
-        return refused(t, WRONG_PHASE);
+    if t.phase != Phase::Open {
+        return refused(t, Refusal::WrongPhase);
     }
     if reads_taken(buckets, lists, t) {
-        return refused(t, TAKEN);
+        return refused(t, Refusal::Taken);
     }
     Answered {
         answer: Answer::Judged(verdict(versions, buckets, lists, t)),
@@ -56,19 +54,11 @@ pub fn validate(versions: &[u64], buckets: &[u64], lists: &[u64], t: Transaction
 fn is_clear(v: Verdict) -> bool
     ensures { result ≡ is_clear v }
 {
-    match v {
-        Verdict::Clear => true,
-        Verdict::Bucket {
-            bucket: _,
-            captured: _,
-            present: _,
-        } => false,
-        Verdict::Row { row: _, ptr: _ } => false,
-        Verdict::Mark => false,
-    }
+    matches!(v, Verdict::Clear)
 }
 
 // Whether there are too few versions: used, reserved by others, and the own rows that get one are above the limit.
+#[tactic(auto, unfolding(crate::specs::Prepare::lacks))]
 fn no_versions(
     rows: &[u64],
     versions: &[u64],
@@ -79,10 +69,9 @@ fn no_versions(
 ) -> bool
     ensures { result ≡ lacks rows.now versions.now lists.now extent prepared t }
 {
-    let sizes = extent.sizes;
     let others = reserved(rows, versions, lists, prepared);
     let own = count_versions(rows, versions, lists, t.slot, t.writes_n);
-    !sum_within(extent.used, others + own, sizes.versions)
+    !sum_within(extent.used, others + own, extent.sizes.versions)
 }
 
 // The buckets that prepare needs: of the index reads, and of the old and the new key of every pending row.
@@ -92,16 +81,18 @@ fn push_needed(
     lists: &[u64],
     bucket_count: u64,
     t: Transaction,
-    out: &mut [u64],
-) -> usize
-    ensures { record { out = out.exit.now; n = result }
-        ≡ needed_into rows.now versions.now lists.now bucket_count t out.entry.now }
+    needed: &mut Listing,
+)
+    ensures same_words { needed.new.out.ghost_name ≡ needed.old.out.ghost_name }
+    ensures listed { listed_of needed.new
+        ≡ push_all (listed_of needed.old) (needs rows.now versions.now lists.now bucket_count t) }
 {
-    let read = push_reads(lists, t, out, 0);
-    push_writes(rows, versions, lists, bucket_count, t, out, read)
+    needed.push_reads(lists, t);
+    needed.push_writes(rows, versions, lists, bucket_count, t);
 }
 
 // Prepare (Open): takes every bucket it needs and claims every pending row.
+#[tactic(auto, unfolding(crate::specs::Prepare::prepare_of, crate::specs::Prepare::prepare_with, crate::specs::Prepare::needed_into))]
 pub fn prepare(
     rows: &mut [u64],
     versions: &[u64],
@@ -114,26 +105,25 @@ pub fn prepare(
     ensures { record { reply = result; rows = rows.new; buckets = buckets.new }
         ≡ prepare_of rows.old versions.now buckets.old lists.now extent prepared t }
 {
-    let phase = t.phase;
-    let sizes = extent.sizes;
-    if phase_rank(phase) != OPEN {
-        return refused(t, WRONG_PHASE);
+    if t.phase != Phase::Open {
+        return refused(t, Refusal::WrongPhase);
     }
-    let mut list = [0u64; MOST_NEEDED];
-    let n = push_needed(rows, versions, lists, sizes.buckets, t, &mut list);
-    if any_taken(buckets, &list, n, t.number) {
-        return refused(t, TAKEN);
+    let mut words = [0; MOST_NEEDED];
+    let mut needed = Listing::new(&mut words);
+    push_needed(rows, versions, lists, extent.sizes.buckets, t, &mut needed);
+    if any_taken(buckets, needed.as_slice(), t.number) {
+        return refused(t, Refusal::Taken);
     }
     if any_claimed(rows, lists, t) {
-        return refused(t, TAKEN);
+        return refused(t, Refusal::Taken);
     }
     if !is_clear(verdict(versions, buckets, lists, t)) {
-        return refused(t, CONFLICT);
+        return refused(t, Refusal::Conflict);
     }
     if no_versions(rows, versions, lists, extent, prepared, t) {
-        return refused(t, NO_VERSIONS);
+        return refused(t, Refusal::NoVersions);
     }
-    set_holders(buckets, &list, n, t.number);
+    set_holders(buckets, needed.as_slice(), t.number);
     claim_all(rows, lists, t);
     Answered {
         answer: Answer::Done,

@@ -1,5 +1,5 @@
 -- The verdict over the words: the model's, of what the tables and the record show.
-use Rattle.std.specs.Prelude.{ℕ, suc, min, Bool, cond, not, ◌&&◌, ◌||◌, List, [], ◌∷◌, eqb, leb, ltb}
+use Rattle.std.specs.Prelude.{ℕ, suc, min, Bool, cond, not, ◌&&◌, ◌||◌, List, [], ◌∷◌, eqb, leb, ltb, Option, Some, None}
 use Rattle.base_limits.specs.Limits.{most_active}
 use Rattle.base_lists.specs.Lists.{least}
 use Rattle.model.specs.Store as model
@@ -10,8 +10,6 @@ use Rattle.base_protocol.specs.declared.Verdict.TheVariants as verdict
 use Rattle.table.specs.Fields.{xmin_of, xmax_of, stamp_of}
 use Rattle.table.specs.Lists.{read_at, record_at}
 use Rattle.table.specs.declared.lists.ReadRecord.{ReadRecord}
-use Rattle.table_scans.specs.declared.Found.{Found}
-use Rattle.table_scans.specs.declared.Found.TheVariants.{At, Nothing}
 use Rattle.table_chain.specs.Chain.{active_of}
 use Rattle.table_chain.specs.declared.Snapshot.{Snapshot}
 use Rattle.txn.specs.declared.Transaction.{Transaction}
@@ -30,12 +28,12 @@ abbrev pub verdict_of : List ℕ → List ℕ → List ℕ → Transaction → V
 verdict_of versions buckets lists t = verdict_told (judged.verdict (versions_view versions) (stamps_view buckets) (txn_view lists t))
 
 -- the first place at which the test holds, counted from k
-unfoldable pub first_where : {A : Type 0} → (A → Bool) → ℕ → List A → Found
-first_where test k [] = Nothing
-first_where test k (x ∷ xs) = cond (test x) (At k) (first_where test (suc k) xs)
+unfoldable pub first_where : {A : Type 0} → (A → Bool) → ℕ → List A → Option ℕ
+first_where test k [] = None
+first_where test k (x ∷ xs) = cond (test x) (Some k) (first_where test (suc k) xs)
 
 -- the place of the first index read whose bucket has changed
-abbrev pub changed_read : List ℕ → List ℕ → Transaction → Found
+abbrev pub changed_read : List ℕ → List ℕ → Transaction → Option ℕ
 changed_read buckets lists t = first_where (judged.bad_read (stamps_view buckets) t.number) 0 (reads_in lists t)
 
 -- a read record is bad for this transaction
@@ -43,16 +41,16 @@ abbrev pub bad_in : List ℕ → Transaction → model.ReadRecord → Bool
 bad_in versions t = judged.bad_record (versions_view versions) t.number (snapshot_view t.snapshot)
 
 -- the place of the first read record that has changed
-abbrev pub changed_record : List ℕ → List ℕ → Transaction → Found
+abbrev pub changed_record : List ℕ → List ℕ → Transaction → Option ℕ
 changed_record versions lists t = first_where (bad_in versions t) 0 (records_in lists t)
 
 -- what is told of index read i, and of the read record at a place
 abbrev pub bucket_told : List ℕ → List ℕ → ℕ → ℕ → Verdict
 bucket_told buckets lists slot i = verdict.Bucket (read_at lists slot i).bucket (read_at lists slot i).stamp (stamp_of buckets (read_at lists slot i).bucket)
 
-abbrev pub row_told : List ℕ → ℕ → Found → Verdict
-row_told lists slot (At i) = verdict.Row (record_at lists slot i).row (record_at lists slot i).ptr
-row_told lists slot Nothing = verdict.Clear
+abbrev pub row_told : List ℕ → ℕ → Option ℕ → Verdict
+row_told lists slot (Some i) = verdict.Row (record_at lists slot i).row (record_at lists slot i).ptr
+row_told lists slot None = verdict.Clear
 
 -- the number that ended a version; 0 where none did, or the own number
 abbrev pub ended_by : List ℕ → ℕ → ℕ → ℕ

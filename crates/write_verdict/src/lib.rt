@@ -2,9 +2,10 @@
 #![tactic(auto)]
 
 ghost use Rattle.std.specs.Prelude.{◌≡◌};
-ghost use Rattle.txn.specs.View.{read_view};
-ghost use Rattle.model.specs.Verdict.{bad_read};
-ghost use Rattle.write_verdict.specs.Judged.{stamps_view, changed_read, changed_record, bucket_told, row_told, ended_by, outright, looked_for, verdict_of};
+ghost use Rattle.txn.specs.View.{read_view, record_view, snapshot_view};
+ghost use Rattle.model.specs.Verdict.{bad_read, bad_record};
+ghost use Rattle.write_verdict.specs.Judged.{versions_view, stamps_view, changed_read, changed_record, bucket_told, row_told};
+ghost use Rattle.write_verdict.specs.Judged.{ended_by, outright, looked_for, verdict_of};
 
 use base_limits::MOST_ACTIVE;
 use base_protocol::Verdict;
@@ -12,104 +13,69 @@ use table::lists::{IndexRead, ReadRecord, read_at, record_at};
 use table::{stamp_at, xmax_at, xmin_at};
 use table_buckets::stamp_precedes_snapshot;
 use table_chain::Snapshot;
-use table_scans::{Found, least_of};
+use table_scans::{active_contains, least_of};
 use txn::Transaction;
 
 // Whether an index read's bucket has changed: its present stamp differs, or is not below the number.
+#[tactic(auto, unfolding(model::specs::Verdict::bad_read))]
 fn read_changed(buckets: &[u64], read: IndexRead, number: u64) -> bool
     ensures { result ≡ bad_read (stamps_view buckets.now) number (read_view read) }
 {
     let present = stamp_at(buckets, read.bucket as usize);
-    if present != read.stamp {
-        return true;
-    }
-    !stamp_precedes_snapshot(present, number)
+    present != read.stamp || !stamp_precedes_snapshot(present, number)
 }
 
 // The place of the first index read whose bucket has changed, or none.
-fn index_read_conflict(buckets: &[u64], lists: &[u64], t: Transaction) -> Found
+fn index_read_conflict(buckets: &[u64], lists: &[u64], t: Transaction) -> Option<u32>
     ensures { result ≡ changed_read buckets.now lists.now t }
 {
-    let mut i: u32 = 0;
-    while i < t.reads_n {
-        if read_changed(buckets, read_at(lists, t.slot, i), t.number) {
-            return Found::At(i);
-        }
-        i += 1;
-    }
-    Found::Nothing
+    (0..t.reads_n).find(|i| read_changed(buckets, read_at(lists, t.slot, *i), t.number))
 }
 
 // The number that ended a version; 0 where none did, or the own number.
+// Stays 0 for none: `ended_by` promises it, and a version's word itself has 0 where none ended it.
 fn ended_by(versions: &[u64], ptr: u64, number: u64) -> u64
     ensures { result ≡ ended_by versions.now ptr number }
 {
     let xmax = xmax_at(versions, ptr as usize);
-    if xmax == number {
-        return 0;
-    }
-    xmax
+    if xmax == number { 0 } else { xmax }
 }
 
 // Whether a read record has changed whatever is active: another xmin, or ended at or above the snapshot's xmax.
 fn changed_outright(versions: &[u64], read: ReadRecord, ended: u64, xmax: u64) -> bool
     ensures { result ≡ outright versions.now read ended xmax }
 {
-    if xmin_at(versions, read.ptr as usize) != read.xmin {
-        return true;
-    }
-    if ended == 0 {
-        return false;
-    }
-    xmax <= ended
+    xmin_at(versions, read.ptr as usize) != read.xmin || ended != 0 && xmax <= ended
 }
 
 // How many of the active numbers are looked at: none where no other number ended the version, or where that number is below them all.
-fn looked_for(ended: u64, s: Snapshot) -> usize
-    ensures { result ≡ looked_for ended s }
+fn looked_for(ended: u64, s: &Snapshot) -> usize
+    ensures { result ≡ looked_for ended s.now }
 {
-    if ended == 0 {
-        return 0;
-    }
-    let active = s.active;
-    if ended < least_of(s.xmin, active, s.active_n) {
-        return 0;
-    }
-    if s.active_n < MOST_ACTIVE {
-        s.active_n
+    if ended == 0 || ended < least_of(s.xmin, s.active, s.active_n) {
+        0
     } else {
-        MOST_ACTIVE
+        s.active_n.min(MOST_ACTIVE)
     }
 }
 
+// Whether a read record has changed: outright, or ended by a number that is active.
+fn record_changed(versions: &[u64], read: ReadRecord, number: u64, s: &Snapshot) -> bool
+    ensures { result ≡ bad_record (versions_view versions.now) number (snapshot_view s.now) (record_view read) }
+{
+    let ended = ended_by(versions, read.ptr, number);
+    changed_outright(versions, read, ended, s.xmax)
+        || active_contains(&s.active, looked_for(ended, s), ended)
+}
+
 // The place of the first read record that has changed, or none.
-pub fn has_serialization_conflict(versions: &[u64], lists: &[u64], t: Transaction) -> Found
+pub fn has_serialization_conflict(versions: &[u64], lists: &[u64], t: Transaction) -> Option<u32>
     ensures { result ≡ changed_record versions.now lists.now t }
 {
-    let snapshot = t.snapshot;
-    let active = snapshot.active;
-    let mut i: u32 = 0;
-    'records: while i < t.records_n {
-        let read = record_at(lists, t.slot, i);
-        let ended = ended_by(versions, read.ptr, t.number);
-        if changed_outright(versions, read, ended, snapshot.xmax) {
-            break 'records;
-        }
-        let most = looked_for(ended, snapshot);
-        let mut j = 0;
-        while j < most {
-            if active[j] == ended {
-                break 'records;
-            }
-            j += 1;
-        }
-        i += 1;
-    }
-    if i < t.records_n {
-        Found::At(i)
-    } else {
-        Found::Nothing
-    }
+    (0..t.records_n).find(|i| {
+        let read = record_at(lists, t.slot, *i);
+        record_changed(versions, read, t.number, &t.snapshot)
+    })
 }
 
 // The verdict on a bucket, where index read i has changed.
@@ -128,29 +94,25 @@ fn bucket_verdict(buckets: &[u64], lists: &[u64], slot: u32, i: u32) -> Verdict
 fn row_verdict(versions: &[u64], lists: &[u64], t: Transaction) -> Verdict
     ensures { result ≡ row_told lists.now t.slot (changed_record versions.now lists.now t) }
 {
-    let changed = has_serialization_conflict(versions, lists, t);
-    match changed {
-        Found::At(i) => {
-            let read = record_at(lists, t.slot, i);
-            Verdict::Row {
-                row: read.row,
-                ptr: read.ptr,
-            }
+    match has_serialization_conflict(versions, lists, t) {
+        Some(i) => {
+            let ReadRecord { row, ptr, .. } = record_at(lists, t.slot, i);
+            Verdict::Row { row, ptr }
         }
-        Found::Nothing => Verdict::Clear,
+        None => Verdict::Clear,
     }
 }
 
 // The verdict, which changes nothing.
+// Stays with the lent tables one by one: the C interface lends them and the definitions over words take them so (docs/DECISIONS.md, 69).
 pub fn verdict(versions: &[u64], buckets: &[u64], lists: &[u64], t: Transaction) -> Verdict
     ensures { result ≡ verdict_of versions.now buckets.now lists.now t }
 {
     if t.marked {
         return Verdict::Mark;
     }
-    let changed = index_read_conflict(buckets, lists, t);
-    match changed {
-        Found::At(i) => bucket_verdict(buckets, lists, t.slot, i),
-        Found::Nothing => row_verdict(versions, lists, t),
+    match index_read_conflict(buckets, lists, t) {
+        Some(i) => bucket_verdict(buckets, lists, t.slot, i),
+        None => row_verdict(versions, lists, t),
     }
 }
