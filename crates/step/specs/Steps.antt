@@ -1,6 +1,7 @@
 -- One step over the words: what it answers, the record that goes back, and the tables.
 use Rattle.std.specs.Prelude.{ℕ, Bool, true, false, cond, List}
-use Rattle.model.specs.Refusals.{NoSuch, refusal_number}
+use Rattle.model.specs.Refusals.{NoSuch}
+use Rattle.base_protocol.specs.View.{refusal_told}
 use Rattle.base_numbers.specs.Numbers.{one_more}
 use Rattle.base_protocol.specs.declared.Step.{Step}
 use Rattle.base_protocol.specs.declared.Step.TheVariants as ask
@@ -153,7 +154,7 @@ done_by b p (ask.Abort n) =
 
 -- no live transaction has this number; else the step
 abbrev pub missed : Tables → Place → Moved
-missed b p = stays (record { answer = tell.Refused (refusal_number NoSuch); txn = p.txn; clock = p.extent.clock; used = p.extent.used }) b
+missed b p = stays (record { answer = tell.Refused (refusal_told NoSuch); txn = p.txn; clock = p.extent.clock; used = p.extent.used }) b
 
 unfoldable pub step_of : Tables → Place → Step → Moved
 step_of b p s = cond (misses_of p.txn.number s) (missed b p) (done_by b p s)

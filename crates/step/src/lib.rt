@@ -7,10 +7,10 @@ ghost use Rattle.step.specs.Steps.{with_clock, with_begun, kept_by, kept_install
 ghost use Rattle.step.specs.Steps.{step_of, keeping_of, kept_in, placing_of};
 
 use base_numbers::one_more;
-use base_protocol::{Answer, Extent, NO_SUCH, Step};
+use base_protocol::{Answer, Extent, Refusal, Step};
 use finish_install::{Installed, install};
 use finish_publish::{abort, end, publish};
-use txn::{Answered, Parts, Rest, Transaction, parts_of, refused, rest_of, whole};
+use txn::{Answered, Parts, Rest, Transaction, refused};
 use txn_begin::{Begun, begin};
 use txn_places::{Others, live_count, misses};
 use write_prepare::{prepare, validate};
@@ -24,6 +24,7 @@ pub struct Place {
 }
 
 // The same without the transaction.
+// Stays beside `Place`, which repeats its fields: definitions and theorems of a step say a place's `extent` (`step_of`), and `beside.extent` is no plainer.
 #[derive(Clone, Copy)]
 pub struct Beside {
     pub extent: Extent,
@@ -51,51 +52,45 @@ pub struct Kept {
 fn with_clock(a: Answered, clock: u64, used: u64) -> Stepped
     ensures { result ≡ with_clock a clock used }
 {
-    let answer = a.answer;
-    let txn = a.txn;
     Stepped {
-        answer: answer,
-        txn: txn,
-        clock: clock,
-        used: used,
+        answer: a.answer,
+        txn: a.txn,
+        clock,
+        used,
     }
 }
 
 fn with_begun(b: Begun, used: u64) -> Stepped
     ensures { result ≡ with_begun b used }
 {
-    let answer = b.answer;
-    let txn = b.txn;
     Stepped {
-        answer: answer,
-        txn: txn,
+        answer: b.answer,
+        txn: b.txn,
         clock: b.clock,
-        used: used,
+        used,
     }
 }
 
-// The same of a step that keeps its transaction.
+// What a step leaves that keeps its transaction.
 fn keep(a: Answered, used: u64) -> Kept
     ensures { result ≡ kept_by a used }
 {
-    let answer = a.answer;
-    let rest = rest_of(a.txn);
     Kept {
-        answer: answer,
-        rest: rest,
-        used: used,
+        answer: a.answer,
+        rest: Rest::from(a.txn),
+        used,
     }
 }
 
-fn keep_installed(i: Installed) -> Kept
-    ensures { result ≡ kept_installed i }
-{
-    let answer = i.answer;
-    let rest = rest_of(i.txn);
-    Kept {
-        answer: answer,
-        rest: rest,
-        used: i.used,
+impl From<Installed> for Kept {
+    ghost from_gives = { λ i k. k ≡ kept_installed i };
+
+    fn from(i: Installed) -> Kept {
+        Kept {
+            answer: i.answer,
+            rest: Rest::from(i.txn),
+            used: i.used,
+        }
     }
 }
 
@@ -103,19 +98,10 @@ fn keep_installed(i: Installed) -> Kept
 fn with_kept(k: Kept, p: Parts, clock: u64) -> Stepped
     ensures { result ≡ with_kept k p clock }
 {
-    let answer = k.answer;
-    let snapshot = p.snapshot;
-    let rest = k.rest;
-    let txn = whole(Parts {
-        number: p.number,
-        snapshot: snapshot,
-        rest: rest,
-        slot: p.slot,
-    });
     Stepped {
-        answer: answer,
-        txn: txn,
-        clock: clock,
+        answer: k.answer,
+        txn: Transaction::from(Parts { rest: k.rest, ..p }),
+        clock,
         used: k.used,
     }
 }
@@ -126,16 +112,13 @@ fn published_clock(answer: Answer, clock: u64) -> u64
 {
     match answer {
         Answer::Stamp(_) => one_more(clock),
-        Answer::Done => clock,
-        Answer::Number(_) => clock,
-        Answer::Count(_) => clock,
-        Answer::Rows(_) => clock,
-        Answer::Judged(_) => clock,
-        Answer::Refused(_) => clock,
+        _ => clock,
     }
 }
 
 // Publish moves the clock.
+// Stays with the lent tables one by one, here and below: the C interface lends them and the definitions over words take them so (docs/DECISIONS.md, 69).
+#[tactic(auto, unfolding(crate::specs::Steps::publish_step))]
 fn step_publish(
     rows: &mut [u64],
     versions: &[u64],
@@ -148,37 +131,19 @@ fn step_publish(
         ≡ publish_step rows.old versions.now buckets.old lists.now extent t }
 {
     let a = publish(rows, versions, buckets, lists, extent, t);
-    let answer = a.answer;
-    let after = published_clock(answer, extent.clock);
-    with_clock(a, after, extent.used)
+    with_clock(a, published_clock(a.answer, extent.clock), extent.used)
 }
 
 // Whether a step keeps its transaction, with number and snapshot: all but begin, publish and abort.
+// Stays a test before two halves that refuse each other's steps: each half promises its own (`keeping_of`, `placing_of`; docs/DECISIONS.md, 72).
 pub fn keeps(s: Step) -> bool
     ensures { result ≡ keeps_of s }
 {
-    match s {
-        Step::Begin => false,
-        Step::Capture { number: _, key: _ } => true,
-        Step::Collect { number: _ } => true,
-        Step::Rows { number: _, room: _ } => true,
-        Step::Put {
-            number: _,
-            row: _,
-            key: _,
-            payload: _,
-        } => true,
-        Step::Erase { number: _, row: _ } => true,
-        Step::Prepare { number: _ } => true,
-        Step::Install { number: _ } => true,
-        Step::End { number: _ } => true,
-        Step::Publish { number: _ } => false,
-        Step::Validate { number: _ } => true,
-        Step::Abort { number: _ } => false,
-    }
+    !matches!(s, Step::Begin | Step::Publish { .. } | Step::Abort { .. })
 }
 
 // A step that keeps its transaction; any other is refused. The record comes in parts, so that no arm copies more of it than it needs.
+#[tactic(auto, unfolding(crate::specs::Steps::step_of))]
 pub fn step_keeping(
     rows: &mut [u64],
     versions: &mut [u64],
@@ -208,63 +173,58 @@ pub fn step_keeping(
         })
         (record { extent = beside.extent; others = beside.others; txn = whole_of parts }) s) }
 {
-    let extent = beside.extent;
-    let sizes = extent.sizes;
+    let Beside { extent, others } = beside;
     let used = extent.used;
-    let others = beside.others;
-    let prepared = others.prepared;
     if misses(parts.number, s) {
-        return keep(refused(whole(parts), NO_SUCH), used);
+        return keep(refused(parts.into(), Refusal::NoSuch), used);
     }
     match s {
-        Step::Capture { number: _, key } => keep(
-            whole(parts).capture(buckets, lists, sizes.buckets, key),
+        Step::Capture { key, .. } => keep(
+            Transaction::from(parts).capture(buckets, lists, extent.sizes.buckets, key),
             used,
         ),
-        Step::Collect { number: _ } => keep(
-            whole(parts).collect(rows, buckets, lists, sizes.rows),
+        Step::Collect { .. } => keep(
+            Transaction::from(parts).collect(rows, buckets, lists, extent.sizes.rows),
             used,
         ),
-        Step::Rows { number: _, room } => keep(
-            read::rows(rows, versions, lists, found, extent, whole(parts), room),
+        Step::Rows { room, .. } => keep(
+            read::rows(rows, versions, lists, found, extent, parts.into(), room),
             used,
         ),
         Step::Put {
-            number: _,
             row,
             key,
             payload,
-        } => keep(whole(parts).put(lists, sizes.rows, row, key, payload), used),
-        Step::Erase { number: _, row } => keep(whole(parts).erase(lists, sizes.rows, row), used),
-        Step::Prepare { number: _ } => keep(
+            ..
+        } => keep(
+            Transaction::from(parts).put(lists, extent.sizes.rows, row, key, payload),
+            used,
+        ),
+        Step::Erase { row, .. } => keep(
+            Transaction::from(parts).erase(lists, extent.sizes.rows, row),
+            used,
+        ),
+        Step::Prepare { .. } => keep(
             prepare(
                 rows,
                 versions,
                 buckets,
                 lists,
                 extent,
-                prepared,
-                whole(parts),
+                others.prepared,
+                parts.into(),
             ),
             used,
         ),
-        Step::Install { number: _ } => keep_installed(install(
-            rows,
-            versions,
-            lists,
-            used,
-            whole(parts),
-        )),
-        Step::End { number: _ } => keep(end(whole(parts)), used),
-        Step::Validate { number: _ } => keep(
-            validate(versions, buckets, lists, whole(parts)),
-            used,
-        ),
-        _ => keep(refused(whole(parts), NO_SUCH), used),
+        Step::Install { .. } => install(rows, versions, lists, used, parts.into()).into(),
+        Step::End { .. } => keep(end(parts.into()), used),
+        Step::Validate { .. } => keep(validate(versions, buckets, lists, parts.into()), used),
+        _ => keep(refused(parts.into(), Refusal::NoSuch), used),
     }
 }
 
 // Begin, publish and abort; any other step is refused.
+#[tactic(auto, unfolding(crate::specs::Steps::step_of))]
 pub fn step_placing(
     rows: &mut [u64],
     versions: &[u64],
@@ -280,29 +240,28 @@ pub fn step_placing(
         (record { rows = rows.entry.now; versions = versions.now; buckets = buckets.old; lists = lists.now; found = [] })
         (record { extent = beside.extent; others = beside.others; txn = t }) s }
 {
-    let extent = beside.extent;
-    let sizes = extent.sizes;
-    let clock = extent.clock;
-    let used = extent.used;
-    let others = beside.others;
-    let numbers = others.numbers;
-    let active = others.active;
+    let Beside { extent, others } = beside;
+    let Extent { clock, used, .. } = extent;
     if misses(t.number, s) {
-        return with_clock(refused(t, NO_SUCH), clock, used);
+        return with_clock(refused(t, Refusal::NoSuch), clock, used);
     }
     match s {
-        Step::Begin => with_begun(begin(active, live_count(numbers), clock, t), used),
-        Step::Publish { number: _ } => step_publish(rows, versions, buckets, lists, extent, t),
-        Step::Abort { number: _ } => with_clock(
-            abort(rows, versions, buckets, lists, sizes.buckets, t),
+        Step::Begin => with_begun(
+            begin(others.active, live_count(others.numbers), clock, t),
+            used,
+        ),
+        Step::Publish { .. } => step_publish(rows, versions, buckets, lists, extent, t),
+        Step::Abort { .. } => with_clock(
+            abort(rows, versions, buckets, lists, extent.sizes.buckets, t),
             clock,
             used,
         ),
-        _ => with_clock(refused(t, NO_SUCH), clock, used),
+        _ => with_clock(refused(t, Refusal::NoSuch), clock, used),
     }
 }
 
 // A step of the transaction at its place; the record that comes in has the number that the step names, or the step is refused.
+#[tactic(auto, unfolding(crate::specs::Steps::step_of))]
 pub fn step(
     rows: &mut [u64],
     versions: &mut [u64],
@@ -330,17 +289,16 @@ pub fn step(
         })
         place s }
 {
-    let extent = place.extent;
-    let others = place.others;
-    let t = place.txn;
-    let beside = Beside {
-        extent: extent,
-        others: others,
-    };
+    let Place {
+        extent,
+        others,
+        txn,
+    } = place;
+    let beside = Beside { extent, others };
     if keeps(s) {
-        let parts = parts_of(t);
+        let parts = Parts::from(txn);
         let k = step_keeping(rows, versions, buckets, lists, found, beside, parts, s);
         return with_kept(k, parts, extent.clock);
     }
-    step_placing(rows, versions, buckets, lists, beside, t, s)
+    step_placing(rows, versions, buckets, lists, beside, txn, s)
 }

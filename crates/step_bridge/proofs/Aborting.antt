@@ -19,7 +19,7 @@ use Rattle.base_lists.proofs.ListLaws.{among_cases, join-which, join-same}
 use Rattle.model.specs.Store as model
 use Rattle.model.specs.Store.{bucket_in, rank, phase_installed}
 use Rattle.model.specs.Steps.{freed, key_buckets, old_key, new_key, needed_buckets, pending_rows}
-use Rattle.model.specs.Refusals.{refusal_number, WrongPhase, refusal}
+use Rattle.model.specs.Refusals.{WrongPhase, refusal}
 use Rattle.model.specs.Machine.{gives, lent_after, accepted, after_refusal, carried}
 use Rattle.model.specs.Machine as machine
 use Rattle.model.specs.Holding.{needs, Wants}
@@ -28,7 +28,7 @@ use Rattle.model.proofs.Written.{posted-old}
 use Rattle.base_protocol.specs.declared.Step.TheVariants as ask
 use Rattle.base_protocol.specs.declared.Answer.{Answer}
 use Rattle.base_protocol.specs.declared.Answer.TheVariants as tell
-use Rattle.base_protocol.specs.View.{asked, told, sizes_view}
+use Rattle.base_protocol.specs.View.{asked, told, sizes_view, refusal_told}
 use Rattle.table.specs.Lists as lists
 use Rattle.table.proofs.Spans.{list_length}
 use Rattle.table.specs.declared.lists.Write.{Write}
@@ -241,7 +241,7 @@ module _ (w : Words) (z : Sized w) (g : Good (view w)) (n : ℕ) where
       → leb phase_installed (rank (phase_view (txn_at w (standing w n)).phase)) ≡ b
       → SameAt w (standing w n)
       (in_aborted
-      (cond b (record { reply = refused_of (txn_at w (standing w n)) (refusal_number WrongPhase); rows = w.tables.rows; buckets = w.tables.buckets })
+      (cond b (record { reply = refused_of (txn_at w (standing w n)) (refusal_told WrongPhase); rows = w.tables.rows; buckets = w.tables.buckets })
       (record {
         reply = record { answer = tell.Done; txn = idle_of (txn_at w (standing w n)).slot };
         rows = clear_claims w.tables.rows (txn_at w (standing w n)).number

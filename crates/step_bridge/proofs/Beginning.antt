@@ -21,7 +21,7 @@ use Rattle.model.specs.Steps.{new_txn}
 use Rattle.model.specs.Refusals.{Full, NoNumbers, live_count, refusal}
 use Rattle.model.specs.Machine.{checks, accepted, after_refusal, carried, step_in}
 use Rattle.base_protocol.specs.declared.Step.TheVariants as ask
-use Rattle.base_protocol.specs.View.{asked}
+use Rattle.base_protocol.specs.View.{asked, refusal_told}
 use Rattle.table.specs.Regions.{list_of}
 use Rattle.txn.specs.View.{phase_view, txn_view}
 use Rattle.txn.specs.Methods.{idle_of}
@@ -140,7 +140,7 @@ module _ (w : Words) (z : Sized w) where
 
   begun-at : standing w 0 < most_live → (b : Bool) → ltb last_number (w.clock + live_count (view w).txns + 2) ≡ b
       → SameAt w (standing w 0)
-      (stays (with_begun (cond b (refused_begin (txn_at w (standing w 0)) w.clock 2)
+      (stays (with_begun (cond b (refused_begin (txn_at w (standing w 0)) w.clock (refusal_told NoNumbers))
       (begun_of (txn_at w (standing w 0)) (snapshot_of (others_in w.txns).active w.clock) w.clock)) w.used) w.tables)
       (carried (view w) (asked ask.Begin) (cond b (some NoNumbers) none))
   unfolding carried accepted after_refusal
@@ -160,7 +160,8 @@ module _ (w : Words) (z : Sized w) where
   unfolding moved_by step_of misses_of
   moved-begin p e l = rw (e, default-any w.txns p (idle_of 0) (idle_of p) (omega (arith, z.eight)), live_same w z.eight)
 
-  full_at : SameAt w 0 (stays (with_begun (refused_begin (txn_at w 0) w.clock 3) w.used) w.tables) (carried (view w) (asked ask.Begin) (some Full))
+  full_at : SameAt w 0 (stays (with_begun (refused_begin (txn_at w 0) w.clock (refusal_told Full)) w.used) w.tables)
+      (carried (view w) (asked ask.Begin) (some Full))
   unfolding carried after_refusal
   full_at = refused-same w z 0 Full
 

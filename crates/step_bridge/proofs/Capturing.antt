@@ -11,18 +11,19 @@ use lib.Dec.{eqb, ltb, leb}
 use lib.ListN.{length}
 use lib.Seq.{length-sets}
 use borrow.Author.Tests.{leb-false}
+use Rattle.std.specs.Prelude.{Option, Some, None}
 use Rattle.base_limits.specs.Limits.{most_live, most_index_reads}
 use Rattle.base_lists.specs.Table.{update}
 use Rattle.base_lists.specs.Lists.{member, some_of}
 use Rattle.model.specs.Store as model
 use Rattle.model.specs.Store.{bucket_of, phase_open}
 use Rattle.model.specs.Steps.{has_read, add_read}
-use Rattle.model.specs.Refusals.{refusal_number, WrongPhase, Marked, Taken, Stale, ManyReads, by_another, refusal}
+use Rattle.model.specs.Refusals.{WrongPhase, Marked, Taken, Stale, ManyReads, by_another, refusal}
 use Rattle.model.specs.Machine.{accepted, after_refusal, carried}
 use Rattle.model.proofs.Ranges.{good-sized, bucket-in}
 use Rattle.base_protocol.specs.declared.Step.TheVariants as ask
 use Rattle.base_protocol.specs.declared.Answer.TheVariants as tell
-use Rattle.base_protocol.specs.View.{asked, sizes_view}
+use Rattle.base_protocol.specs.View.{asked, sizes_view, refusal_told}
 use Rattle.table.specs.Fields.{bucket_words, stamp_of, holder_of, set_holder}
 use Rattle.table.specs.Lists as lists
 use Rattle.table.specs.Lists.{stored, lists_words}
@@ -31,8 +32,6 @@ use Rattle.table.proofs.Laws.{field-length}
 use Rattle.table.proofs.Parts.{part_field}
 use Rattle.table.proofs.Stored.{same-list, other-list}
 use Rattle.table_scans.specs.Scans.{read_prefix, buckets_read}
-use Rattle.table_scans.specs.declared.Found.{Found}
-use Rattle.table_scans.specs.declared.Found.TheVariants.{At, Nothing}
 use Rattle.table_scans.proofs.Laws.{eqb-sym}
 use Rattle.table_scans.proofs.Places.{is_place, member-place}
 use Rattle.txn.specs.View.{phase_view, txn_view, read_view, reads_in, buckets_part}
@@ -62,9 +61,9 @@ has-place xs t b h =
     let e : min t.reads_n most_index_reads ≡ t.reads_n = omega arith in
     rw e (has-member (lists.reads_of xs t.slot t.reads_n) b ∙ member-place (buckets_read (lists.reads_of xs t.slot t.reads_n)) b)
 
-many-same : (f : Found) (n : ℕ) → (not (is_place f) && leb most_index_reads n) ≡ too_many f n
-many-same (At i) n = refl
-many-same Nothing n = refl
+many-same : (f : Option ℕ) (n : ℕ) → (not (is_place f) && leb most_index_reads n) ≡ too_many f n
+many-same (Some i) n = refl
+many-same None n = refl
 
 add-held : (rs : List model.IndexRead) (b st : ℕ) → has_read rs b ≡ true → add_read rs b st ≡ rs
 unfolding add_read
@@ -114,7 +113,7 @@ module _ (w : Words) (z : Sized w) (g : Shaped w) (n k : ℕ) (l : standing w n 
   key-in = bucket-in (view w).sizes (good-sized (view w).sizes g.sizes) k
 
   marked-at : SameAt w (standing w n)
-      (in_buckets (left (refused_of (with_mark (txn_at w (standing w n))) (refusal_number Stale)) w.tables.buckets w.tables.lists) w.clock w.used
+      (in_buckets (left (refused_of (with_mark (txn_at w (standing w n))) (refusal_told Stale)) w.tables.buckets w.tables.lists) w.clock w.used
       w.tables) (carried (view w) (asked (ask.Capture n k)) (some Stale))
   unfolding carried after_refusal
   marked-at = let s = sized-at w z (standing w n) in record {
@@ -134,7 +133,7 @@ module _ (w : Words) (z : Sized w) (g : Shaped w) (n k : ℕ) (l : standing w n 
   }
 
   -- the bucket is taken
-  held_at : (f : Found) (st : ℕ) → st ≡ (view w).index.stamp (bucket_of (view w).sizes k)
+  held_at : (f : Option ℕ) (st : ℕ) → st ≡ (view w).index.stamp (bucket_of (view w).sizes k)
       → has_read (reads_in w.tables.lists (txn_at w (standing w n))) (bucket_of (view w).sizes k) ≡ is_place f
       → too_many f (txn_at w (standing w n)).reads_n ≡ false
       → SameAt w (standing w n)
@@ -142,7 +141,7 @@ module _ (w : Words) (z : Sized w) (g : Shaped w) (n k : ℕ) (l : standing w n 
       (set_holder w.tables.buckets (bucket_of (view w).sizes k) (txn_at w (standing w n)).number)) w.clock w.used w.tables)
       (carried (view w) (asked (ask.Capture n k)) none)
   unfolding carried accepted hold_of
-  held_at (At i) st e r m =
+  held_at (Some i) st e r m =
       let q = standing w n in
       let s = sized-at w z q in
       let b = bucket_of (view w).sizes k in
@@ -174,7 +173,7 @@ module _ (w : Words) (z : Sized w) (g : Shaped w) (n k : ℕ) (l : standing w n 
               candidates = s.candidates;
             }) refl refl (field-length bucket_words 1 w.tables.buckets b (txn_at w q).number) refl z.told;
       }
-  held_at Nothing st e r m =
+  held_at None st e r m =
       let q = standing w n in
       let s = sized-at w z q in
       let o = s.slot in
@@ -211,16 +210,16 @@ module _ (w : Words) (z : Sized w) (g : Shaped w) (n k : ℕ) (l : standing w n 
             z.told;
       }
 
-  captured-at : (f : Found) (st : ℕ) → st ≡ (view w).index.stamp (bucket_of (view w).sizes k)
+  captured-at : (f : Option ℕ) (st : ℕ) → st ≡ (view w).index.stamp (bucket_of (view w).sizes k)
       → has_read (reads_in w.tables.lists (txn_at w (standing w n))) (bucket_of (view w).sizes k) ≡ is_place f
       → (a c d e m : Bool) → too_many f (txn_at w (standing w n)).reads_n ≡ m
       → SameAt w (standing w n)
       (in_buckets
-      (cond a (left (refused_of (txn_at w (standing w n)) (refusal_number WrongPhase)) w.tables.buckets w.tables.lists)
-      (cond c (left (refused_of (txn_at w (standing w n)) (refusal_number Marked)) w.tables.buckets w.tables.lists)
-      (cond d (left (refused_of (txn_at w (standing w n)) (refusal_number Taken)) w.tables.buckets w.tables.lists)
-      (cond e (left (refused_of (with_mark (txn_at w (standing w n))) (refusal_number Stale)) w.tables.buckets w.tables.lists)
-      (cond m (left (refused_of (txn_at w (standing w n)) (refusal_number ManyReads)) w.tables.buckets w.tables.lists)
+      (cond a (left (refused_of (txn_at w (standing w n)) (refusal_told WrongPhase)) w.tables.buckets w.tables.lists)
+      (cond c (left (refused_of (txn_at w (standing w n)) (refusal_told Marked)) w.tables.buckets w.tables.lists)
+      (cond d (left (refused_of (txn_at w (standing w n)) (refusal_told Taken)) w.tables.buckets w.tables.lists)
+      (cond e (left (refused_of (with_mark (txn_at w (standing w n))) (refusal_told Stale)) w.tables.buckets w.tables.lists)
+      (cond m (left (refused_of (txn_at w (standing w n)) (refusal_told ManyReads)) w.tables.buckets w.tables.lists)
       (held_left st (hold_of (txn_at w (standing w n)) w.tables.lists f (bucket_of (view w).sizes k) k st)
       (set_holder w.tables.buckets (bucket_of (view w).sizes k) (txn_at w (standing w n)).number)))))))
       w.clock w.used w.tables)

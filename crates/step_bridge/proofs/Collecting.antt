@@ -17,11 +17,11 @@ use Rattle.base_lists.proofs.ListLaws.{pick_same, pick-few}
 use Rattle.model.specs.Store as model
 use Rattle.model.specs.Store.{same_key, bucket_in, key_in, phase_holding}
 use Rattle.model.specs.Steps.{posted_rows}
-use Rattle.model.specs.Refusals.{refusal_number, WrongPhase, refusal}
+use Rattle.model.specs.Refusals.{WrongPhase, refusal}
 use Rattle.model.specs.Machine.{accepted, after_refusal, carried}
 use Rattle.model.proofs.Ranges.{good-sized}
 use Rattle.base_protocol.specs.declared.Step.TheVariants as ask
-use Rattle.base_protocol.specs.View.{asked}
+use Rattle.base_protocol.specs.View.{asked, refusal_told}
 use Rattle.table.specs.Fields.{row_words, bucket_words, posted_of, posted_key_of}
 use Rattle.table.specs.Lists as lists
 use Rattle.table.specs.Lists.{Kind, end_of, list_at, lists_words, start_of, place_of, candidates}
@@ -117,7 +117,7 @@ module _ (w : Words) (z : Sized w) (g : Shaped w) where
   collected-at : (n : ℕ) → standing w n < most_live → 1 ≤ (txn_at w (standing w n)).number → (b : Bool)
       → SameAt w (standing w n)
       (in_buckets
-      (cond b (left (refused_of (txn_at w (standing w n)) (refusal_number WrongPhase)) w.tables.buckets w.tables.lists)
+      (cond b (left (refused_of (txn_at w (standing w n)) (refusal_told WrongPhase)) w.tables.buckets w.tables.lists)
       (collected_left (txn_at w (standing w n)) (bucket_in (phase_view (txn_at w (standing w n)).phase)) (key_in (phase_view (txn_at w (standing w n)).phase))
       (posted_rows (view w) (key_in (phase_view (txn_at w (standing w n)).phase))) w.tables.buckets w.tables.lists))
       w.clock w.used w.tables)

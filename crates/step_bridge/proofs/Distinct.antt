@@ -1,5 +1,6 @@
 -- The distinct rows of the pending writes, as the words sort them, are the model's pending rows; and so are those of them that get a version.
 -- Assumes nothing.
+use Rattle.std.specs.Prelude.{Ok}
 use Prim.Native.Nat.{ℕ, zero, suc, ◌≤◌, ◌<◌}
 use mathlib.Core.Path.{◌≡◌, refl, sym, ap, ◌∙◌}
 use mathlib.Core.Bool.{Bool, true, false, cond, not, ◌&&◌, false≢true}
@@ -21,7 +22,6 @@ use Rattle.model.specs.Steps.{pending_rows, old_key, gets_version, version_rows}
 use Rattle.model.specs.Seeing.{pending}
 use Rattle.table_buckets.specs.Buckets.{buckets_of, laid, canonical_of}
 use Rattle.table_buckets.specs.Upstream.{IsInRange}
-use Rattle.table_buckets.specs.declared.Canonical.TheVariants.{Sorted}
 use Rattle.table_buckets.proofs.Checks.{fine-when}
 use Rattle.table_buckets.specs.Steps.{Below, Ascending}
 use Rattle.table_buckets.proofs.Sorted.{member, buckets-ascending, buckets-member, ascending-unique, buckets-no-longer}
@@ -62,7 +62,7 @@ entry-among (x ∷ xs) zero h = inl refl
 entry-among (x ∷ xs) (suc i) h = inr (entry-among xs i (omega arith))
 
 canonical-fine : (input old : List ℕ) → IsInRange input most_buckets → length input ≤ length old
-    → canonical_of input most_buckets old ≡ record { answer = Sorted (length (buckets_of input)); out = laid (buckets_of input) old }
+    → canonical_of input most_buckets old ≡ record { answer = Ok (length (buckets_of input)); out = laid (buckets_of input) old }
 unfolding canonical_of
 canonical-fine input old below room = rw (fine-when most_buckets (length old) input below (omega arith))
 

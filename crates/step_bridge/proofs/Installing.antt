@@ -7,6 +7,7 @@ use mathlib.Core.List.{List}
 use native.Mathlib.Decide.{ℕ_discrete}
 use native.Mathlib.Omega.{arith}
 use lib.ListN.{length}
+use Rattle.std.specs.Prelude.{Option, Some, None}
 use Rattle.base_limits.specs.Limits.{most_writes}
 use Rattle.base_lists.specs.Table.{update}
 use Rattle.base_lists.proofs.TableLaws.{update_same, update_other}
@@ -17,8 +18,6 @@ use Rattle.table.specs.Words.{field, set_field}
 use Rattle.table.specs.declared.lists.Write.{Write}
 use Rattle.table.proofs.Laws.{field-length}
 use Rattle.table_scans.specs.Scans.{latest_pending}
-use Rattle.table_scans.specs.declared.Found.{Found}
-use Rattle.table_scans.specs.declared.Found.TheVariants.{At, Nothing}
 use Rattle.txn.specs.View.{key_view, txn_view, writes_in}
 use Rattle.txn.specs.declared.Transaction.{Transaction}
 use Rattle.finish_install.specs.Install.{write_found, last_write_of, version_stored}
@@ -26,15 +25,15 @@ use Rattle.step_bridge.proofs.Tabled.{part, part-update, part-other}
 use Rattle.step_bridge.proofs.Keyed.{found_write, last-same}
 
 -- a row's last pending write: its key and its payload
-write-key : (xs : List ℕ) (s r : ℕ) (f : Found) → key_view (write_found xs s r f).keyed (write_found xs s r f).key ≡ written_key (found_write xs s f)
+write-key : (xs : List ℕ) (s r : ℕ) (f : Option ℕ) → key_view (write_found xs s r f).keyed (write_found xs s r f).key ≡ written_key (found_write xs s f)
 unfolding written_key
-write-key xs s r (At i) = refl
-write-key xs s r Nothing = refl
+write-key xs s r (Some i) = refl
+write-key xs s r None = refl
 
-write-payload : (xs : List ℕ) (s r : ℕ) (f : Found) → (write_found xs s r f).payload ≡ written_payload (found_write xs s f)
+write-payload : (xs : List ℕ) (s r : ℕ) (f : Option ℕ) → (write_found xs s r f).payload ≡ written_payload (found_write xs s f)
 unfolding written_payload
-write-payload xs s r (At i) = refl
-write-payload xs s r Nothing = refl
+write-payload xs s r (Some i) = refl
+write-payload xs s r None = refl
 
 module _ (xs : List ℕ) (t : Transaction) (few : t.writes_n ≤ most_writes) (r : ℕ) where
   pub last-key : key_view (last_write_of xs t.slot t.writes_n r).keyed (last_write_of xs t.slot t.writes_n r).key ≡ new_key (txn_view xs t) r

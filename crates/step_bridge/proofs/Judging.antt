@@ -14,12 +14,12 @@ use Rattle.model.specs.Store.{phase_open}
 use Rattle.model.specs.Store as model
 use Rattle.model.specs.Steps.{read_buckets}
 use Rattle.model.specs.Verdict as judged
-use Rattle.model.specs.Refusals.{refusal_number, WrongPhase, Taken, by_another, refusal, txn_of}
+use Rattle.model.specs.Refusals.{WrongPhase, Taken, by_another, refusal, txn_of}
 use Rattle.model.specs.Machine.{accepted, after_refusal, carried}
 use Rattle.base_protocol.specs.declared.Step.TheVariants as ask
 use Rattle.base_protocol.specs.declared.Answer.TheVariants as tell
 use Rattle.base_protocol.specs.declared.Verdict.{Verdict}
-use Rattle.base_protocol.specs.View.{asked, verdict_told}
+use Rattle.base_protocol.specs.View.{asked, verdict_told, refusal_told}
 use Rattle.table.specs.Fields.{version_words, bucket_words, holder_of}
 use Rattle.table.specs.Lists as lists
 use Rattle.table.specs.declared.lists.IndexRead.{IndexRead}
@@ -94,8 +94,8 @@ module _ (w : Words) (z : Sized w) (g : Shaped w) where
 
   judged-at : (n : ℕ) (v : Verdict) → v ≡ verdict_told (judged.verdict (view w).chains (view w).index (txn_of (view w) n)) → (b c : Bool)
       → SameAt w (standing w n) (stays
-      (with_clock (cond b (refused_of (txn_at w (standing w n)) (refusal_number WrongPhase))
-      (cond c (refused_of (txn_at w (standing w n)) (refusal_number Taken)) (record { answer = tell.Judged v; txn = txn_at w (standing w n) }))) w.clock
+      (with_clock (cond b (refused_of (txn_at w (standing w n)) (refusal_told WrongPhase))
+      (cond c (refused_of (txn_at w (standing w n)) (refusal_told Taken)) (record { answer = tell.Judged v; txn = txn_at w (standing w n) }))) w.clock
       w.used) w.tables)
       (carried (view w) (asked (ask.Validate n)) (cond b (some WrongPhase) (cond c (some Taken) none)))
   unfolding carried accepted after_refusal

@@ -7,6 +7,7 @@ use mathlib.Core.Option.{Option, none, some}
 use mathlib.Core.List.{List, [], ◌∷◌, ◌++◌, map, map-append}
 use native.Mathlib.Omega.{arith}
 use lib.Dec.{eqb}
+use Rattle.std.specs.Prelude.{Option as StdOption, Some, None}
 use Rattle.base_limits.specs.Limits.{most_writes}
 use Rattle.model.specs.Store as model
 use Rattle.model.specs.Seeing.{last_write_from, last_write, written_key}
@@ -15,8 +16,6 @@ use Rattle.table.specs.Regions.{list_of}
 use Rattle.table.specs.Lists as lists
 use Rattle.table.specs.declared.lists.Write.{Write}
 use Rattle.table_scans.specs.Scans.{last_below, latest_pending, rows_written}
-use Rattle.table_scans.specs.declared.Found.{Found}
-use Rattle.table_scans.specs.declared.Found.TheVariants.{At, Nothing}
 use Rattle.table_scans.proofs.Laws.{fields-length, fields_at}
 use Rattle.txn.specs.View.{write_view, writes_in, txn_view}
 use Rattle.txn.specs.declared.Transaction.{Transaction}
@@ -30,9 +29,9 @@ last_snoc so [] x r = refl
 last_snoc so (y ∷ ws) x r = last_snoc (cond (eqb y.row r) (some y) so) ws x r
 
 -- a place of the slot's writes, as the model has what stands there
-abbrev pub found_write : List ℕ → ℕ → Found → Option model.Write
-found_write xs s (At i) = some (write_view (lists.write_at xs s i))
-found_write xs s Nothing = none
+abbrev pub found_write : List ℕ → ℕ → StdOption ℕ → Option model.Write
+found_write xs s (Some i) = some (write_view (lists.write_at xs s i))
+found_write xs s None = none
 
 none_yet : (r : ℕ) → last_write [] r ≡ none
 unfolding last_write_from
@@ -52,15 +51,15 @@ last-below xs s n (suc m) r h =
     (go (eqb (lists.write_at xs s m).row r) (last-below xs s n m r (omega arith)))
   where
     go : (b : Bool) → found_write xs s (last_below (rows_written (lists.writes_of xs s n)) r m) ≡ last_write (map write_view (lists.writes_of xs s m)) r
-        → found_write xs s (cond b (At m) (last_below (rows_written (lists.writes_of xs s n)) r m)) ≡ cond b (some (write_view (lists.write_at xs s m)))
+        → found_write xs s (cond b (Some m) (last_below (rows_written (lists.writes_of xs s n)) r m)) ≡ cond b (some (write_view (lists.write_at xs s m)))
         (last_write (map write_view (lists.writes_of xs s m)) r)
     go true ih = refl
     go false ih = ih
 
-key-found : (xs : List ℕ) (s : ℕ) (f : Found) → key_of (written_at xs s f) ≡ written_key (found_write xs s f)
+key-found : (xs : List ℕ) (s : ℕ) (f : StdOption ℕ) → key_of (written_at xs s f) ≡ written_key (found_write xs s f)
 unfolding written_key
-key-found xs s (At i) = refl
-key-found xs s Nothing = refl
+key-found xs s (Some i) = refl
+key-found xs s None = refl
 
 module _ (xs : List ℕ) (t : Transaction) (few : t.writes_n ≤ most_writes) (r : ℕ) where
   -- the last pending write of a row, and its new key

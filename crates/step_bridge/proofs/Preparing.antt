@@ -16,11 +16,11 @@ use Rattle.model.specs.Store as model
 use Rattle.model.specs.Store.{rank, phase_open, phase_installed}
 use Rattle.model.specs.Verdict as judged
 use Rattle.model.specs.Steps.{pending_rows, needed_buckets, prepared_held, version_rows}
-use Rattle.model.specs.Refusals.{Refusal, refusal_number, WrongPhase, Taken, Conflict, NoVersions, by_another, reserved, versions_after, refusal}
+use Rattle.model.specs.Refusals.{Refusal, WrongPhase, Taken, Conflict, NoVersions, by_another, reserved, versions_after, refusal}
 use Rattle.model.specs.Machine.{accepted, after_refusal, carried}
 use Rattle.base_protocol.specs.declared.Step.TheVariants as ask
 use Rattle.base_protocol.specs.declared.Answer.TheVariants as tell
-use Rattle.base_protocol.specs.View.{asked, verdict_told, sizes_view}
+use Rattle.base_protocol.specs.View.{asked, verdict_told, sizes_view, refusal_told}
 use Rattle.table.specs.Fields as fields
 use Rattle.table.proofs.Parts.{part_field}
 use Rattle.txn.specs.View.{phase_view, rows_part, versions_part, buckets_part, chains_view, index_view, held_view}
@@ -169,10 +169,10 @@ module _ (w : Words) (z : Sized w) (g : Shaped w) where
       → (b c d e : Bool)
       → SameAt w (standing w n)
       (in_prepared
-      (cond b (left (refused_of (txn_at w (standing w n)) (refusal_number Taken)) w.tables.rows w.tables.buckets)
-      (cond c (left (refused_of (txn_at w (standing w n)) (refusal_number Taken)) w.tables.rows w.tables.buckets)
-      (cond d (left (refused_of (txn_at w (standing w n)) (refusal_number Conflict)) w.tables.rows w.tables.buckets)
-      (cond e (left (refused_of (txn_at w (standing w n)) (refusal_number NoVersions)) w.tables.rows w.tables.buckets)
+      (cond b (left (refused_of (txn_at w (standing w n)) (refusal_told Taken)) w.tables.rows w.tables.buckets)
+      (cond c (left (refused_of (txn_at w (standing w n)) (refusal_told Taken)) w.tables.rows w.tables.buckets)
+      (cond d (left (refused_of (txn_at w (standing w n)) (refusal_told Conflict)) w.tables.rows w.tables.buckets)
+      (cond e (left (refused_of (txn_at w (standing w n)) (refusal_told NoVersions)) w.tables.rows w.tables.buckets)
       (left (record { answer = tell.Done; txn = with_phase (txn_at w (standing w n)) phase.Prepared })
       (set_claims w.tables.rows (txn_at w (standing w n)).number (written_by w.tables.lists (txn_at w (standing w n))))
       (set_holders w.tables.buckets (txn_at w (standing w n)).number (listed_needs w (standing w n))))))))
@@ -226,7 +226,7 @@ module _ (w : Words) (z : Sized w) (g : Shaped w) where
     where
       by : (a : Bool) → not (eqb (rank (phase_view (txn_at w (standing w n)).phase)) phase_open) ≡ a
           → SameAt w (standing w n)
-          (in_prepared (cond a (left (refused_of (txn_at w (standing w n)) (refusal_number WrongPhase)) w.tables.rows w.tables.buckets)
+          (in_prepared (cond a (left (refused_of (txn_at w (standing w n)) (refusal_told WrongPhase)) w.tables.rows w.tables.buckets)
           (prepare_with w.tables.rows w.tables.versions w.tables.buckets w.tables.lists (extent_in w) (others_in w.txns).prepared
           (txn_at w (standing w n)) (needed_for w (standing w n)))) w.clock w.used w.tables)
           (carried (view w) (asked (ask.Prepare n)) (cond a (some WrongPhase) (refused_open w (standing w n))))

@@ -17,14 +17,14 @@ use Rattle.model.specs.Store as model
 use Rattle.model.specs.Store.{rank, phase_installed, phase_ended}
 use Rattle.model.specs.Seeing.{live}
 use Rattle.model.specs.Steps.{pending_rows, repost, changed_buckets, published_index, freed}
-use Rattle.model.specs.Refusals.{refusal_number, WrongPhase, live_count, refusal}
+use Rattle.model.specs.Refusals.{WrongPhase, live_count, refusal}
 use Rattle.model.specs.Machine.{accepted, after_refusal, carried}
 use Rattle.model.specs.Machine as machine
 use Rattle.model.proofs.Move.{live_test}
 use Rattle.model.proofs.Good.{Good, right-shape}
 use Rattle.base_protocol.specs.declared.Step.TheVariants as ask
 use Rattle.base_protocol.specs.declared.Answer.TheVariants as tell
-use Rattle.base_protocol.specs.View.{asked, sizes_view}
+use Rattle.base_protocol.specs.View.{asked, sizes_view, refusal_told}
 use Rattle.table.specs.Words.{field}
 use Rattle.txn.specs.View.{phase_view, rows_part, versions_part, buckets_part, chains_view, index_view, held_view}
 use Rattle.txn.specs.Methods.{idle_of, refused_of}
@@ -183,7 +183,7 @@ module _ (w : Words) (z : Sized w) (g : Good (view w)) (n : ℕ) (l : standing w
       → SameAt w (standing w n)
       (in_published
       (published_from
-      (cond b (record { reply = refused_of (txn_at w (standing w n)) (refusal_number WrongPhase); rows = w.tables.rows; buckets = w.tables.buckets })
+      (cond b (record { reply = refused_of (txn_at w (standing w n)) (refusal_told WrongPhase); rows = w.tables.rows; buckets = w.tables.buckets })
       (record {
         reply = record { answer = tell.Stamp w.clock; txn = idle_of (txn_at w (standing w n)).slot };
         rows = rows_after w (standing w n);

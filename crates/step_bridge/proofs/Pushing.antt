@@ -20,14 +20,14 @@ use Rattle.model.specs.Store as model
 use Rattle.model.specs.Store.{rank, phase_prepared}
 use Rattle.model.specs.Seeing.{last_write}
 use Rattle.model.specs.Steps.{new_key, written_payload, push, push_all, version_rows}
-use Rattle.model.specs.Refusals.{refusal_number, WrongPhase, reserved_by, reserved, refusal}
+use Rattle.model.specs.Refusals.{WrongPhase, reserved_by, reserved, refusal}
 use Rattle.model.specs.Machine.{accepted, after_refusal, carried}
 use Rattle.model.proofs.Made.{gets-writes}
 use Rattle.model.proofs.Room.{reserves}
 use Rattle.model.proofs.Ranges.{good-sized}
 use Rattle.base_protocol.specs.declared.Step.TheVariants as ask
 use Rattle.base_protocol.specs.declared.Answer.TheVariants as tell
-use Rattle.base_protocol.specs.View.{asked, sizes_view}
+use Rattle.base_protocol.specs.View.{asked, sizes_view, refusal_told}
 use Rattle.table.specs.Fields.{row_words, version_words}
 use Rattle.table.specs.Words.{field}
 use Rattle.table.proofs.Laws.{field-length}
@@ -214,7 +214,7 @@ module _ (w : Words) (z : Sized w) (g : Shaped w) (n : ℕ) (l : standing w n < 
       (in_installed
       (cond b (record {
         reply = record {
-          answer = tell.Refused (refusal_number WrongPhase);
+          answer = tell.Refused (refusal_told WrongPhase);
           txn = txn_at w
               (standing w n);
           used = w.used;

@@ -5,14 +5,14 @@ use mathlib.Core.Path.{◌≡◌, refl, sym, ap, subst}
 use mathlib.Core.Bool.{Bool, not}
 use mathlib.Core.List.{List, ◌∷◌}
 use Rattle.model.specs.Store as model
-use Rattle.model.specs.Refusals.{Step as Asked, Refusal, WrongPhase, refusal_number}
+use Rattle.model.specs.Refusals.{Step as Asked, Refusal, WrongPhase}
 use Rattle.model.specs.Machine as machine
 use Rattle.model.specs.Machine.{rule, actor, gives, lent_after, carried, after_refusal, step_in}
 use Rattle.model.proofs.Ruled.{phase-of, own-tests}
 use Rattle.base_protocol.specs.declared.Step.{Step}
 use Rattle.base_protocol.specs.declared.Answer.{Answer}
 use Rattle.base_protocol.specs.declared.Answer.TheVariants as tell
-use Rattle.base_protocol.specs.View.{asked, told}
+use Rattle.base_protocol.specs.View.{asked, told, refusal_told}
 use Rattle.step.specs.Steps.{Moved}
 use Rattle.step.specs.Words.{Words, view, place_for, moved_by, Sized}
 use Rattle.step_bridge.proofs.Placed.{after, unmoved, unmoved-same}
@@ -62,8 +62,8 @@ unmoved-at w z p a o e f = record {
 }
 
 pub refused-same : (w : Words) → Sized w → (p : ℕ) (r : Refusal)
-    → SameAt w p (unmoved w p (tell.Refused (refusal_number r))) (gives (view w) (machine.Refused r))
-refused-same w z p r = unmoved-at w z p (tell.Refused (refusal_number r)) (machine.Refused r) refl refl
+    → SameAt w p (unmoved w p (tell.Refused (refusal_told r))) (gives (view w) (machine.Refused r))
+refused-same w z p r = unmoved-at w z p (tell.Refused (refusal_told r)) (machine.Refused r) refl refl
 
 -- the tests of a step once its transaction is found: the phase, and its own
 abbrev pub later-tests : model.Store → Asked → List (Bool × Refusal)

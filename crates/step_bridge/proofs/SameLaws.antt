@@ -10,7 +10,7 @@ use lib.Dec.{eqb, ltb}
 use borrow.Author.Tests.{eq-eqb, ne_eqb, lt-ltb, le-ltb}
 use Rattle.base_limits.specs.Limits.{most_live}
 use Rattle.model.specs.Store as model
-use Rattle.model.specs.Refusals.{Step as Asked, NoSuch, refusal_number, place_of, refusal}
+use Rattle.model.specs.Refusals.{Step as Asked, NoSuch, place_of, refusal}
 use Rattle.model.specs.Machine as machine
 use Rattle.model.specs.Machine.{rule, actor, gives, lent_after, carried, after_refusal, step_in}
 use Rattle.model.specs.Given.{Names}
@@ -19,7 +19,7 @@ use Rattle.model.proofs.Tests.{place-number}
 use Rattle.base_protocol.specs.declared.Step.{Step}
 use Rattle.base_protocol.specs.declared.Answer.{Answer}
 use Rattle.base_protocol.specs.declared.Answer.TheVariants as tell
-use Rattle.base_protocol.specs.View.{asked}
+use Rattle.base_protocol.specs.View.{asked, refusal_told}
 use Rattle.txn.specs.Methods.{idle_of}
 use Rattle.txn_places.specs.Places.{wanted_of, is_begin, misses_of}
 use Rattle.step.specs.Steps.{Moved, done_by, step_of}
@@ -52,7 +52,7 @@ module _ (v : model.Store) (a : Asked) (n : Names a) where
 
 module _ (w : Words) (z : Sized w) (s : Step) (b : is_begin s ≡ false) where
   moved_none : (p : ℕ) → place_for w.txns s ≡ p → p < most_live → eqb (wanted_of s) 0 || not (eqb (txn_at w p).number (wanted_of s)) ≡ true
-      → moved_by w s ≡ unmoved w p (tell.Refused (refusal_number NoSuch))
+      → moved_by w s ≡ unmoved w p (tell.Refused (refusal_told NoSuch))
   unfolding moved_by step_of misses_of
   moved_none p e l h = rw (e, default-any w.txns p (idle_of 0) (idle_of p) (omega (arith, z.eight)), b, h)
 
@@ -86,14 +86,14 @@ module _ (w : Words) (z : Sized w) (s : Step) (b : is_begin s ≡ false) where
           same_from w s 0 _ _ (nowhere w z s k)
           (ap done (moved_none 0 (nowhere w z s k) (omega arith)
           (rw (ne_eqb (wanted_of s) 0 n, ne_eqb (txn_at w 0).number (wanted_of s) (not_there w z (wanted_of s) k 0 (omega arith)))))
-          ∙ kept 0 (tell.Refused (refusal_number NoSuch)) (nowhere w z s k) (omega arith))
+          ∙ kept 0 (tell.Refused (refusal_told NoSuch)) (nowhere w z s k) (omega arith))
           (none-model (view w) (asked s) names (rw (ne_eqb (wanted_of s) 0 n, le-ltb (standing w (wanted_of s)) most_live k)))
           (refused-same w z 0 NoSuch)
       go (yes n) d =
           let l = place_in w z s in
           same_from w s (place_for w.txns s) _ _ refl
           (ap done (moved_none (place_for w.txns s) refl l (rw (eq-eqb (wanted_of s) 0 n)))
-          ∙ kept (place_for w.txns s) (tell.Refused (refusal_number NoSuch)) refl l)
+          ∙ kept (place_for w.txns s) (tell.Refused (refusal_told NoSuch)) refl l)
           (none-model (view w) (asked s) names (rw (eq-eqb (wanted_of s) 0 n)))
           (refused-same w z (place_for w.txns s) NoSuch)
 

@@ -10,6 +10,7 @@ use native.Mathlib.Omega.{arith}
 use lib.Dec.{eqb, ltb, leb}
 use lib.ListN.{length, drop, get_or, length-append, length-drop}
 use borrow.Author.Tests.{leb-false, ltb-false}
+use Rattle.std.specs.Prelude.{Option, Some, None}
 use Rattle.base_limits.specs.Limits.{most_live, most_index_reads, most_writes, most_records}
 use Rattle.model.specs.Store.{rank, phase_open, phase_holding, phase_collected, bucket_in, key_in}
 use Rattle.base_protocol.specs.declared.Step.{Step}
@@ -19,8 +20,6 @@ use Rattle.table.specs.Fields.{bucket_words, stamp_of, holder_of, set_holder}
 use Rattle.table.specs.Lists.{lists_words, reads, writes, candidates, place_of}
 use Rattle.table.specs.declared.lists.Write.{Write}
 use Rattle.table_scans.specs.Scans.{read_prefix}
-use Rattle.table_scans.specs.declared.Found.{Found}
-use Rattle.table_scans.specs.declared.Found.TheVariants.{At, Nothing}
 use Rattle.table_buckets.specs.Buckets.{precedes}
 use Rattle.table_postings.specs.Postings.{listed_with}
 use Rattle.txn.specs.View.{phase_view}
@@ -69,12 +68,12 @@ module _ (w : Words) (z : Sized w) (g : Shaped w) (p : ℕ) (l : p < most_live) 
   slot-in = omega (arith, (sized-at w z p).slot)
 
   -- the bucket is below the count, and the index read is one of the slot's
-  captured-held : (b k st : ℕ) → b < w.sizes.buckets → (f : Found) → too_many f t.reads_n ≡ false
+  captured-held : (b k st : ℕ) → b < w.sizes.buckets → (f : Option ℕ) → too_many f t.reads_n ≡ false
       → KeepsHeld w (held_left st (hold_of t w.tables.lists f b k st) (set_holder w.tables.buckets b t.number))
   unfolding hold_of
-  captured-held b k st h (At i) e =
+  captured-held b k st h (Some i) e =
       record { rows = refl; versions = refl; buckets = set_beyond bucket_words 1 _ (omega arith) w.tables.buckets b t.number h; lists = refl }
-  captured-held b k st h Nothing e = record {
+  captured-held b k st h None e = record {
     rows = refl;
     versions = refl;
     buckets = set_beyond bucket_words 1 _ (omega arith) w.tables.buckets b t.number h;

@@ -16,12 +16,12 @@ use Rattle.base_lists.specs.Table.{update}
 use Rattle.model.specs.Store.{phase_open, phase_installed}
 use Rattle.model.specs.Store as model
 use Rattle.model.specs.Steps as does
-use Rattle.model.specs.Refusals.{refusal_number, Step as Asked, WrongPhase, Marked, NoRow, ManyWrites, refusal, txn_of, write_checks}
+use Rattle.model.specs.Refusals.{Step as Asked, WrongPhase, Marked, NoRow, ManyWrites, refusal, txn_of, write_checks}
 use Rattle.model.specs.Machine.{gives, accepted, after_refusal, carried}
 use Rattle.model.specs.Machine as machine
 use Rattle.base_protocol.specs.declared.Step.TheVariants as ask
 use Rattle.base_protocol.specs.declared.Answer.TheVariants as tell
-use Rattle.base_protocol.specs.View.{asked}
+use Rattle.base_protocol.specs.View.{asked, refusal_told}
 use Rattle.table.specs.Lists as lists
 use Rattle.table.specs.Lists.{stored, lists_words}
 use Rattle.table.specs.declared.lists.Write.{Write}
@@ -74,7 +74,7 @@ written-view xs p t z l h i x =
 
 module _ (w : Words) (z : Sized w) (n : ℕ) (l : standing w n < most_live) where
   ended_at : (b : Bool) → SameAt w (standing w n)
-      (stays (with_clock (cond b (refused_of (txn_at w (standing w n)) (refusal_number WrongPhase))
+      (stays (with_clock (cond b (refused_of (txn_at w (standing w n)) (refusal_told WrongPhase))
       (record { answer = tell.Done; txn = with_phase (txn_at w (standing w n)) phase.Ended })) w.clock w.used) w.tables)
       (carried (view w) (asked (ask.End n)) (cond b (some WrongPhase) none))
   unfolding carried accepted after_refusal
@@ -94,10 +94,10 @@ module _ (w : Words) (z : Sized w) (p : ℕ) (l : p < most_live) (x : Write) (a 
   written-at : (b m c d : Bool) → leb most_writes (txn_at w p).writes_n ≡ d
       → SameAt w p
       (in_lists
-      (cond b (record { reply = refused_of (txn_at w p) (refusal_number WrongPhase); lists = w.tables.lists })
-      (cond m (record { reply = refused_of (txn_at w p) (refusal_number Marked); lists = w.tables.lists })
-      (cond c (record { reply = refused_of (txn_at w p) (refusal_number NoRow); lists = w.tables.lists })
-      (cond d (record { reply = refused_of (txn_at w p) (refusal_number ManyWrites); lists = w.tables.lists })
+      (cond b (record { reply = refused_of (txn_at w p) (refusal_told WrongPhase); lists = w.tables.lists })
+      (cond m (record { reply = refused_of (txn_at w p) (refusal_told Marked); lists = w.tables.lists })
+      (cond c (record { reply = refused_of (txn_at w p) (refusal_told NoRow); lists = w.tables.lists })
+      (cond d (record { reply = refused_of (txn_at w p) (refusal_told ManyWrites); lists = w.tables.lists })
       (record {
         reply = record { answer = tell.Done; txn = with_writes (txn_at w p) ((txn_at w p).writes_n + 1) };
         lists = stored lists.writes w.tables.lists (txn_at w p).slot (txn_at w p).writes_n (write_words x);
