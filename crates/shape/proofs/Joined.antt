@@ -31,7 +31,6 @@ use Rattle.table.proofs.Spans.{list_length, list-map}
 use Rattle.txn.specs.View.{phase_view, read_view, write_view, record_view, txn_view}
 use Rattle.txn.specs.declared.Transaction.{Transaction}
 use Rattle.txn_places.specs.Places.{live_in}
-use Rattle.txn_needs.specs.Keys.{headed_by}
 use Rattle.txn_needs.specs.Needs.{written_by}
 use Rattle.txn_needs.specs.Versions.{reserved_in}
 use Rattle.step.specs.Words.{Words, txn_at, view, others_in, extent_in}
@@ -45,7 +44,7 @@ use Rattle.step_bridge.proofs.Reserving.{reserved-same}
 use Rattle.shape_chains.specs.ChainsShape.{chains_fit}
 use Rattle.shape_txn.specs.TxnShape.{counts_fit, writes_in, ranges_fit, row_fits, heads_fit, least_of, txn_fits, place_fits}
 use Rattle.shape.specs.Shape.{tables_lent, in_place, all_in_place, lists_in, tables_fit, shape_of}
-use Rattle.shape.specs.Tests.{txns_fit, unlike, distinct_at, all_distinct}
+use Rattle.shape.specs.Tests.{txns_fit, unlike, distinct_at, all_distinct, numbers_fit}
 
 -- the second test matters only where the first holds
 and_same : (a a' b b' : Bool) → a ≡ a' → (a' ≡ true → b ≡ b') → a && b ≡ a' && b'
@@ -311,3 +310,27 @@ module _ (w : Words) where
       let good = and_l (good_sizes (sizes_view w.sizes)) (leb 1 w.clock) (and_l sizes chains (and_l (sizes && chains) txns front)) in
       ap (λ (n : ℕ). leb (w.used + n) w.sizes.versions)
       (sym (others_same places good (and_r sizes chains (and_l (sizes && chains) txns front)) (and_r (sizes && chains) txns front)))))
+
+-- the tests as the code groups them
+grouped : (t g k c x n a b : Bool) → t && (g && k && c && x && n && a && b) ≡ t && g && k && c && x && (n && a && b)
+grouped true g k c x n a b = let front = g && k && c && x in sym (and_assoc front (n && a) b ∙ ap (λ (q : Bool). q && b) (and_assoc front n a))
+grouped false g k c x n a b = refl
+
+pub shape_grouped : (w : Words) → length w.txns ≡ most_live → shape_of w
+    ≡ tables_fit w
+    && good_sizes (sizes_view w.sizes)
+    && leb 1 w.clock
+    && chains_fit w.tables.rows w.tables.versions w.sizes w.used
+    && txns_fit w.tables.rows w.tables.versions w.tables.lists (extent_in w) w.txns
+    && numbers_fit w.tables.rows w.tables.versions w.tables.lists (extent_in w) (others_in w.txns)
+shape_grouped w eight =
+    shape-tested w eight
+    ∙ grouped
+    (tables_fit w)
+    (good_sizes (sizes_view w.sizes))
+    (leb 1 w.clock)
+    (chains_fit w.tables.rows w.tables.versions w.sizes w.used)
+    (txns_fit w.tables.rows w.tables.versions w.tables.lists (extent_in w) w.txns)
+    (all_distinct (others_in w.txns).numbers)
+    (leb (w.clock + live_in (others_in w.txns).numbers) last_number)
+    (leb (w.used + reserved_in w.tables.rows w.tables.versions w.tables.lists (others_in w.txns).prepared most_live) w.sizes.versions)

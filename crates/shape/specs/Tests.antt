@@ -1,10 +1,13 @@
 -- The tests of the eight records as the code makes them.
-use Rattle.std.specs.Prelude.{ℕ, Bool, not, ◌||◌, List, eqb, get_or}
-use Rattle.base_limits.specs.Limits.{most_live}
+use Rattle.std.specs.Prelude.{ℕ, ◌+◌, Bool, not, ◌&&◌, ◌||◌, List, eqb, leb, get_or}
+use Rattle.base_limits.specs.Limits.{most_live, last_number}
 use Rattle.base_lists.specs.Lists.{every}
 use Rattle.base_protocol.specs.declared.Extent.{Extent}
 use Rattle.txn.specs.Methods.{idle_of}
 use Rattle.txn.specs.declared.Transaction.{Transaction}
+use Rattle.txn_needs.specs.Versions.{reserved_in}
+use Rattle.txn_places.specs.Places.{live_in}
+use Rattle.txn_places.specs.declared.Others.{Others}
 use Rattle.shape_txn.specs.TxnShape.{place_fits}
 
 -- each record has its shape, or its place is free
@@ -20,3 +23,10 @@ distinct_at numbers i = eqb (get_or numbers i 0) 0 || unlike numbers i (get_or n
 
 abbrev pub all_distinct : List ℕ → Bool
 all_distinct numbers = every most_live (distinct_at numbers)
+
+-- and the numbers and the versions last for what is live
+abbrev pub numbers_fit : List ℕ → List ℕ → List ℕ → Extent → Others → Bool
+numbers_fit rows versions lists e o =
+    all_distinct o.numbers
+    && leb (e.clock + live_in o.numbers) last_number
+    && leb (e.used + reserved_in rows versions lists o.prepared most_live) e.sizes.versions

@@ -1,11 +1,13 @@
 // The shape that public steps test first: the model's test, and that the lent tables, the records' slots and the lists of postings fit.
 #![tactic(auto)]
 
-ghost use Rattle.std.specs.Prelude.{◌≡◌, [], ◌<◌, ◌≤◌};
+ghost use Rattle.std.specs.Prelude.{◌≡◌, [], ◌<◌, ◌&&◌};
 ghost use Rattle.base_limits.specs.Limits.{most_live};
 ghost use Rattle.step.specs.Words.{others_in};
-ghost use Rattle.shape.specs.Shape.{tables_lent, in_place, all_in_place, shape_of, words_of};
-ghost use Rattle.shape.specs.Tests.{txns_fit, unlike, distinct_at, all_distinct};
+ghost use Rattle.model.specs.Shape.{good_sizes};
+ghost use Rattle.base_protocol.specs.View.{sizes_view};
+ghost use Rattle.shape.specs.Shape.{tables_lent, in_place, all_in_place, tables_fit, shape_of, words_of};
+ghost use Rattle.shape.specs.Tests.{txns_fit, distinct_at, all_distinct, numbers_fit};
 
 use base_limits::{LAST_NUMBER, MOST_ACTIVE, MOST_LIVE};
 use base_numbers::sum_within;
@@ -30,6 +32,7 @@ pub struct Machine {
 }
 
 // Whether each lent table has the words that its size names; divided, so that no size wraps.
+// Stays with the lent tables one by one, here and below: so the C interface lends them, and `tables_lent` and the definitions behind it take their words.
 pub fn tables_lent(
     rows: &[u64],
     versions: &[u64],
@@ -39,43 +42,23 @@ pub fn tables_lent(
 ) -> bool
     ensures { result ≡ tables_lent rows.now versions.now buckets.now lists.now sizes }
 {
-    if ((rows.len() / ROW_WORDS) as u64) < sizes.rows {
-        return false;
-    }
-    if (versions.len() / VERSION_WORDS) as u64 <= sizes.versions {
-        return false;
-    }
-    if ((buckets.len() / BUCKET_WORDS) as u64) < sizes.buckets {
-        return false;
-    }
-    MOST_LIVE * SLOT_WORDS <= lists.len()
+    sizes.rows <= (rows.len() / ROW_WORDS) as u64
+        && sizes.versions < (versions.len() / VERSION_WORDS) as u64
+        && sizes.buckets <= (buckets.len() / BUCKET_WORDS) as u64
+        && MOST_LIVE * SLOT_WORDS <= lists.len()
 }
 
 // Whether a record, of a free place too, stands in the slot of its place, with no more active numbers and entries than its snapshot and its lists hold.
 fn in_place(i: usize, t: Transaction) -> bool
     ensures { result ≡ in_place i t }
 {
-    let snapshot = t.snapshot;
-    if t.slot as usize != i {
-        return false;
-    }
-    if snapshot.active_n > MOST_ACTIVE {
-        return false;
-    }
-    counts_fit(t)
+    t.slot as usize == i && t.snapshot.active_n <= MOST_ACTIVE && counts_fit(t)
 }
 
 fn all_in_place(txns: [Transaction; MOST_LIVE]) -> bool
     ensures { result ≡ all_in_place txns }
 {
-    let mut i = 0;
-    while i < MOST_LIVE {
-        if !in_place(i, txns[i]) {
-            return false;
-        }
-        i += 1;
-    }
-    true
+    txns.iter().enumerate().all(|(i, t)| in_place(i, *t))
 }
 
 // Whether each record has its shape, or its place is free.
@@ -88,53 +71,19 @@ fn txns_fit(
 ) -> bool
     ensures { result ≡ txns_fit rows.now versions.now lists.now extent txns }
 {
-    let mut i = 0;
-    while i < MOST_LIVE {
-        if !place_fits(rows, versions, lists, extent, txns[i]) {
-            return false;
-        }
-        i += 1;
-    }
-    true
+    txns.iter()
+        .all(|t| place_fits(rows, versions, lists, extent, *t))
 }
 
 // What a step needs to know of the other places.
 pub fn others_of(txns: [Transaction; MOST_LIVE]) -> Others
     ensures { result ≡ others_in txns }
 {
-    let mut numbers = [0u64; MOST_LIVE];
-    let mut active = [0u64; MOST_LIVE];
-    let mut prepared = [0u32; MOST_LIVE];
-    let mut i = 0;
-    while i < MOST_LIVE {
-        let t = txns[i];
-        let phase = t.phase;
-        let rank = phase_rank(phase);
-        numbers[i] = t.number;
-        active[i] = active_number(t.number, rank);
-        prepared[i] = prepared_count(t.number, rank, t.writes_n);
-        i += 1;
-    }
     Others {
-        numbers: numbers,
-        active: active,
-        prepared: prepared,
+        numbers: txns.map(|t| t.number),
+        active: txns.map(|t| active_number(t.number, phase_rank(t.phase))),
+        prepared: txns.map(|t| prepared_count(t.number, phase_rank(t.phase), t.writes_n)),
     }
-}
-
-// Whether a number stands at none of the first n places.
-fn unlike_first(numbers: [u64; MOST_LIVE], n: usize, number: u64) -> bool
-    requires { n ≤ most_live }
-    ensures { result ≡ unlike numbers n number }
-{
-    let mut j = 0;
-    while j < n {
-        if number == numbers[j] {
-            return false;
-        }
-        j += 1;
-    }
-    true
 }
 
 // Whether what stands at a place is free or unlike all before it.
@@ -142,25 +91,43 @@ fn distinct_at(numbers: [u64; MOST_LIVE], i: usize) -> bool
     requires { i < most_live }
     ensures { result ≡ distinct_at numbers i }
 {
-    let number = numbers[i];
-    if number == 0 {
-        return true;
-    }
-    unlike_first(numbers, i, number)
+    numbers[i] == 0 || !numbers[..i].contains(&numbers[i])
 }
 
 // Whether live numbers are distinct.
 fn distinct_numbers(numbers: [u64; MOST_LIVE]) -> bool
     ensures { result ≡ all_distinct numbers }
 {
-    let mut i = 0;
-    while i < MOST_LIVE {
-        if !distinct_at(numbers, i) {
-            return false;
-        }
-        i += 1;
-    }
-    true
+    (0..MOST_LIVE).all(|i| distinct_at(numbers, i))
+}
+
+// Whether the lent tables and the lists of postings fit a machine within the limits, and its records stand in their slots.
+fn tables_fit(rows: &[u64], versions: &[u64], buckets: &[u64], lists: &[u64], m: Machine) -> bool
+    ensures { result ≡ (tables_fit (words_of rows.now versions.now buckets.now lists.now [] m) && good_sizes (sizes_view m.sizes)) }
+{
+    tables_lent(rows, versions, buckets, lists, m.sizes)
+        && all_in_place(m.txns)
+        && good_sizes(m.sizes)
+        && lists_tell(rows, m.sizes.rows)
+}
+
+// Whether live numbers are distinct, and the numbers and the versions last for what is live.
+fn numbers_fit(
+    rows: &[u64],
+    versions: &[u64],
+    lists: &[u64],
+    extent: Extent,
+    others: Others,
+) -> bool
+    ensures { result ≡ numbers_fit rows.now versions.now lists.now extent others }
+{
+    distinct_numbers(others.numbers)
+        && sum_within(extent.clock, live_count(others.numbers), LAST_NUMBER)
+        && sum_within(
+            extent.used,
+            reserved(rows, versions, lists, others.prepared),
+            extent.sizes.versions,
+        )
 }
 
 // Whether the machine and its lent tables have the shape that every step asks for.
@@ -173,46 +140,16 @@ pub fn right_shape(
 ) -> bool
     ensures { result ≡ shape_of (words_of rows.now versions.now buckets.now lists.now [] m) }
 {
-    let sizes = m.sizes;
-    let txns = m.txns;
-    if !tables_lent(rows, versions, buckets, lists, sizes) {
-        return false;
-    }
-    if !all_in_place(txns) {
-        return false;
-    }
-    if !good_sizes(sizes) {
-        return false;
-    }
-    if !lists_tell(rows, sizes.rows) {
-        return false;
-    }
-    if m.clock < 1 {
-        return false;
-    }
-    if !chains_fit(rows, versions, sizes, m.used) {
-        return false;
-    }
-    let extent = Extent {
-        sizes: sizes,
-        clock: m.clock,
-        used: m.used,
-    };
-    if !txns_fit(rows, versions, lists, extent, txns) {
-        return false;
-    }
-    let others = others_of(txns);
-    let numbers = others.numbers;
-    let prepared = others.prepared;
-    if !distinct_numbers(numbers) {
-        return false;
-    }
-    if !sum_within(m.clock, live_count(numbers), LAST_NUMBER) {
-        return false;
-    }
-    sum_within(
-        m.used,
-        reserved(rows, versions, lists, prepared),
-        sizes.versions,
-    )
+    let Machine {
+        sizes,
+        clock,
+        used,
+        txns,
+    } = m;
+    let extent = Extent { sizes, clock, used };
+    tables_fit(rows, versions, buckets, lists, m)
+        && clock >= 1
+        && chains_fit(rows, versions, sizes, used)
+        && txns_fit(rows, versions, lists, extent, txns)
+        && numbers_fit(rows, versions, lists, extent, others_of(txns))
 }

@@ -3,18 +3,30 @@
 use Prim.Native.Nat.{ℕ, zero, suc, ◌+◌, ◌*◌, ◌<◌, ◌≤◌}
 use mathlib.Core.Path.{◌≡◌, refl, sym, ap, ◌∙◌}
 use mathlib.Core.List.{List}
-use mathlib.Core.Bool.{Bool, true, false, not, ◌&&◌, and-false, and-true}
+use mathlib.Core.Bool.{Bool, true, false, ◌&&◌, and-false, and-true}
 use native.Mathlib.Decide.{dec_lt}
 use native.Mathlib.Numerals.{add-one}
 use native.Mathlib.Omega.{arith}
-use borrow.Author.Tests.{not-true, not-false, le-leb, lt-ltb}
+use borrow.Author.Tests.{le-leb, lt-ltb}
+use Rattle.std.specs.List.{list_all, range_with_len, FoldsTo}
+use Rattle.std.specs.Iterator.{YieldsThen}
+use Rattle.std.specs.Fn.{Called}
+use Rattle.std.specs.Option.{MatchOption}
+use Rattle.std.proofs.lemmas.Iterator.{YieldsList-from_range}
+use Rattle.std.proofs.lemmas.Iterator.Search.{all_from_yields_List}
+use Rattle.std.proofs.iter.Yields.{nat_range_steps}
+use Rattle.std.specs.declared.option.Option.{Option}
+use Rattle.std.specs.declared.ops.Range.{Range}
+use denote.Param.Members.{Mut}
+use Rattle.base_lists.proofs.ListLaws.{every-each}
+use native.Mathlib.Nat.{add-zero, zero-add}
 use lib.Dec.{leb, ltb}
 use lib.ListN.{length, get_or-eq_default}
 use Rattle.base_lists.specs.Lists.{every}
 use Rattle.table.specs.Words.{field}
 use Rattle.table.specs.Fields.{row_words, version_words, head_of, next_of}
 
--- none, one more, all, all past one, fewer that fail, and one that fails
+-- none, one more, all past one, fewer that fail, and one that fails
 pub every-none : (test : ℕ → Bool) → every 0 test ≡ true
 unfolding every
 every-none test = refl
@@ -23,9 +35,6 @@ module _ (test : ℕ → Bool) (i : ℕ) where
   pub every-next : every i test ≡ true → test i ≡ true → every (i + 1) test ≡ true
   unfolding every
   every-next e t = rw (add-one, e, t)
-
-  pub every-done : (n : ℕ) → i ≤ n → n ≤ i → every i test ≡ true → true ≡ every n test
-  every-done n a b e = let d : i ≡ n = omega arith in sym (sym (ap (λ (j : ℕ). every j test) d) ∙ e)
 
   pub every-past : (n : ℕ) → i ≤ n → ((j : ℕ) → i ≤ j → j < n → test j ≡ true) → every i test ≡ every n test
   unfolding every
@@ -47,27 +56,41 @@ pub every-fails : (test : ℕ → Bool) (i n : ℕ) → i < n → test i ≡ fal
 unfolding every
 every-fails test i n h e = every-fewer test (suc i) n (omega arith) (rw (e, and-false))
 
--- four more, as a callee told of each
-pub every-four : (test : ℕ → Bool) (i : ℕ) {a b c d : Bool} → every i test ≡ true → a ≡ test i → b ≡ test (i + 1) → c ≡ test (i + 2)
-    → d ≡ test (i + 3) → ((a && b) && c) && d ≡ every (i + 4) test
+-- what was told of the numbers below a bound: that the test holds at each, or one at which it fails
+pub every-told : (test : ℕ → Bool) (n : ℕ) (r : Bool) → (r ≡ true → (i : ℕ) → i < n → test i ≡ true)
+    → (r ≡ false → (i : ℕ) × (i < n) × (test i ≡ false)) → r ≡ every n test
+every-told test n true holds fails = sym (every-each n test (holds refl))
+every-told test n false holds fails = let w = fails refl in every-fails test w.0 n w.1 w.2
+
+-- the first number's test, and those of the numbers behind it
+pub every-first : (test : ℕ → Bool) (n : ℕ) → every (suc n) test ≡ test 0 && every n (λ i. test (suc i))
 unfolding every
-every-four test i e p q r s =
-    let one : i + 1 ≡ suc i = omega arith in
-    let two : i + 2 ≡ suc (suc i) = omega arith in
-    let three : i + 3 ≡ suc (suc (suc i)) = omega arith in
-    let four : i + 4 ≡ suc (suc (suc (suc i))) = omega arith in
-    rw (p, q, r, s, four, three, two, one, e)
+every-first test zero = by (test 0)
+  where
+    by : (b : Bool) → true && b ≡ b && true
+    by true = refl
+    by false = refl
+every-first test (suc n) = rw (every-first test n) (by (test 0))
+  where
+    by : (b : Bool) → (b && every n (λ i. test (suc i))) && test (suc n) ≡ b && (every n (λ i. test (suc i)) && test (suc n))
+    by true = refl
+    by false = refl
 
--- a test that a callee made, past it and in its arm
-pub passed : {r test : Bool} → r ≡ test → not r ≡ false → test ≡ true
-passed {r} e l = sym e ∙ not-false r l
+every-from : (n a : ℕ) (test also : ℕ → Bool) → ((i : ℕ) → test (a + i) ≡ also i) → list_all test (range_with_len a n) ≡ every n also
+unfolding every
+every-from zero a test also h = refl
+every-from (suc n) a test also h =
+    let first = rw add-zero at (h 0) in
+    let rest = every-from n (a + 1) test (λ i. also (suc i)) (λ i. let e : a + 1 + i ≡ a + suc i = omega arith in rw e (h (suc i))) in
+    rw (first, rest) (sym (every-first also n))
 
-pub failed : {r test : Bool} → r ≡ test → not r ≡ true → test ≡ false
-failed {r} e t = sym e ∙ not-true r t
-
--- what a callee told of pointer q, as it is told of the number below it
-pub falls-behind : (versions : List ℕ) (p q : ℕ) {r : Bool} → q ≡ suc p → r ≡ ltb (next_of versions q) q → r ≡ ltb (next_of versions (suc p)) (suc p)
-falls-behind versions p q e t = rw (← e) t
+-- what `all` answers over the numbers below a bound, where its closure makes the test
+pub every-all : {F : Type 0} {g : Mut F (ℕ × Unit {0}) Bool} {s : Range ℕ} (test : ℕ → Bool) (n : ℕ) (u : Range ℕ) (f : F) (r : Bool)
+    → (xs : List ℕ) × (o : Option ℕ) × (j : F) × YieldsThen nat_range_steps s xs o u × FoldsTo (λ p x q. Called g p (x, tt) true q) f xs j
+    × MatchOption o (r ≡ true) (λ x. (r ≡ false) × ((h : F) × Called g j (x, tt) false h))
+    → s ≡ record { start = 0; end = n } → ((x : ℕ) (b : Bool) (q : F) → Called g f (x, tt) b q → (q ≡ f) × (b ≡ test x)) → r ≡ every n test
+every-all test n u f r ran e told =
+    all_from_yields_List test u f r ran (YieldsList-from_range 0 n n e (omega arith)) told ∙ every-from n 0 test test (λ i. rw zero-add refl)
 
 -- a row past the table has head 0, a version past it next 0
 pub head-past : (rows : List ℕ) (r used : ℕ) → length rows ≤ row_words * r → leb (head_of rows r) used ≡ true

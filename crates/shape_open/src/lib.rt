@@ -14,21 +14,15 @@ use base_protocol::Sizes;
 pub fn good_sizes(sizes: Sizes) -> bool
     ensures { result ≡ model.good_sizes (sizes_view sizes) }
 {
-    if !within(sizes.rows, MOST_ROWS as u64) {
-        return false;
-    }
-    if !within(sizes.versions, MOST_VERSIONS as u64) {
-        return false;
-    }
-    within(sizes.buckets, MOST_BUCKETS as u64)
+    within(sizes.rows, MOST_ROWS as u64)
+        && within(sizes.versions, MOST_VERSIONS as u64)
+        && within(sizes.buckets, MOST_BUCKETS as u64)
 }
 
 // Whether a store can be opened: sizes within limits, and a clock.
+#[tactic(auto, unfolding(model::specs::Machine::can_open))]
 pub fn can_open(sizes: Sizes, clock: u64) -> bool
     ensures { result ≡ can_open (sizes_view sizes) clock }
 {
-    if !good_sizes(sizes) {
-        return false;
-    }
-    clock >= 1
+    good_sizes(sizes) && clock >= 1
 }

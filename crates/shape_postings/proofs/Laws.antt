@@ -1,6 +1,6 @@
 -- The places of the last rows, as the rows are gone through, and what is told then.
 -- Assumes nothing.
-use Prim.Native.Nat.{ℕ, ◌+◌, ◌≤◌, ◌<◌}
+use Prim.Native.Nat.{ℕ, zero, suc, ◌+◌, ◌≤◌, ◌<◌}
 use mathlib.Core.Path.{◌≡◌, refl, sym}
 use mathlib.Core.Bool.{Bool, true, false}
 use mathlib.Core.Logic.{◌≢◌}
@@ -51,6 +51,13 @@ pub named-posted : (rows : List ℕ) (row_count r link place : ℕ) → posted_o
     → place ≡ last_in rows row_count (list_for row_count (posted_key_of rows r)) r
     → link ≡ link_at rows (list_for row_count (posted_key_of rows r)) place → eqb link (r + 1) ≡ named_before rows row_count r
 named-posted rows n r link place d p l = rw (ne_eqb _ _ d, l, p, add-one)
+
+-- what stands behind each kept place is what ends the list
+pub every-ends : (rows : List ℕ) (row_count n : ℕ) (last : List ℕ) → n ≤ row_count → LastKept rows row_count row_count last
+    → every n (λ i. eqb (link_at rows i (get_or last i 0)) 0) ≡ every n (ends_at rows row_count)
+unfolding every
+every-ends rows row_count zero last h k = refl
+every-ends rows row_count (suc n) last h k = rw (every-ends rows row_count n last (omega arith) k, k.kept n (omega arith))
 
 -- no row is below row 0, so nothing is kept at the start
 pub kept-none : (rows : List ℕ) (row_count : ℕ) → row_count ≤ most_rows → LastKept rows row_count 0 (replicate most_rows 0)
