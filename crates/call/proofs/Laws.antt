@@ -1,13 +1,12 @@
--- A public step put together from what its callees leave, and tables cleared word by word.
+-- A public step put together from what its callees leave, and the words that an open needs.
 -- Assumes nothing.
-use Prim.Native.Nat.{ℕ, zero, suc, ◌+◌, ◌*◌, ◌≤◌, ◌<◌}
-use mathlib.Core.Path.{◌≡◌, refl, sym, ap, ◌∙◌}
+use Prim.Native.Nat.{ℕ, suc, ◌*◌, ◌≤◌, ◌<◌}
+use mathlib.Core.Path.{◌≡◌, refl, sym, ◌∙◌}
 use mathlib.Core.Bool.{true, ◌&&◌}
-use mathlib.Core.List.{List, [], ◌∷◌, ◌++◌}
-use native.Mathlib.Numerals.{add-one}
+use mathlib.Core.List.{List, []}
 use native.Mathlib.Omega.{arith}
 use lib.Dec.{leb}
-use lib.ListN.{length, drop, get_or, set, replicate, length-map}
+use lib.ListN.{length, get_or, length-map}
 use borrow.Author.Tests.{leb-true}
 use Rattle.base_limits.specs.Limits.{most_live}
 use Rattle.base_lists.proofs.ListLaws.{and_l, and_r}
@@ -26,7 +25,7 @@ use Rattle.txn_places.proofs.Laws.{default-any, place-below}
 use Rattle.shape.specs.Shape.{tables_lent, tables_fit, shape_of, words_of}
 use Rattle.shape.specs.declared.Machine.{Machine}
 use Rattle.call.specs.declared.Called.{Called}
-use Rattle.call.specs.Calls.{Left, left, asker, Swept, swept_for, call_of, placed_of, cleared}
+use Rattle.call.specs.Calls.{left, asker, Swept, swept_for, call_of, placed_of}
 
 -- the list lent for the rows of a read is no part of the shape
 pub shape-found : (rows versions buckets lists found : List ℕ) (m : Machine)
@@ -69,23 +68,6 @@ module _ (rows versions buckets lists found : List ℕ) (m : Machine) (s : Step)
 
 -- ---- open
 
--- one word more is cleared
-clear-one : (i : ℕ) (l : List ℕ) → i < length l → set (replicate i 0 ++ drop i l) i 0 ≡ replicate (suc i) 0 ++ drop (suc i) l
-clear-one i [] h = absurd (omega arith)
-clear-one zero (x ∷ l) h = refl
-clear-one (suc i) (x ∷ l) h = ap (λ (r : List ℕ). 0 ∷ r) (clear-one i l (omega arith))
-
-pub clear_none : (l : List ℕ) → l ≡ cleared 0 l
-unfolding cleared
-clear_none l = refl
-
-pub clear_next : (l xs : List ℕ) (i : ℕ) → i < length l → xs ≡ cleared i l → set xs i 0 ≡ cleared (i + 1) l
-unfolding cleared
-clear_next l xs i h e = rw (e, add-one) (clear-one i l h)
-
-pub clear-done : (l xs : List ℕ) (i n : ℕ) → i ≤ n → n ≤ i → xs ≡ cleared i l → xs ≡ cleared n l
-clear-done l xs i n a b e = let d : i ≡ n = omega arith in e ∙ ap (λ (j : ℕ). cleared j l) d
-
 -- the words that a size names are there
 pub record Roomy (rows versions buckets lists : List ℕ) (z : Sizes) : Type 0 where
   pub rows-there : row_words * z.rows ≤ length rows
@@ -107,9 +89,3 @@ lent-roomy rows versions buckets lists z e =
       buckets-there = leb-true _ _ (and_r (r && v) b three);
       lists-there = leb-true _ _ (and_r (r && v && b) l e);
     }
-
--- an empty list that was lent comes back empty
-pub lent_none : (r : Called) (rows versions buckets lists found : List ℕ) (x : Left) → length found ≡ 0 → left r rows versions buckets lists found ≡ x
-    → left r rows versions buckets lists [] ≡ x
-lent_none r rows versions buckets lists [] x n e = e
-lent_none r rows versions buckets lists (y ∷ found) x n e = absurd (omega arith)

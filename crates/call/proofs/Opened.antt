@@ -10,9 +10,10 @@ use lib.Seq.{drop_at}
 use Rattle.base_limits.specs.Limits.{last_number}
 use Rattle.model.specs.Store.{fresh}
 use Rattle.model.specs.Machine.{can_open}
+use Rattle.model.specs.Refusals.{WrongSize, WrongShape}
 use Rattle.base_protocol.specs.declared.Answer.TheVariants as tell
 use Rattle.base_protocol.specs.declared.Sizes.{Sizes}
-use Rattle.base_protocol.specs.View.{sizes_view}
+use Rattle.base_protocol.specs.View.{sizes_view, refusal_told}
 use Rattle.table.specs.Fields.{row_words, version_words, bucket_words}
 use Rattle.step.specs.Words.{Words, view}
 use Rattle.step.specs.Past.{PastKept}
@@ -58,8 +59,9 @@ module _ (rows versions buckets lists : List ℕ) (z : Sizes) (clock : ℕ) wher
   }
 
   done-by : (a b : Bool)
-      → (cond (not a) (refused_open 1 rows versions buckets lists)
-      (cond (not b) (refused_open 16 rows versions buckets lists) (record { answer = tell.Done; words = fresh_words [] }))).answer ≡ tell.Done
+      → (cond (not a) (refused_open (refusal_told WrongSize) rows versions buckets lists)
+      (cond (not b) (refused_open (refusal_told WrongShape) rows versions buckets lists)
+      (record { answer = tell.Done; words = fresh_words [] }))).answer ≡ tell.Done
       → (a ≡ true) × (b ≡ true)
   done-by true true e = (refl, refl)
   done-by true false e = let q : ◌≡◌ {A = ℕ} 0 1 = cc in absurd (omega arith)

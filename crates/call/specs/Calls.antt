@@ -1,12 +1,13 @@
 -- The public steps and open: what is answered, the machine that goes back, and all the lent words.
 use Rattle.std.specs.Prelude.{ℕ, suc, ◌*◌, Bool, cond, not, ◌&&◌, List, [], ◌++◌, eqb, drop, get_or, set, replicate}
-use Rattle.model.specs.Refusals.{WrongSize, WrongShape, refusal_number}
+use Rattle.model.specs.Refusals.{WrongSize, WrongShape}
 use Rattle.model.specs.Machine.{can_open}
+use Rattle.base_protocol.specs.declared.Refusal.{Refusal}
 use Rattle.base_protocol.specs.declared.Step.{Step}
 use Rattle.base_protocol.specs.declared.Answer.{Answer}
 use Rattle.base_protocol.specs.declared.Answer.TheVariants as tell
 use Rattle.base_protocol.specs.declared.Sizes.{Sizes}
-use Rattle.base_protocol.specs.View.{sizes_view}
+use Rattle.base_protocol.specs.View.{sizes_view, refusal_told}
 use Rattle.table.specs.Fields.{row_words, version_words, bucket_words, release_every, unclaim_every}
 use Rattle.txn.specs.Methods.{idle_of}
 use Rattle.txn.specs.declared.Transaction.{Transaction}
@@ -73,7 +74,7 @@ words_called w s = record {
 -- 16 where the shape is wrong, with all as found; else the step
 unfoldable pub call_of : Words → Step → Left
 call_of w s = cond (shape_of w) (record { answer = (called_by w s).stepped.answer; words = words_called w s })
-    (record { answer = tell.Refused (refusal_number WrongShape); words = w })
+    (record { answer = tell.Refused (refusal_told WrongShape); words = w })
 
 -- the record goes back to its place, and clock and last used pointer are taken over
 abbrev pub placed_of : Machine → ℕ → Stepped → Called
@@ -92,14 +93,14 @@ abbrev pub closed_of : Machine
 closed_of = fresh_of (record { rows = 0; versions = 0; buckets = 0 }) 0
 
 -- a refused open leaves the tables as found
-abbrev pub refused_open : ℕ → List ℕ → List ℕ → List ℕ → List ℕ → Left
+abbrev pub refused_open : Refusal → List ℕ → List ℕ → List ℕ → List ℕ → Left
 refused_open why rows versions buckets lists = record { answer = tell.Refused why; words = words_of rows versions buckets lists [] closed_of }
 
 -- 1 where a size is outside its range or the clock is 0, 16 where a lent table is shorter than its size; else a fresh store
 unfoldable pub open_of : List ℕ → List ℕ → List ℕ → List ℕ → Sizes → ℕ → Left
 open_of rows versions buckets lists z clock =
-    cond (not (can_open (sizes_view z) clock)) (refused_open (refusal_number WrongSize) rows versions buckets lists)
-    (cond (not (tables_lent rows versions buckets lists z)) (refused_open (refusal_number WrongShape) rows versions buckets lists)
+    cond (not (can_open (sizes_view z) clock)) (refused_open (refusal_told WrongSize) rows versions buckets lists)
+    (cond (not (tables_lent rows versions buckets lists z)) (refused_open (refusal_told WrongShape) rows versions buckets lists)
     (record {
       answer = tell.Done;
       words =

@@ -7,7 +7,7 @@ ghost use Rattle.base_protocol.specs.declared.Answer.TheVariants as tell;
 ghost use Rattle.shape.specs.Shape.{words_of};
 ghost use Rattle.call.specs.Calls.{left, swept_for, call_of, placed_of, cleared, fresh_of, closed_of, open_of};
 
-use base_protocol::{Answer, Extent, Sizes, Step, WRONG_SHAPE, WRONG_SIZE};
+use base_protocol::{Answer, Extent, Refusal, Sizes, Step};
 use shape::{Machine, others_of, right_shape, tables_lent};
 use shape_open::can_open;
 use step::{Place, Stepped, step};
@@ -27,46 +27,50 @@ pub struct Called {
 fn fresh(sizes: Sizes, clock: u64) -> Machine
     ensures { result ≡ fresh_of sizes clock }
 {
-    let txns = free_places();
     Machine {
-        sizes: sizes,
-        clock: clock,
+        sizes,
+        clock,
         used: 0,
-        txns: txns,
+        txns: free_places(),
     }
 }
 
-// A refused open: a machine of no shape, so that every step of it gets 16.
-fn refused_open(why: u64) -> Called
-    ensures { result ≡ record { answer = tell.Refused why; machine = closed_of } }
+// A closed machine, of no shape: every step of it gets 16.
+pub fn closed() -> Machine
+    ensures { result ≡ closed_of }
 {
-    let machine = fresh(
+    fresh(
         Sizes {
             rows: 0,
             versions: 0,
             buckets: 0,
         },
         0,
-    );
+    )
+}
+
+// A refused open leaves a closed machine.
+fn refused_open(why: Refusal) -> Called
+    ensures { result ≡ record { answer = tell.Refused why; machine = closed_of } }
+{
     Called {
         answer: Answer::Refused(why),
-        machine: machine,
+        machine: closed(),
     }
 }
 
 // The first n words of a table become 0.
+#[tactic(auto, unfolding(crate::specs::Calls::cleared))]
 fn clear(xs: &mut [u64], n: usize)
     requires { n ≤ length xs.old }
     ensures { xs.new ≡ cleared n xs.old }
 {
-    let mut i = 0;
-    while i < n {
-        xs[i] = 0;
-        i += 1;
-    }
+    xs[..n].fill(0);
 }
 
 // Open: a fresh store in the lent tables; words past a table's size keep their contents, and so do the lists.
+// Stays with the lent tables one by one, here and below: a rule of the project (docs/DECISIONS.md, 69), and so a signature says which it may write.
+#[tactic(auto, unfolding(crate::specs::Calls::open_of))]
 pub fn open(
     rows: &mut [u64],
     versions: &mut [u64],
@@ -79,18 +83,17 @@ pub fn open(
         ≡ open_of rows.old versions.old buckets.old lists.now sizes clock }
 {
     if !can_open(sizes, clock) {
-        return refused_open(WRONG_SIZE);
+        return refused_open(Refusal::WrongSize);
     }
     if !tables_lent(rows, versions, buckets, lists, sizes) {
-        return refused_open(WRONG_SHAPE);
+        return refused_open(Refusal::WrongShape);
     }
     clear(rows, ROW_WORDS * (sizes.rows as usize));
     clear(versions, VERSION_WORDS * (sizes.versions as usize + 1));
     clear(buckets, BUCKET_WORDS * (sizes.buckets as usize));
-    let machine = fresh(sizes, clock);
     Called {
         answer: Answer::Done,
-        machine: machine,
+        machine: fresh(sizes, clock),
     }
 }
 
@@ -101,31 +104,26 @@ fn placed(m: Machine, p: usize, done: Stepped) -> Called
     requires { p < most_live }
     ensures { result ≡ placed_of m p done }
 {
-    let sizes = m.sizes;
-    let answer = done.answer;
-    let txn = done.txn;
     let mut txns = m.txns;
-    txns[p] = txn;
+    txns[p] = done.txn;
     Called {
-        answer: answer,
+        answer: done.answer,
         machine: Machine {
-            sizes: sizes,
             clock: done.clock,
             used: done.used,
-            txns: txns,
+            txns,
+            ..m
         },
     }
 }
 
 // Where the record ended, every bucket and every claim that still carries its number is freed.
+#[tactic(auto, unfolding(crate::specs::Calls::swept_for))]
 fn sweep(rows: &mut [u64], buckets: &mut [u64], sizes: Sizes, number: u64, number_after: u64)
     ensures { record { rows = rows.exit.now; buckets = buckets.new }
         ≡ swept_for rows.entry.now buckets.old sizes number number_after }
 {
-    if number == 0 {
-        return;
-    }
-    if number_after != 0 {
+    if number == 0 || number_after != 0 {
         return;
     }
     unclaim_every(rows, sizes.rows, number);
@@ -133,6 +131,7 @@ fn sweep(rows: &mut [u64], buckets: &mut [u64], sizes: Sizes, number: u64, numbe
 }
 
 // Any step: the shape first, then the step of the transaction that it names; nothing stays held or claimed for one that ended.
+#[tactic(auto, unfolding(crate::specs::Calls::call_of))]
 pub fn call(
     rows: &mut [u64],
     versions: &mut [u64],
@@ -147,28 +146,27 @@ pub fn call(
 {
     if !right_shape(rows, versions, buckets, lists, m) {
         return Called {
-            answer: Answer::Refused(WRONG_SHAPE),
+            answer: Answer::Refused(Refusal::WrongShape),
             machine: m,
         };
     }
-    let sizes = m.sizes;
-    let txns = m.txns;
+    let Machine {
+        sizes,
+        clock,
+        used,
+        txns,
+    } = m;
     let others = others_of(txns);
-    let numbers = others.numbers;
-    let p = place_of(&numbers, wanted(s));
-    let t = txns[p];
+    let p = place_of(&others.numbers, wanted(s));
+    let txn = txns[p];
+    let extent = Extent { sizes, clock, used };
     let place = Place {
-        extent: Extent {
-            sizes: sizes,
-            clock: m.clock,
-            used: m.used,
-        },
-        others: others,
-        txn: t,
+        extent,
+        others,
+        txn,
     };
     let done = step(rows, versions, buckets, lists, found, place, s);
-    let txn = done.txn;
-    sweep(rows, buckets, sizes, t.number, txn.number);
+    sweep(rows, buckets, sizes, txn.number, done.txn.number);
     placed(m, p, done)
 }
 

@@ -1,6 +1,6 @@
 -- A call on any words: its number and values by document 01's table, and what it leaves; and the same of open. Assumes nothing.
 use Prim.Native.Nat.{ℕ}
-use mathlib.Core.Path.{◌≡◌, refl, sym, ap, ◌∙◌}
+use mathlib.Core.Path.{◌≡◌, refl, sym, ap, subst, ◌∙◌}
 use mathlib.Core.Bool.{Bool, true, false, cond, not, true≢false}
 use mathlib.Core.Logic.{◌↔◌, ◌≢◌, ◌⊎◌, inl, inr, ⊎_elim}
 use mathlib.Core.List.{List, [], ◌∷◌}
@@ -10,7 +10,7 @@ use lib.Seq.{take_at}
 use Rattle.base_limits.specs.Limits.{most_rows, most_versions, most_buckets}
 use Rattle.model.specs.Verdict as judged
 use Rattle.model.specs.Verdict.{verdict_number}
-use Rattle.model.specs.Refusals.{WrongShape, refusal_number, validate}
+use Rattle.model.specs.Refusals.{WrongSize, WrongShape, validate}
 use Rattle.model.specs.Machine as machine
 use Rattle.model.specs.Machine.{answer_number, answer_values, lent_after, step, can_open}
 use Rattle.model.specs.Given.{number, Outside, GivenWhen}
@@ -18,9 +18,11 @@ use Rattle.model.proofs.Conditions.{cannot-open}
 use Rattle.model.proofs.Promises.{exact-answer, validate-answers}
 use Rattle.base_protocol.specs.declared.Verdict.{Verdict}
 use Rattle.base_protocol.specs.declared.Verdict.TheVariants as verdict
+use Rattle.base_protocol.specs.declared.Refusal.{Refusal}
 use Rattle.base_protocol.specs.declared.Answer.{Answer}
 use Rattle.base_protocol.specs.declared.Answer.TheVariants as tell
-use Rattle.base_protocol.specs.View.{verdict_told, told, sizes_view}
+use Rattle.base_protocol.specs.View.{verdict_told, told, sizes_view, refusal_told}
+use Rattle.base_protocol.proofs.Told.{refusal-number}
 use Rattle.report_answers.specs.Answers as answers
 use Rattle.report_answers.specs.Answers.{number_of, values_of}
 use Rattle.step.specs.Words.{Words, view}
@@ -42,7 +44,7 @@ told-number (machine.Stamp n) = refl
 told-number (machine.Count n) = refl
 told-number (machine.Rows rs) = refl
 told-number (machine.Judged v) = refl
-told-number (machine.Refused r) = refl
+told-number (machine.Refused r) = refusal-number r
 
 told-verdict : (v : judged.Verdict) → answers.verdict_values (verdict_told v) ≡ verdict_number v ∷ judged.verdict_values v
 told-verdict judged.Clear = refl
@@ -76,25 +78,32 @@ told-values (machine.Rows rs) lent = ap (λ (l : List ℕ). length rs ∷ l) (ta
 told-values (machine.Judged v) lent = told-verdict v
 told-values (machine.Refused r) lent = refl
 
+record Refuses (a : Answer) : Type 0 where
+  why : Refusal
+  is : a ≡ tell.Refused why
+
 -- a number that is not 0 is a refusal's
-refused-is : (a : Answer) → number_of a ≢ 0 → a ≡ tell.Refused (number_of a)
+refused-is : (a : Answer) → number_of a ≢ 0 → Refuses a
 refused-is tell.Done d = absurd (d refl)
 refused-is (tell.Number n) d = absurd (d refl)
 refused-is (tell.Stamp n) d = absurd (d refl)
 refused-is (tell.Count n) d = absurd (d refl)
 refused-is (tell.Rows n) d = absurd (d refl)
 refused-is (tell.Judged v) d = absurd (d refl)
-refused-is (tell.Refused n) d = refl
+refused-is (tell.Refused r) d = record { why = r; is = refl }
 
 -- ---- a call
 
 module _ (w : Words) (c : Call) (any : AnyCall w c) where
   refuses-words : number_of (called w c).answer ≢ 0
       → ((called w c).words ≡ lending w c.lent) ⊎ Marks (lending w c.lent) c.asks (called w c).words (number_of (called w c).answer)
-  refuses-words d = refused-words (lending w c.lent) c.asks (number_of (called w c).answer) (refused-is (called w c).answer d)
+  refuses-words d =
+      let r = refused-is (called w c).answer d in
+      subst (λ (n : ℕ). ((called w c).words ≡ lending w c.lent) ⊎ Marks (lending w c.lent) c.asks (called w c).words n) (sym (ap number_of r.is))
+      (refused-words (lending w c.lent) c.asks r.why r.is)
 
   refuses-values : number_of (called w c).answer ≢ 0 → values_of (called w c).answer (called w c).words.tables.found ≡ []
-  refuses-values d = rw (refused-is (called w c).answer d)
+  refuses-values d = rw (refused-is (called w c).answer d).is
 
   -- the words fit: the model's step
   module _ (f : tables_fit w ≡ true) where
@@ -161,7 +170,7 @@ judges w t v y = by (tables_fit w) refl
         ((λ e. (f, m.0 (told-judged (step (view w) (validate t)).answer v (sym k ∙ e)))), (λ s. k ∙ ap told (m.1 s.1)))
     by false f =
         let k : (called w (validating t)).answer
-        ≡ tell.Refused (refusal_number WrongShape) = ap (λ x. x.answer) ((any-call w (validating t) y).wrong ((any-call w (validating t) y).shape ∙ rw f)) in
+        ≡ tell.Refused (refusal_told WrongShape) = ap (λ x. x.answer) ((any-call w (validating t) y).wrong ((any-call w (validating t) y).shape ∙ rw f)) in
         ((λ e. let q : ◌≡◌ {A = ℕ} 0 1 = cc in absurd (omega arith)), (λ s. absurd (true≢false (sym s.0 ∙ f))))
 
 -- ---- open
@@ -169,8 +178,8 @@ judges w t v y = by (tables_fit w) refl
 -- what open answers, by its two tests
 module _ (rows versions buckets lists : List ℕ) (words : Words) where
   abbrev tested : Bool → Bool → Left
-  tested a b = cond (not a) (refused_open 1 rows versions buckets lists)
-      (cond (not b) (refused_open 16 rows versions buckets lists) (record { answer = tell.Done; words = words }))
+  tested a b = cond (not a) (refused_open (refusal_told WrongSize) rows versions buckets lists)
+      (cond (not b) (refused_open (refusal_told WrongShape) rows versions buckets lists) (record { answer = tell.Done; words = words }))
 
   tested-given : {Cannot : Type 0} (n : ℕ) (a b : Bool) → (a ≡ false → Cannot) → (Cannot → a ≡ false) → number_of (tested a b).answer ≡ n
       ↔ GivenWhen 1 Cannot n (GivenWhen 16 (b ≡ false) n (n ≡ 0))
@@ -207,5 +216,5 @@ pub opens-exactly : (o : Opening) → ExactOpen o
 opens-exactly o = record {
   given-when = open-given o;
   done-leaves = λ e. open-view o.rows o.versions o.buckets o.lists o.sizes o.clock (open_done o e) o.clock-in;
-  refused-leaves = λ d. refused-open o.rows o.versions o.buckets o.lists o.sizes o.clock (open_number o) (refused-is _ d);
+  refused-leaves = λ d. refused-open o.rows o.versions o.buckets o.lists o.sizes o.clock (refused-is _ d).why (refused-is _ d).is;
 }

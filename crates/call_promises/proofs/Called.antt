@@ -16,7 +16,7 @@ use Rattle.base_numbers.proofs.Laws.{one_up}
 use Rattle.model.specs.Store as model
 use Rattle.model.specs.Store.{rank, phase_installed, phase_ended}
 use Rattle.model.specs.Steps.{release, freed}
-use Rattle.model.specs.Refusals.{refusal_number, WrongPhase, refusal}
+use Rattle.model.specs.Refusals.{WrongPhase, refusal}
 use Rattle.model.specs.Machine.{gives, lent_after, accepted, after_refusal, carried}
 use Rattle.model.specs.Machine as machine
 use Rattle.model.specs.Shape.{right_shape}
@@ -24,7 +24,7 @@ use Rattle.base_protocol.specs.declared.Step.{Step}
 use Rattle.base_protocol.specs.declared.Step.TheVariants as ask
 use Rattle.base_protocol.specs.declared.Answer.{Answer}
 use Rattle.base_protocol.specs.declared.Answer.TheVariants as tell
-use Rattle.base_protocol.specs.View.{asked, told, sizes_view}
+use Rattle.base_protocol.specs.View.{asked, told, sizes_view, refusal_told}
 use Rattle.table.specs.Words.{field}
 use Rattle.table.specs.Fields.{row_words, bucket_words, clear_holders, clear_claims, release_every, unclaim_every}
 use Rattle.txn.specs.View.{phase_view, rows_part, versions_part, buckets_part, chains_view, index_view, held_view}
@@ -130,7 +130,7 @@ module _ (w : Words) (z : Sized w) (g : Shaped w) (n : ℕ) where
       → SameAt w (standing w n)
       (swept_moved w.sizes (txn_at w (standing w n)).number
       (in_aborted
-      (cond b (record { reply = refused_of (txn_at w (standing w n)) (refusal_number WrongPhase); rows = w.tables.rows; buckets = w.tables.buckets })
+      (cond b (record { reply = refused_of (txn_at w (standing w n)) (refusal_told WrongPhase); rows = w.tables.rows; buckets = w.tables.buckets })
       (record {
         reply = record { answer = tell.Done; txn = idle_of (txn_at w (standing w n)).slot };
         rows = clear_claims w.tables.rows (txn_at w (standing w n)).number (written_by w.tables.lists (txn_at w (standing w n)));
@@ -139,7 +139,7 @@ module _ (w : Words) (z : Sized w) (g : Shaped w) (n : ℕ) where
       w.clock w.used w.tables))
       (carried (view w) (asked (ask.Abort n)) (cond b (some WrongPhase) none))
   unfolding carried accepted after_refusal
-  aborted-at l a true = rw (number-unswept w (standing w n) (tell.Refused (refusal_number WrongPhase))) (refused-same w z (standing w n) WrongPhase)
+  aborted-at l a true = rw (number-unswept w (standing w n) (tell.Refused (refusal_told WrongPhase))) (refused-same w z (standing w n) WrongPhase)
   aborted-at l a false =
       let q = standing w n in
       let v = (txn_at w q).number in
@@ -167,7 +167,7 @@ module _ (w : Words) (z : Sized w) (g : Shaped w) (n : ℕ) where
       (swept_moved w.sizes (txn_at w (standing w n)).number
       (in_published
       (published_from
-      (cond b (record { reply = refused_of (txn_at w (standing w n)) (refusal_number WrongPhase); rows = w.tables.rows; buckets = w.tables.buckets })
+      (cond b (record { reply = refused_of (txn_at w (standing w n)) (refusal_told WrongPhase); rows = w.tables.rows; buckets = w.tables.buckets })
       (record {
         reply = record { answer = tell.Stamp w.clock; txn = idle_of (txn_at w (standing w n)).slot };
         rows = rows_after w (standing w n);
@@ -177,7 +177,7 @@ module _ (w : Words) (z : Sized w) (g : Shaped w) (n : ℕ) where
       w.tables))
       (carried (view w) (asked (ask.Publish n)) (cond b (some WrongPhase) none))
   unfolding carried accepted after_refusal
-  published-at l a true e = rw (number-unswept w (standing w n) (tell.Refused (refusal_number WrongPhase))) (refused-same w z (standing w n) WrongPhase)
+  published-at l a true e = rw (number-unswept w (standing w n) (tell.Refused (refusal_told WrongPhase))) (refused-same w z (standing w n) WrongPhase)
   published-at l a false e =
       let q = standing w n in
       swept_at w z q l a _ _ (tell.Stamp w.clock) (machine.Stamp w.clock) (one_more w.clock) (suc w.clock) _ _ _

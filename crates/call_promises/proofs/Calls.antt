@@ -8,11 +8,13 @@ use native.Mathlib.Omega.{arith}
 use lib.Dec.{eqb, leb}
 use lib.ListN.{length, get_or}
 use borrow.Author.Tests.{eq-eqb, le-leb, eqb-true, leb-true}
+use Rattle.std.specs.Prelude.{Option, Some, None}
 use Rattle.base_limits.specs.Limits.{most_live, most_active, most_index_reads, most_writes, most_records, most_rows}
 use Rattle.base_lists.proofs.ListLaws.{and_l, and_r, every-each, pick_same}
 use Rattle.model.specs.Store.{Store}
 use Rattle.model.specs.Shape.{right_shape}
-use Rattle.model.specs.Refusals.{Step as Asked, WrongShape, refusal_number}
+use Rattle.model.specs.Refusals.{Step as Asked, WrongShape}
+use Rattle.base_protocol.specs.View.{refusal_told}
 use Rattle.model.specs.Machine as machine
 use Rattle.model.specs.Machine.{gives, step, step_in, run}
 use Rattle.model.proofs.Good.{Good, good-run, right-shape}
@@ -23,8 +25,6 @@ use Rattle.base_protocol.specs.declared.Extent.{Extent}
 use Rattle.table.specs.Fields.{row_words, version_words, bucket_words}
 use Rattle.table.specs.Lists.{lists_words}
 use Rattle.table_scans.specs.Scans.{latest_pending}
-use Rattle.table_scans.specs.declared.Found.{Found}
-use Rattle.table_scans.specs.declared.Found.TheVariants.{At, Nothing}
 use Rattle.txn.specs.Methods.{idle_of}
 use Rattle.txn.specs.declared.Transaction.{Transaction}
 use Rattle.shape_txn.specs.TxnShape.{counts_fit}
@@ -57,9 +57,9 @@ module _ (rows versions lists : List ℕ) (e : Extent) (t : Transaction) (a b : 
   unfolding match_of
   match-any-room r = by (latest_pending lists t.slot t.writes_n r)
     where
-      by : (f : Found) → match_by less r f ≡ match_by more r f
-      by (At i) = refl
-      by Nothing = refl
+      by : (f : Option ℕ) → match_by less r f ≡ match_by more r f
+      by (Some i) = refl
+      by None = refl
 
   rows-any-room : (n : ℕ) → matched_rows less n ≡ matched_rows more n
   unfolding matched_rows
@@ -213,7 +213,7 @@ module _ (w : Words) (c : Call) where
   abbrev cut : Step
   cut = room_within (length c.lent) c.asks
 
-  called-wrong : shape_of w ≡ false → called w c ≡ record { answer = tell.Refused (refusal_number WrongShape); words = lent }
+  called-wrong : shape_of w ≡ false → called w c ≡ record { answer = tell.Refused (refusal_told WrongShape); words = lent }
   unfolding call_of
   called-wrong e = rw (lent-shape w c.lent, e)
 

@@ -12,22 +12,22 @@ use lib.Dec.{eqb, ltb, leb}
 use lib.ListN.{length, replicate, get_or-eq_default}
 use lib.Seq.{set-get_or}
 use borrow.Author.Tests.{eqb-true, eqb-false, ltb-false, not-false}
+use Rattle.std.specs.Prelude.{Option, Some, None}
 use Rattle.base_limits.specs.Limits.{most_writes, most_records}
 use Rattle.base_lists.proofs.ListLaws.{or_l, or_r}
 use Rattle.model.specs.Store.{rank, phase_open, phase_holding, phase_collected, phase_prepared, phase_installed, phase_ended}
 use Rattle.model.specs.Machine.{can_open}
 use Rattle.base_protocol.specs.declared.Step.{Step}
 use Rattle.base_protocol.specs.declared.Step.TheVariants as ask
+use Rattle.base_protocol.specs.declared.Refusal.{Refusal}
 use Rattle.base_protocol.specs.declared.Answer.{Answer}
 use Rattle.base_protocol.specs.declared.Answer.TheVariants as tell
 use Rattle.base_protocol.specs.declared.Sizes.{Sizes}
-use Rattle.base_protocol.specs.View.{sizes_view}
+use Rattle.base_protocol.specs.View.{sizes_view, number_told}
 use Rattle.table.specs.Fields.{stamp_of, holder_of}
 use Rattle.table.specs.declared.lists.Write.{Write}
 use Rattle.table.specs.declared.lists.ReadRecord.{ReadRecord}
 use Rattle.table_scans.specs.Scans.{read_prefix}
-use Rattle.table_scans.specs.declared.Found.{Found}
-use Rattle.table_scans.specs.declared.Found.TheVariants.{At, Nothing}
 use Rattle.table_buckets.specs.Buckets.{precedes}
 use Rattle.txn.specs.View.{phase_view}
 use Rattle.txn.specs.Methods.{idle_of, with_mark, taken_by, too_many, hold_of, capture_at, collect_of, write_of}
@@ -56,8 +56,8 @@ guard : {P : Type 0} (test : Bool) → (test ≡ true → P) → (test ≡ false
 guard true p q = p refl
 guard false p q = q refl
 
--- where an answer is a refusal, this holds of its number; else that
-abbrev Outcome : Answer → (ℕ → Type 0) → Type 0 → Type 0
+-- where an answer is a refusal, this holds of it; else that
+abbrev Outcome : Answer → (Refusal → Type 0) → Type 0 → Type 0
 Outcome (tell.Refused n) P Q = P n
 Outcome tell.Done P Q = Q
 Outcome (tell.Number n) P Q = Q
@@ -66,7 +66,7 @@ Outcome (tell.Count n) P Q = Q
 Outcome (tell.Rows n) P Q = Q
 Outcome (tell.Judged v) P Q = Q
 
-outcome : {X : Type 0} (a : Answer) (P : ℕ → Type 0) (Q : Type 0) → ((n : ℕ) → P n → X) → (Q → X) → Outcome a P Q → X
+outcome : {X : Type 0} (a : Answer) (P : Refusal → Type 0) (Q : Type 0) → ((n : Refusal) → P n → X) → (Q → X) → Outcome a P Q → X
 outcome (tell.Refused n) P Q p q h = p n h
 outcome tell.Done P Q p q h = q h
 outcome (tell.Number n) P Q p q h = q h
@@ -103,10 +103,10 @@ abbrev wrong_phase : Transaction → ℕ → Bool
 wrong_phase t n = not (eqb (rank (phase_view t.phase)) n)
 
 -- a capture keeps its record's number
-hold-number : (t : Transaction) (lists : List ℕ) (f : Found) (i k stamp : ℕ) → (hold_of t lists f i k stamp).txn.number ≡ t.number
+hold-number : (t : Transaction) (lists : List ℕ) (f : Option ℕ) (i k stamp : ℕ) → (hold_of t lists f i k stamp).txn.number ≡ t.number
 unfolding hold_of
-hold-number t lists (At j) i k stamp = refl
-hold-number t lists Nothing i k stamp = refl
+hold-number t lists (Some j) i k stamp = refl
+hold-number t lists None i k stamp = refl
 
 module _ (b : Tables) (p : Place) where
   abbrev z : Sizes
@@ -122,21 +122,21 @@ module _ (b : Tables) (p : Place) where
   t = p.txn
 
   -- all as found, beside the answer and the record that goes back
-  abbrev refused_with : Transaction → ℕ → Moved
+  abbrev refused_with : Transaction → Refusal → Moved
   refused_with u n = stays (record { answer = tell.Refused n; txn = u; clock = clock; used = used }) b
 
   -- a capture that finds a stale stamp
-  record Stale (s : Step) (n : ℕ) (m : Moved) : Type 0 where
+  record Stale (s : Step) (n : Refusal) (m : Moved) : Type 0 where
     key : ℕ
     captures : s ≡ ask.Capture t.number key
     live : t.number ≢ 0
-    refusal : n ≡ 8
+    refusal : number_told n ≡ 8
     unmarked : t.marked ≡ false
     stale : precedes (stamp_of b.buckets (key % z.buckets)) t.number ≡ false
     moved : m ≡ refused_with (with_mark t) n
 
   -- with this refusal: as found, or marked
-  abbrev Refuses : Step → ℕ → Moved → Type 0
+  abbrev Refuses : Step → Refusal → Moved → Type 0
   Refuses s n m = (m ≡ refused_with t n) ⊎ Stale s n m
 
   -- a step that does not refuse keeps its record's number; begin takes a free place; publish and abort end the record
@@ -264,12 +264,12 @@ module _ (b : Tables) (p : Place) where
   unfolding step_of
   step_kept s = guard (misses_of t.number s) (λ e. rw e (inl refl)) (λ e. rw e (done-kept s e))
 
-  step-refused : (s : Step) (n : ℕ) → (step_of b p s).stepped.answer ≡ tell.Refused n → Refuses s n (step_of b p s)
+  step-refused : (s : Step) (n : Refusal) → (step_of b p s).stepped.answer ≡ tell.Refused n → Refuses s n (step_of b p s)
   step-refused s n e = subst (λ (a : Answer). Outcome a (λ n. Refuses s n (step_of b p s)) (Stays s (step_of b p s))) e
       (step_kept s)
 
   -- a refused step ends no record, and neither does any but publish and abort
-  refused-stays : (s : Step) (n : ℕ) (m : Moved) → Refuses s n m → has_ended t.number m.stepped.txn.number ≡ false
+  refused-stays : (s : Step) (n : Refusal) (m : Moved) → Refuses s n m → has_ended t.number m.stepped.txn.number ≡ false
   refused-stays s n m (inl e) = rw e (still-there t.number)
   refused-stays s n m (inr c) = rw c.moved (still-there t.number)
 
@@ -305,7 +305,7 @@ module _ (w : Words) (s : Step) where
   unfolding moved_by
   called-stays d = unswept (step_stays w.tables (beside w (asker w s)) s d)
 
-module _ (w : Words) (s : Step) (n : ℕ) where
+module _ (w : Words) (s : Step) (n : Refusal) where
   -- what a step leaves, with its record at its place
   abbrev placed : Moved → Words
   placed m = after w (place_for w.txns s) m
@@ -324,7 +324,7 @@ module _ (w : Words) (s : Step) (n : ℕ) where
       (refused-stays w.tables (beside w (asker w s)) s n _
       (step-refused w.tables (beside w (asker w s)) s n e))
 
-  moved-words : (moved_by w s).stepped.answer ≡ tell.Refused n → (words_after w s ≡ w) ⊎ Marks w s (words_after w s) n
+  moved-words : (moved_by w s).stepped.answer ≡ tell.Refused n → (words_after w s ≡ w) ⊎ Marks w s (words_after w s) (number_told n)
   unfolding moved_by
   moved-words e =
       ⊎_elim
@@ -341,16 +341,17 @@ module _ (w : Words) (s : Step) (n : ℕ) where
       }))
       (step-refused w.tables (beside w (asker w s)) s n e)
 
-  called-words : (moved_by w s).stepped.answer ≡ tell.Refused n → (words_called w s ≡ w) ⊎ Marks w s (words_called w s) n
-  called-words e = subst (λ (m : Moved). (placed m ≡ w) ⊎ Marks w s (placed m) n) (sym (called-refused e)) (moved-words e)
+  called-words : (moved_by w s).stepped.answer ≡ tell.Refused n → (words_called w s ≡ w) ⊎ Marks w s (words_called w s) (number_told n)
+  called-words e = subst (λ (m : Moved). (placed m ≡ w) ⊎ Marks w s (placed m) (number_told n)) (sym (called-refused e)) (moved-words e)
 
   -- a refused call leaves every word as found; a stale stamp alone marks the transaction that asked
-  pub refused-words : (call_of w s).answer ≡ tell.Refused n → ((call_of w s).words ≡ w) ⊎ Marks w s (call_of w s).words n
+  pub refused-words : (call_of w s).answer ≡ tell.Refused n → ((call_of w s).words ≡ w) ⊎ Marks w s (call_of w s).words (number_told n)
   unfolding call_of
   refused-words = guard (shape_of w) (λ e. rw e called-words) (λ e. rw e (λ q. inl refl))
 
 -- a refused open leaves every lent table as given, and a closed machine
-pub refused-open : (rows versions buckets lists : List ℕ) (z : Sizes) (clock n : ℕ) → (open_of rows versions buckets lists z clock).answer ≡ tell.Refused n
+pub refused-open : (rows versions buckets lists : List ℕ) (z : Sizes) (clock : ℕ) (n : Refusal)
+    → (open_of rows versions buckets lists z clock).answer ≡ tell.Refused n
     → (open_of rows versions buckets lists z clock).words ≡ words_of rows versions buckets lists [] closed_of
 unfolding open_of
 refused-open rows versions buckets lists z clock n =

@@ -1,13 +1,13 @@
 -- Calls of the public functions, one after the other, the tables handed on as the last call left them; and what a call on any words is.
 use Rattle.std.specs.Prelude.{ℕ, ◌<◌, min, ◌≡◌, true, false, ◌&&◌, List, [], ◌∷◌, map, length}
 use Rattle.base_limits.specs.Limits.{most_live, most_active}
-use Rattle.model.specs.Refusals.{WrongShape, refusal_number, Step as Asked}
+use Rattle.model.specs.Refusals.{WrongShape, Step as Asked}
 use Rattle.model.specs.Shape.{right_shape}
 use Rattle.model.specs.Machine.{lent_after, step}
 use Rattle.base_protocol.specs.declared.Step.{Step}
 use Rattle.base_protocol.specs.declared.Step.TheVariants as ask
 use Rattle.base_protocol.specs.declared.Answer.TheVariants as tell
-use Rattle.base_protocol.specs.View.{asked, told}
+use Rattle.base_protocol.specs.View.{asked, told, refusal_told}
 use Rattle.step.specs.Words.{Words, view, txn_at}
 use Rattle.shape.specs.Shape.{tables_fit, shape_of}
 use Rattle.call.specs.Calls.{Left, call_of}
@@ -72,7 +72,7 @@ pub record CalledAs (w : Words) (c : Call) : Type 0 where
 -- a call on any words: the model's step where the tables and the records fit; 16, and all words as found, where the shape is wrong
 pub record AnyCall (w : Words) (c : Call) : Type 0 where
   pub fitting : tables_fit w ≡ true → CalledAs w c
-  pub wrong : shape_of w ≡ false → called w c ≡ record { answer = tell.Refused (refusal_number WrongShape); words = lending w c.lent }
+  pub wrong : shape_of w ≡ false → called w c ≡ record { answer = tell.Refused (refusal_told WrongShape); words = lending w c.lent }
   -- the shape is the model's, with what only the words can get wrong
   pub shape : shape_of w ≡ (tables_fit w && right_shape (view w))
   pub typed : Typed (called w c).words

@@ -1,294 +1,183 @@
-// The store for a program that holds it: open, a function for each step, and all that they need. Each step tests the shape first and answers 16 where it is
-// wrong.
+// The store for a program that holds it: open, and a method for each step. Each step tests the shape first, and answers 16 where it is wrong.
 #![tactic(auto)]
 
 ghost use Rattle.std.specs.Prelude.{◌≡◌, [], length};
 ghost use Rattle.base_protocol.specs.declared.Step.TheVariants as ask;
-ghost use Rattle.shape.specs.Shape.{words_of};
-ghost use Rattle.call.specs.Calls.{left, call_of};
+ghost use Rattle.call.specs.Calls.{call_of, open_of};
+ghost use Rattle.toruxeng.specs.Stores.{words_in, told, SameTables};
 
 pub use base_limits::{MOST_BUCKETS, MOST_LIVE, MOST_ROWS, MOST_VERSIONS};
-pub use base_protocol::{Answer, Sizes, Step, Verdict};
-pub use call::{Called, call, call_without_list, open};
+pub use base_protocol::{Answer, Refusal, Sizes, Step, Verdict};
+pub use call::{Called, call, call_without_list, closed, open};
 pub use shape::Machine;
 pub use table::lists::SLOT_WORDS;
 pub use table::{BUCKET_WORDS, ROW_WORDS, VERSION_WORDS};
 
-// Begin: a new transaction.
-pub fn begin(
-    rows: &mut [u64],
-    versions: &mut [u64],
-    buckets: &mut [u64],
-    lists: &mut [u64],
-    m: Machine,
-) -> Called
-    ensures { left result rows.new versions.new buckets.new lists.new []
-        ≡ call_of (words_of rows.old versions.old buckets.old lists.old [] m) ask.Begin }
-{
-    call_without_list(rows, versions, buckets, lists, m, Step::Begin)
+// A store: the tables that are lent to it, and its machine. It is made with a closed machine, and then opened.
+// Stays with `SameTables` in each contract below: it relates the store before a step and after it, which no invariant of the type can say.
+#[derive(Drop)]
+pub struct Store<'a> {
+    pub rows: &'a mut [u64],
+    pub versions: &'a mut [u64],
+    pub buckets: &'a mut [u64],
+    pub lists: &'a mut [u64],
+    pub machine: Machine,
 }
 
-// Capture: takes the key's bucket.
-pub fn capture(
-    rows: &mut [u64],
-    versions: &mut [u64],
-    buckets: &mut [u64],
-    lists: &mut [u64],
-    m: Machine,
-    number: u64,
-    key: u64,
-) -> Called
-    ensures { left result rows.new versions.new buckets.new lists.new []
-        ≡ call_of (words_of rows.old versions.old buckets.old lists.old [] m) (ask.Capture number key) }
-{
-    call_without_list(
-        rows,
-        versions,
-        buckets,
-        lists,
-        m,
-        Step::Capture {
-            number: number,
-            key: key,
-        },
-    )
-}
+impl Store<'_> {
+    // Open: a fresh store in the lent tables. A refused one leaves the tables as found and the machine closed, so that every step gets 16.
+    pub fn open(&mut self, sizes: Sizes, clock: u64) -> Answer
+        ensures tables { SameTables self.old self.new }
+        ensures words { told result self.new []
+            ≡ open_of self.old.rows.now self.old.versions.now self.old.buckets.now self.old.lists.now sizes clock }
+    {
+        let lists = &mut *self.lists;
+        let opened = open(self.rows, self.versions, self.buckets, lists, sizes, clock);
+        self.answered(opened)
+    }
 
-// Collect: keeps the rows posted with the key.
-pub fn collect(
-    rows: &mut [u64],
-    versions: &mut [u64],
-    buckets: &mut [u64],
-    lists: &mut [u64],
-    m: Machine,
-    number: u64,
-) -> Called
-    ensures { left result rows.new versions.new buckets.new lists.new []
-        ≡ call_of (words_of rows.old versions.old buckets.old lists.old [] m) (ask.Collect number) }
-{
-    call_without_list(
-        rows,
-        versions,
-        buckets,
-        lists,
-        m,
-        Step::Collect { number: number },
-    )
-}
+    // Any step, with a list lent for the rows that it finds.
+    pub fn call(&mut self, found: &mut [u64], step: Step) -> Answer
+        ensures tables { SameTables self.old self.new }
+        ensures words { told result self.new found.new ≡ call_of (words_in self.old found.old) step }
+    {
+        let called = call(
+            self.rows,
+            self.versions,
+            self.buckets,
+            self.lists,
+            found,
+            self.machine,
+            step,
+        );
+        self.answered(called)
+    }
 
-// Rows: the read itself; the rows found go to the front of the lent list, which is the room.
-pub fn rows(
-    rows: &mut [u64],
-    versions: &mut [u64],
-    buckets: &mut [u64],
-    lists: &mut [u64],
-    found: &mut [u64],
-    m: Machine,
-    number: u64,
-) -> Called
-    ensures { left result rows.new versions.new buckets.new lists.new found.new
-        ≡ call_of (words_of rows.old versions.old buckets.old lists.old found.old m)
-        (ask.Rows number (length found.old)) }
-{
-    let room = found.len() as u64;
-    call(
-        rows,
-        versions,
-        buckets,
-        lists,
-        found,
-        m,
-        Step::Rows {
-            number: number,
-            room: room,
-        },
-    )
-}
+    // A step that finds no rows needs no list for them.
+    pub fn call_without_list(&mut self, step: Step) -> Answer
+        ensures tables { SameTables self.old self.new }
+        ensures words { told result self.new [] ≡ call_of (words_in self.old []) step }
+    {
+        let called = call_without_list(
+            self.rows,
+            self.versions,
+            self.buckets,
+            self.lists,
+            self.machine,
+            step,
+        );
+        self.answered(called)
+    }
 
-// Put: a pending write with a key.
-pub fn put(
-    rows: &mut [u64],
-    versions: &mut [u64],
-    buckets: &mut [u64],
-    lists: &mut [u64],
-    m: Machine,
-    number: u64,
-    row: u64,
-    key: u64,
-    payload: u64,
-) -> Called
-    ensures { left result rows.new versions.new buckets.new lists.new []
-        ≡ call_of (words_of rows.old versions.old buckets.old lists.old [] m) (ask.Put number row key payload) }
-{
-    call_without_list(
-        rows,
-        versions,
-        buckets,
-        lists,
-        m,
-        Step::Put {
-            number: number,
-            row: row,
-            key: key,
-            payload: payload,
-        },
-    )
-}
+    // The machine of a call takes the place of the one before.
+    fn answered(&mut self, called: Called) -> Answer
+        ensures answer { result ≡ called.answer }
+        ensures store { self.new ≡ record self.old { machine = called.machine } }
+    {
+        self.machine = called.machine;
+        called.answer
+    }
 
-// Erase: a pending write with none.
-pub fn erase(
-    rows: &mut [u64],
-    versions: &mut [u64],
-    buckets: &mut [u64],
-    lists: &mut [u64],
-    m: Machine,
-    number: u64,
-    row: u64,
-) -> Called
-    ensures { left result rows.new versions.new buckets.new lists.new []
-        ≡ call_of (words_of rows.old versions.old buckets.old lists.old [] m) (ask.Erase number row) }
-{
-    call_without_list(
-        rows,
-        versions,
-        buckets,
-        lists,
-        m,
-        Step::Erase {
-            number: number,
-            row: row,
-        },
-    )
-}
+    // Begin: a new transaction.
+    // Stays a method for each step, here and below: README.md says so, and each promises its own step (`call_of`).
+    pub fn begin(&mut self) -> Answer
+        ensures tables { SameTables self.old self.new }
+        ensures words { told result self.new [] ≡ call_of (words_in self.old []) ask.Begin }
+    {
+        self.call_without_list(Step::Begin)
+    }
 
-// Validate: the verdict.
-pub fn validate(
-    rows: &mut [u64],
-    versions: &mut [u64],
-    buckets: &mut [u64],
-    lists: &mut [u64],
-    m: Machine,
-    number: u64,
-) -> Called
-    ensures { left result rows.new versions.new buckets.new lists.new []
-        ≡ call_of (words_of rows.old versions.old buckets.old lists.old [] m) (ask.Validate number) }
-{
-    call_without_list(
-        rows,
-        versions,
-        buckets,
-        lists,
-        m,
-        Step::Validate { number: number },
-    )
-}
+    // Capture: takes the key's bucket.
+    pub fn capture(&mut self, number: u64, key: u64) -> Answer
+        ensures tables { SameTables self.old self.new }
+        ensures words { told result self.new [] ≡ call_of (words_in self.old []) (ask.Capture number key) }
+    {
+        self.call_without_list(Step::Capture { number, key })
+    }
 
-// Prepare: takes all that the transaction needs.
-pub fn prepare(
-    rows: &mut [u64],
-    versions: &mut [u64],
-    buckets: &mut [u64],
-    lists: &mut [u64],
-    m: Machine,
-    number: u64,
-) -> Called
-    ensures { left result rows.new versions.new buckets.new lists.new []
-        ≡ call_of (words_of rows.old versions.old buckets.old lists.old [] m) (ask.Prepare number) }
-{
-    call_without_list(
-        rows,
-        versions,
-        buckets,
-        lists,
-        m,
-        Step::Prepare { number: number },
-    )
-}
+    // Collect: keeps the rows posted with the key.
+    pub fn collect(&mut self, number: u64) -> Answer
+        ensures tables { SameTables self.old self.new }
+        ensures words { told result self.new [] ≡ call_of (words_in self.old []) (ask.Collect number) }
+    {
+        self.call_without_list(Step::Collect { number })
+    }
 
-// Install: a new version of each pending row.
-pub fn install(
-    rows: &mut [u64],
-    versions: &mut [u64],
-    buckets: &mut [u64],
-    lists: &mut [u64],
-    m: Machine,
-    number: u64,
-) -> Called
-    ensures { left result rows.new versions.new buckets.new lists.new []
-        ≡ call_of (words_of rows.old versions.old buckets.old lists.old [] m) (ask.Install number) }
-{
-    call_without_list(
-        rows,
-        versions,
-        buckets,
-        lists,
-        m,
-        Step::Install { number: number },
-    )
-}
+    // Rows: the read itself; the rows found go to the front of the lent list, which is the room.
+    pub fn rows(&mut self, found: &mut [u64], number: u64) -> Answer
+        ensures tables { SameTables self.old self.new }
+        ensures words { told result self.new found.new ≡ call_of (words_in self.old found.old) (ask.Rows number (length found.old)) }
+    {
+        let room = found.len() as u64;
+        self.call(found, Step::Rows { number, room })
+    }
 
-// End: the number stops being active.
-pub fn end(
-    rows: &mut [u64],
-    versions: &mut [u64],
-    buckets: &mut [u64],
-    lists: &mut [u64],
-    m: Machine,
-    number: u64,
-) -> Called
-    ensures { left result rows.new versions.new buckets.new lists.new []
-        ≡ call_of (words_of rows.old versions.old buckets.old lists.old [] m) (ask.End number) }
-{
-    call_without_list(
-        rows,
-        versions,
-        buckets,
-        lists,
-        m,
-        Step::End { number: number },
-    )
-}
+    // Put: a pending write with a key.
+    pub fn put(&mut self, number: u64, row: u64, key: u64, payload: u64) -> Answer
+        ensures tables { SameTables self.old self.new }
+        ensures words { told result self.new [] ≡ call_of (words_in self.old []) (ask.Put number row key payload) }
+    {
+        self.call_without_list(Step::Put {
+            number,
+            row,
+            key,
+            payload,
+        })
+    }
 
-// Publish: postings and stamps follow, and the record ends.
-pub fn publish(
-    rows: &mut [u64],
-    versions: &mut [u64],
-    buckets: &mut [u64],
-    lists: &mut [u64],
-    m: Machine,
-    number: u64,
-) -> Called
-    ensures { left result rows.new versions.new buckets.new lists.new []
-        ≡ call_of (words_of rows.old versions.old buckets.old lists.old [] m) (ask.Publish number) }
-{
-    call_without_list(
-        rows,
-        versions,
-        buckets,
-        lists,
-        m,
-        Step::Publish { number: number },
-    )
-}
+    // Erase: a pending write with none.
+    pub fn erase(&mut self, number: u64, row: u64) -> Answer
+        ensures tables { SameTables self.old self.new }
+        ensures words { told result self.new [] ≡ call_of (words_in self.old []) (ask.Erase number row) }
+    {
+        self.call_without_list(Step::Erase { number, row })
+    }
 
-// Abort: all is freed, and the record ends.
-pub fn abort(
-    rows: &mut [u64],
-    versions: &mut [u64],
-    buckets: &mut [u64],
-    lists: &mut [u64],
-    m: Machine,
-    number: u64,
-) -> Called
-    ensures { left result rows.new versions.new buckets.new lists.new []
-        ≡ call_of (words_of rows.old versions.old buckets.old lists.old [] m) (ask.Abort number) }
-{
-    call_without_list(
-        rows,
-        versions,
-        buckets,
-        lists,
-        m,
-        Step::Abort { number: number },
-    )
+    // Validate: the verdict.
+    pub fn validate(&mut self, number: u64) -> Answer
+        ensures tables { SameTables self.old self.new }
+        ensures words { told result self.new [] ≡ call_of (words_in self.old []) (ask.Validate number) }
+    {
+        self.call_without_list(Step::Validate { number })
+    }
+
+    // Prepare: takes all that the transaction needs.
+    pub fn prepare(&mut self, number: u64) -> Answer
+        ensures tables { SameTables self.old self.new }
+        ensures words { told result self.new [] ≡ call_of (words_in self.old []) (ask.Prepare number) }
+    {
+        self.call_without_list(Step::Prepare { number })
+    }
+
+    // Install: a new version of each pending row.
+    pub fn install(&mut self, number: u64) -> Answer
+        ensures tables { SameTables self.old self.new }
+        ensures words { told result self.new [] ≡ call_of (words_in self.old []) (ask.Install number) }
+    {
+        self.call_without_list(Step::Install { number })
+    }
+
+    // End: the number stops being active.
+    pub fn end(&mut self, number: u64) -> Answer
+        ensures tables { SameTables self.old self.new }
+        ensures words { told result self.new [] ≡ call_of (words_in self.old []) (ask.End number) }
+    {
+        self.call_without_list(Step::End { number })
+    }
+
+    // Publish: postings and stamps follow, and the record ends.
+    pub fn publish(&mut self, number: u64) -> Answer
+        ensures tables { SameTables self.old self.new }
+        ensures words { told result self.new [] ≡ call_of (words_in self.old []) (ask.Publish number) }
+    {
+        self.call_without_list(Step::Publish { number })
+    }
+
+    // Abort: all is freed, and the record ends.
+    pub fn abort(&mut self, number: u64) -> Answer
+        ensures tables { SameTables self.old self.new }
+        ensures words { told result self.new [] ≡ call_of (words_in self.old []) (ask.Abort number) }
+    {
+        self.call_without_list(Step::Abort { number })
+    }
 }
