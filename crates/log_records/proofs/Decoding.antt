@@ -4,11 +4,13 @@ use borrow.Author.Tests.{ne_eqb, eq-eqb, lt-leb, le-leb}
 use Prim.Native.Nat.{ℕ, ◌+◌, ◌-◌, ◌≤◌, ◌<◌}
 use mathlib.Core.Path.{◌≡◌, ◌∙◌}
 use mathlib.Core.Bool.{true, false, ◌&&◌, and-false}
+use mathlib.Core.Option.{none}
 use mathlib.Core.List.{List}
 use native.Mathlib.Omega.{arith}
 use lib.Dec.{leb}
 use lib.ListN.{length, take, drop, length-drop}
 use lib.Seq.{drop-drop}
+use Rattle.std.proofs.Common.{Ok}
 use Rattle.model.specs.Log.{number, widths, fits, fields, whole, command_of, read_record}
 use Rattle.log_records.specs.declared.Command.TheVariants.{Open, Ask}
 use Rattle.log_records.specs.Records.{length_of, field_in, command_in, malformed_at, decoded_of}
@@ -69,11 +71,14 @@ module _ (log : List ℕ) (at : ℕ) where
     pub decoded-cut : length log < at + 2 + n → decoded_of log at ≡ malformed_at at
     decoded-cut h = not-whole (whole-at ∙ rw (lt-leb (2 + n) (length log - at) (omega arith), and-false))
 
+    pub decoded-unknown : widths k ≡ none → decoded_of log at ≡ malformed_at at
+    decoded-unknown e = not-whole (whole-at ∙ rw (e, and-false))
+
     pub decoded-unlike : n < 65536 → (n ≡ length_of k → ⊥) → decoded_of log at ≡ malformed_at at
     decoded-unlike s ne = not-whole (whole-at ∙ rw (fits-length k n s, ne_eqb n (length_of k) ne, and-false))
 
     pub decoded-whole : at + 4 ≤ length log → n < 65536 → n ≡ length_of k → at + 2 + n ≤ length log
-        → decoded_of log at ≡ record { command = command_in k (drop (at + 4) log); next = at + 2 + n }
+        → decoded_of log at ≡ record { command = Ok (command_in k (drop (at + 4) log)); next = at + 2 + n }
     unfolding decoded_of read_record command_in field_in
     decoded-whole h s e i =
         let w : whole (drop at log) ≡ true = whole-at

@@ -8,8 +8,13 @@ use mathlib.Core.Option.{Option, none, some}
 use mathlib.Core.List.{List}
 use native.Mathlib.Omega.{arith}
 use lib.Dec.{eqb, leb}
-use Rattle.model.specs.Log.{widths, total, fits}
-use Rattle.log_records.specs.Records.{length_of, length_with}
+use Rattle.model.specs.Log.{widths, total, fits, fields, command_of}
+use Rattle.log_records.specs.Records.{length_of, length_with, command_in, field_in}
+
+-- opens every definition that reads a kind and its fields
+unfoldable pub kinds_computed : Unit {0}
+unfolding length_of command_in field_in widths total fields command_of
+kinds_computed = tt
 
 -- P holds of k, and of the n - 1 numbers after it
 abbrev pub Each : (ℕ → Type 0) → ℕ → ℕ → Type 0
@@ -35,9 +40,9 @@ pub behind : (n k j : ℕ) → NoneOf j k n → k ≤ j → k + n ≤ j
 behind zero k j un h = omega arith
 behind (suc n) k j un h = let more = behind n k j un.0 h in let ne = un.1 in omega (arith, more, ne)
 
-length_above : (kind : ℕ) → 13 < kind → length_of kind ≡ 65536
-unfolding length_of widths
-length_above kind h =
+widths-above : (kind : ℕ) → 13 < kind → widths kind ≡ none
+unfolding widths
+widths-above kind h =
     rw (
       ne_eqb kind 1 (λ e. omega arith),
       ne_eqb kind 2 (λ e. omega arith),
@@ -49,24 +54,21 @@ length_above kind h =
       and-false,
     )
 
-length-zero : length_of 0 ≡ 65536
-unfolding length_of widths
-length-zero = refl
+length-unwide : (kind : ℕ) → widths kind ≡ none → length_of kind ≡ 65536
+unfolding length_of
+length-unwide kind e = rw e
+
+widths-zero : widths 0 ≡ none
+unfolding widths
+widths-zero = refl
+
+length_above : (kind : ℕ) → 13 < kind → length_of kind ≡ 65536
+length_above kind h = length-unwide kind (widths-above kind h)
 
 -- a kind that is none of the thirteen
-pub length-unknown : (kind : ℕ) → NoneOf kind 1 13 → length_of kind ≡ 65536
-length-unknown zero un = length-zero
-length-unknown (suc k) un = length_above (suc k) (behind 13 1 (suc k) un (omega arith))
-
--- kinds that name a transaction: 8 bytes for it
-pub length-named : (kind : ℕ) → 3 ≤ kind → kind ≤ 13 → 10 ≤ length_of kind
-unfolding length_of widths total
-length-named kind h k =
-    let ten : 10 ≤ 10 = omega arith in
-    one_of (λ n. 10 ≤ length_of n) 11 3 kind
-    (omega arith, (ten, (omega arith, (omega arith, (omega arith, (ten, (ten, (ten, (ten, (ten, (ten, tt)))))))))))
-    h
-    (omega arith)
+pub widths-unknown : (kind : ℕ) → NoneOf kind 1 13 → widths kind ≡ none
+widths-unknown zero un = widths-zero
+widths-unknown (suc k) un = widths-above (suc k) (behind 13 1 (suc k) un (omega arith))
 
 above-by : (kind : ℕ) (b : Bool) → leb kind 13 ≡ b → length_of kind < 65536 → kind ≤ 13
 above-by kind true e h = leb-true kind 13 e
@@ -74,7 +76,7 @@ above-by kind false e h = let z = length_above kind (leb-false kind 13 e) in abs
 
 -- a length that two bytes can say is that of a known kind
 pub known_of : (kind : ℕ) → length_of kind < 65536 → (1 ≤ kind) × (kind ≤ 13)
-known_of zero h = let z = length-zero in absurd (omega arith)
+known_of zero h = let z = length-unwide 0 widths-zero in absurd (omega arith)
 known_of (suc k) h = (omega arith, above-by (suc k) (leb (suc k) 13) refl h)
 
 fits_by : (ws : Option (List ℕ)) (n : ℕ) → n < 65536 → fits ws n ≡ eqb n (length_with ws)

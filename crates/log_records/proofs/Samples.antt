@@ -7,7 +7,8 @@ use Prim.Native.Nat.{ℕ}
 use Rattle.model.specs.Refusals.{begin, capture, collect, rows, put, erase, prepare, install, end, publish, validate, abort}
 use Rattle.model.specs.Log.{Command, Opening, Asking, number, widths, total, fields, command_of, whole, read_record}
 use Rattle.base_protocol.specs.declared.Step.TheVariants.{Collect}
-use Rattle.log_records.specs.declared.Command.TheVariants.{Ask, Malformed}
+use Rattle.std.proofs.Common.{Ok, Err}
+use Rattle.log_records.specs.declared.Command.TheVariants.{Ask}
 use Rattle.log_records.specs.Records.{decoded_of}
 
 -- opens every definition that reads a record, so that bytes compute
@@ -146,15 +147,15 @@ reads-no-cut-length = refl
 
 -- a record behind another one, read at its place: the next one begins behind it
 pub reads-at-its-place : decoded_of (2 ∷ 0 ∷ 2 ∷ 0 ∷ 10 ∷ 0 ∷ 4 ∷ 0 ∷ 8 ∷ 7 ∷ 6 ∷ 5 ∷ 4 ∷ 3 ∷ 2 ∷ 1 ∷ 2 ∷ 0 ∷ []) 4
-    ≡ record { command = Ask (Collect 72623859790382856); next = 16 }
+    ≡ record { command = Ok (Ask (Collect 72623859790382856)); next = 16 }
 unfolding computes
 reads-at-its-place = refl
 
 -- a malformed record leaves the place where it was, and so does a place past the end
-pub reads-stuck : decoded_of (2 ∷ 0 ∷ 2 ∷ 0 ∷ 2 ∷ 0 ∷ 14 ∷ 0 ∷ []) 4 ≡ record { command = Malformed; next = 4 }
+pub reads-stuck : decoded_of (2 ∷ 0 ∷ 2 ∷ 0 ∷ 2 ∷ 0 ∷ 14 ∷ 0 ∷ []) 4 ≡ record { command = Err (record {}); next = 4 }
 unfolding computes
 reads-stuck = refl
 
-pub reads-past-the-end : decoded_of (2 ∷ 0 ∷ 2 ∷ 0 ∷ []) 9 ≡ record { command = Malformed; next = 9 }
+pub reads-past-the-end : decoded_of (2 ∷ 0 ∷ 2 ∷ 0 ∷ []) 9 ≡ record { command = Err (record {}); next = 9 }
 unfolding computes
 reads-past-the-end = refl

@@ -1,14 +1,16 @@
 -- A record of the log as the code tells it: the model's `read_record` at a place of the bytes.
-use Rattle.std.specs.Prelude.{ℕ, ◌+◌, List, drop, get_or}
+use Rattle.std.specs.Prelude.{ℕ, ◌+◌, ◌≡◌, Result, Ok, Err, MatchResult, List, drop, get_or}
 use Rattle.std.proofs.Math.Option.{Option, none, some}
 use Rattle.std.specs.Borrow.{Bor}
 use Rattle.base_protocol.specs.declared.Sizes.{Sizes}
 use Rattle.base_protocol.specs.declared.Step.{Step}
 use Rattle.log_records.specs.declared.Command.{Command}
-use Rattle.log_records.specs.declared.Command.TheVariants.{Open, Ask, Malformed}
+use Rattle.log_records.specs.declared.Command.TheVariants.{Open, Ask}
+use Rattle.log_records.specs.declared.Kind.{Kind}
+use Rattle.log_records.specs.declared.Kind.TheVariants as kinds
+use Rattle.log_records.specs.declared.Malformed.{Malformed}
 use Rattle.log_records.specs.declared.Decoded.{Decoded}
 use Rattle.log_records.specs.declared.Reader.{Reader}
-use Rattle.log_records.specs.declared.Taken.{Taken}
 use Rattle.model.specs.Store as store
 use Rattle.model.specs.Refusals as model
 use Rattle.model.specs.Log as bytes
@@ -40,12 +42,12 @@ command_told (bytes.Asking a) = Ask (step_told a)
 
 -- a malformed record leaves the place where it was
 abbrev pub malformed_at : ℕ → Decoded
-malformed_at at = record { command = Malformed; next = at }
+malformed_at at = record { command = Err (record {}); next = at }
 
 -- what is read at a place; the next record begins behind the length and what it counts
 abbrev pub decoded_as : List ℕ → ℕ → Option (bytes.Command × List ℕ) → Decoded
 decoded_as log at none = malformed_at at
-decoded_as log at (some c) = record { command = command_told c.0; next = at + 2 + bytes.length_in (drop at log) }
+decoded_as log at (some c) = record { command = Ok (command_told c.0); next = at + 2 + bytes.length_in (drop at log) }
 
 -- the record at a place of the log
 unfoldable pub decoded_of : List ℕ → ℕ → Decoded
@@ -54,6 +56,11 @@ decoded_of log at = decoded_as log at (bytes.read_record (drop at log))
 -- a reader of these bytes that stands at this place
 abbrev pub reader_at : Bor (List ℕ) → ℕ → Reader
 reader_at log at = record { log = log; at = at }
+
+-- what a reader takes, and the reader then
+pub record Taken : Type 0 where
+  pub command : Result Command Malformed
+  pub reader : Reader
 
 -- what a reader takes: the command of the record at its place, and the reader moved past that record
 abbrev pub taken_by : Reader → Taken
@@ -75,3 +82,23 @@ field_in kind l i = get_or (bytes.fields_of (bytes.widths kind) l) i 0
 -- the command of a kind, from the bytes of its fields
 unfoldable pub command_in : ℕ → List ℕ → Command
 command_in kind l = command_told (bytes.command_of kind (field_in kind l))
+
+-- the number of a kind
+abbrev pub kind_number : Kind → ℕ
+kind_number kinds.Open = 1
+kind_number kinds.Begin = 2
+kind_number kinds.Capture = 3
+kind_number kinds.Collect = 4
+kind_number kinds.Rows = 5
+kind_number kinds.Put = 6
+kind_number kinds.Erase = 7
+kind_number kinds.Prepare = 8
+kind_number kinds.Install = 9
+kind_number kinds.End = 10
+kind_number kinds.Publish = 11
+kind_number kinds.Validate = 12
+kind_number kinds.Abort = 13
+
+-- the kind of a number, or that no kind has it
+abbrev pub KindOf : ℕ → Result Kind Malformed → Type 0
+KindOf number r = MatchResult r (λ kind. kind_number kind ≡ number) (λ _. bytes.widths number ≡ none)

@@ -1,169 +1,159 @@
 // The log: records from bytes, little-endian, each read at a place of the caller's bytes.
 #![tactic(auto)]
 
-ghost use Rattle.std.specs.Prelude.{◌≡◌, ◌+◌, ◌≤◌, ◌<◌, length, take, drop};
+ghost use Rattle.std.specs.Prelude.{◌≡◌, ◌+◌, ◌^◌, ◌≤◌, ◌<◌, length, take, drop};
 ghost use Rattle.model.specs.Log.{number};
-ghost use Rattle.log_records.specs.declared.Command.TheVariants.{Ask};
-ghost use Rattle.log_records.specs.Records.{length_of, command_in, malformed_at, decoded_of, reader_at, taken_by};
+ghost use Rattle.log_records.specs.Records.{length_of, command_in, kind_number, KindOf, decoded_of, reader_at, taken_by};
 
 use base_protocol::{Sizes, Step};
 
-// What a record asks for: a store of these sizes with this clock, or a step of the store; or it cannot be read.
+// What a record asks for: a store of these sizes with this clock, or a step of the store.
 #[derive(Clone, Copy)]
 pub enum Command {
     Open { sizes: Sizes, clock: u64 },
     Ask(Step),
-    Malformed,
 }
 
-// A record's command, and where the next record begins.
+// A record is cut off, of an unknown kind, or not of its kind's length.
 #[derive(Clone, Copy)]
-pub struct Decoded {
-    pub command: Command,
-    pub next: usize,
+pub struct Malformed;
+
+// A record's kind.
+#[derive(Clone, Copy)]
+enum Kind {
+    Open,
+    Begin,
+    Capture,
+    Collect,
+    Rows,
+    Put,
+    Erase,
+    Prepare,
+    Install,
+    End,
+    Publish,
+    Validate,
+    Abort,
 }
 
-// A length that two bytes cannot say.
-const NO_LENGTH: u64 = 65536;
+impl TryFrom<u64> for Kind {
+    type Error = Malformed;
 
-// A byte as a number.
-fn wide(b: u8) -> u64
-    ensures { (result ≡ b) × (result < 256) }
-{
-    b as u64
-}
+    ghost try_from_gives = { KindOf };
 
-// The number of the two bytes from `at` on, the lowest first; and so of four, and of eight.
-fn u16_at(log: &[u8], at: usize) -> u64
-    requires { at + 2 ≤ length log.now }
-    ensures { (result ≡ number (take 2 (drop at log.now))) × (result < 65536) }
-{
-    wide(log[at]) + 256 * wide(log[at + 1])
-}
-
-fn u32_at(log: &[u8], at: usize) -> u64
-    requires { at + 4 ≤ length log.now }
-    ensures { (result ≡ number (take 4 (drop at log.now))) × (result < 4294967296) }
-{
-    u16_at(log, at) + 65536 * u16_at(log, at + 2)
-}
-
-fn u64_at(log: &[u8], at: usize) -> u64
-    requires { at + 8 ≤ length log.now }
-    ensures { result ≡ number (take 8 (drop at log.now)) }
-{
-    u32_at(log, at) + 4294967296 * u32_at(log, at + 4)
-}
-
-// The length that a record of this kind has.
-fn length_of(kind: u64) -> u64
-    ensures { result ≡ length_of kind }
-{
-    match kind {
-        1 => 22,
-        2 => 2,
-        3 => 18,
-        4 => 10,
-        5 => 14,
-        6 => 30,
-        7 => 14,
-        8 => 10,
-        9 => 10,
-        10 => 10,
-        11 => 10,
-        12 => 10,
-        13 => 10,
-        _ => NO_LENGTH,
+    fn try_from(number: u64) -> Result<Self, Malformed> {
+        match number {
+            1 => Ok(Kind::Open),
+            2 => Ok(Kind::Begin),
+            3 => Ok(Kind::Capture),
+            4 => Ok(Kind::Collect),
+            5 => Ok(Kind::Rows),
+            6 => Ok(Kind::Put),
+            7 => Ok(Kind::Erase),
+            8 => Ok(Kind::Prepare),
+            9 => Ok(Kind::Install),
+            10 => Ok(Kind::End),
+            11 => Ok(Kind::Publish),
+            12 => Ok(Kind::Validate),
+            13 => Ok(Kind::Abort),
+            _ => Err(Malformed),
+        }
     }
 }
 
-// The step of a kind that names a transaction; its fields stand from `at` on.
-fn step_at(log: &[u8], kind: u64, at: usize) -> Step
-    requires { (3 ≤ kind) × (kind ≤ 13) × (at + length_of kind ≤ length log.now + 2) }
-    ensures { Ask result ≡ command_in kind (drop at log.now) }
-{
-    let number = u64_at(log, at);
-    match kind {
-        3 => Step::Capture {
-            number: number,
-            key: u64_at(log, at + 8),
-        },
-        4 => Step::Collect { number: number },
-        5 => Step::Rows {
-            number: number,
-            room: u32_at(log, at + 8),
-        },
-        6 => Step::Put {
-            number: number,
-            row: u32_at(log, at + 8),
-            key: u64_at(log, at + 12),
-            payload: u64_at(log, at + 20),
-        },
-        7 => Step::Erase {
-            number: number,
-            row: u32_at(log, at + 8),
-        },
-        8 => Step::Prepare { number: number },
-        9 => Step::Install { number: number },
-        10 => Step::End { number: number },
-        11 => Step::Publish { number: number },
-        12 => Step::Validate { number: number },
-        _ => Step::Abort { number: number },
+impl Kind {
+    // The length that a record of this kind says: what follows it.
+    #[tactic(auto, unfolding(crate::proofs::Known::kinds_computed))]
+    fn length(self) -> usize
+        ensures { result ≡ length_of (kind_number self) }
+    {
+        match self {
+            Kind::Open => 22,
+            Kind::Begin => 2,
+            Kind::Capture => 18,
+            Kind::Collect => 10,
+            Kind::Rows => 14,
+            Kind::Put => 30,
+            Kind::Erase => 14,
+            Kind::Prepare => 10,
+            Kind::Install => 10,
+            Kind::End => 10,
+            Kind::Publish => 10,
+            Kind::Validate => 10,
+            Kind::Abort => 10,
+        }
     }
 }
 
-// The command of a known kind; its fields stand from `at` on.
-fn command_at(log: &[u8], kind: u64, at: usize) -> Command
-    requires { (1 ≤ kind) × (kind ≤ 13) × (at + length_of kind ≤ length log.now + 2) }
-    ensures { result ≡ command_in kind (drop at log.now) }
+// The number of the N bytes from `at` on, the lowest first.
+fn number_at<const N: usize>(log: &[u8], at: usize) -> u64
+    requires few { N ≤ 8 }
+    requires inside { at + N ≤ length log.now }
+    ensures value { result ≡ number (take N (drop at log.now)) }
+    ensures small { result < 256 ^ N }
+{
+    let mut number = 0;
+    for i in (0..N).rev() {
+        number = 256 * number + u64::from(log[at + i]);
+    }
+    number
+}
+
+// The command of a kind; its fields stand from `at` on.
+#[tactic(auto, unfolding(crate::proofs::Known::kinds_computed))]
+fn command_at(log: &[u8], kind: Kind, at: usize) -> Command
+    requires { at + length_of (kind_number kind) ≤ length log.now + 2 }
+    ensures { result ≡ command_in (kind_number kind) (drop at log.now) }
 {
     match kind {
-        1 => Command::Open {
+        Kind::Open => Command::Open {
             sizes: Sizes {
-                rows: u32_at(log, at),
-                versions: u32_at(log, at + 4),
-                buckets: u32_at(log, at + 8),
+                rows: number_at::<4>(log, at),
+                versions: number_at::<4>(log, at + 4),
+                buckets: number_at::<4>(log, at + 8),
             },
-            clock: u64_at(log, at + 12),
+            clock: number_at::<8>(log, at + 12),
         },
-        2 => Command::Ask(Step::Begin),
-        _ => Command::Ask(step_at(log, kind, at)),
-    }
-}
-
-// What is told of a malformed record.
-fn malformed(at: usize) -> Decoded
-    ensures { result ≡ malformed_at at }
-{
-    Decoded {
-        command: Command::Malformed,
-        next: at,
-    }
-}
-
-// The record at a place of the log. One that is malformed leaves the place where it was.
-fn record_at(log: &[u8], at: usize) -> Decoded
-    ensures { result ≡ decoded_of log.now at }
-{
-    let n = log.len();
-    if n < 4 {
-        return malformed(at);
-    }
-    if at > n - 4 {
-        return malformed(at);
-    }
-    let length = u16_at(log, at);
-    let kind = u16_at(log, at + 2);
-    if length != length_of(kind) {
-        return malformed(at);
-    }
-    let size = length as usize;
-    if n - at - 2 < size {
-        return malformed(at);
-    }
-    Decoded {
-        command: command_at(log, kind, at + 4),
-        next: at + 2 + size,
+        Kind::Begin => Command::Ask(Step::Begin),
+        Kind::Capture => Command::Ask(Step::Capture {
+            number: number_at::<8>(log, at),
+            key: number_at::<8>(log, at + 8),
+        }),
+        Kind::Collect => Command::Ask(Step::Collect {
+            number: number_at::<8>(log, at),
+        }),
+        Kind::Rows => Command::Ask(Step::Rows {
+            number: number_at::<8>(log, at),
+            room: number_at::<4>(log, at + 8),
+        }),
+        Kind::Put => Command::Ask(Step::Put {
+            number: number_at::<8>(log, at),
+            row: number_at::<4>(log, at + 8),
+            key: number_at::<8>(log, at + 12),
+            payload: number_at::<8>(log, at + 20),
+        }),
+        Kind::Erase => Command::Ask(Step::Erase {
+            number: number_at::<8>(log, at),
+            row: number_at::<4>(log, at + 8),
+        }),
+        Kind::Prepare => Command::Ask(Step::Prepare {
+            number: number_at::<8>(log, at),
+        }),
+        Kind::Install => Command::Ask(Step::Install {
+            number: number_at::<8>(log, at),
+        }),
+        Kind::End => Command::Ask(Step::End {
+            number: number_at::<8>(log, at),
+        }),
+        Kind::Publish => Command::Ask(Step::Publish {
+            number: number_at::<8>(log, at),
+        }),
+        Kind::Validate => Command::Ask(Step::Validate {
+            number: number_at::<8>(log, at),
+        }),
+        Kind::Abort => Command::Ask(Step::Abort {
+            number: number_at::<8>(log, at),
+        }),
     }
 }
 
@@ -174,13 +164,6 @@ pub struct Reader<'a> {
     pub at: usize,
 }
 
-// What a reader's record asks for, and the reader moved past that record.
-#[derive(Clone, Copy)]
-pub struct Taken<'a> {
-    pub command: Command,
-    pub reader: Reader<'a>,
-}
-
 impl<'a> Reader<'a> {
     // A reader of these bytes that stands at this place.
     pub fn new(log: &'a [u8], at: usize) -> Reader<'a>
@@ -189,28 +172,40 @@ impl<'a> Reader<'a> {
         Reader { log, at }
     }
 
-    // The record at its place: the reader goes in, and comes back moved past it.
-    pub fn next(self) -> Taken<'a>
-        ensures { result ≡ taken_by self.entry }
+    // What the record at its place asks for, and the reader moves past it; a malformed one leaves it where it was.
+    pub fn next(&mut self) -> Result<Command, Malformed>
+        ensures { record { command = result; reader = self.new } ≡ taken_by self.old }
     {
-        let d = record_at(self.log, self.at);
-        Taken {
-            command: d.command,
-            reader: Reader {
-                log: self.log,
-                at: d.next,
-            },
+        let Reader { log, at } = *self;
+        let n = log.len();
+        if n < 4 || at > n - 4 {
+            return Err(Malformed);
         }
+        let length = number_at::<2>(log, at) as usize;
+        let kind = Kind::try_from(number_at::<2>(log, at + 2))?;
+        if length != kind.length() || n - at - 2 < length {
+            return Err(Malformed);
+        }
+        self.at = at + 2 + length;
+        Ok(command_at(log, kind, at + 4))
     }
 }
 
-// The record that a reader takes at a place of the log, and where it stands then.
+// What the record at a place of the log asks for, and where the next one begins; behind a malformed one it is the same place.
+#[derive(Clone, Copy)]
+pub struct Decoded {
+    pub command: Result<Command, Malformed>,
+    pub next: usize,
+}
+
+// What a reader takes at a place of the log, and where it stands then.
 pub fn decode_at(log: &[u8], at: usize) -> Decoded
     ensures { result ≡ decoded_of log.now at }
 {
-    let taken = Reader::new(log, at).next();
+    let mut reader = Reader::new(log, at);
+    let command = reader.next();
     Decoded {
-        command: taken.command,
-        next: taken.reader.at,
+        command,
+        next: reader.at,
     }
 }

@@ -8,18 +8,17 @@ use mathlib.Core.List.{List, []}
 use native.Mathlib.Omega.{arith}
 use lib.ListN.{length, drop}
 use lib.Seq.{take-append_seam, drop-append-add, drop-drop}
-use Rattle.model.specs.Refusals.{NoRoom, Malformed, refusal_number}
+use Rattle.model.specs.Refusals.{NoRoom, refusal_number}
 use Rattle.model.specs.Store.{fresh}
 use Rattle.model.specs.Machine.{can_open}
 use Rattle.model.specs.Replay.{Replayed, malformed, opens, replay}
 use Rattle.base_protocol.specs.declared.Sizes.{Sizes}
 use Rattle.base_protocol.specs.View.{sizes_view}
-use Rattle.log_records.specs.declared.Command.{Command}
-use Rattle.log_records.specs.declared.Command.TheVariants.{Open, Ask, Malformed}
+use Rattle.std.proofs.Common.{Some, None, Ok, Err}
+use Rattle.log_records.specs.declared.Command.TheVariants.{Open, Ask}
 use Rattle.log_records.specs.declared.Decoded.{Decoded}
 use Rattle.log_records.specs.Records.{decoded_of}
-use Rattle.log_records.proofs.Reading.{NoOpen, not-open, Reads, reads, read-malformed, read-open, read-ask}
-use Rattle.report.specs.declared.Wrote.TheVariants.{Next, Full}
+use Rattle.log_records.proofs.Reading.{Told, NoOpen, Reads, reads, read-malformed, read-open, read-ask}
 use Rattle.report.specs.Written.{Written, written_at}
 use Rattle.report.specs.Lines.{bad_line, open_line}
 use Rattle.report.proofs.Reported.{shown, shown-long}
@@ -46,16 +45,16 @@ module _ (log report : List ℕ) where
     there = subst (λ (x : Decoded). Reads log 0 x) (sym ed) (reads log 0)
 
     -- malformed, or a step
-    bad-by : (c : Command) → d.command ≡ c → NoOpen c → replay log (length report) ≡ malformed (room_in report) []
+    bad-by : (c : Told) → d.command ≡ c → NoOpen c → replay log (length report) ≡ malformed (room_in report) []
     unfolding replay
-    bad-by (Open z clock) e other = absurd (not-open z clock other)
-    bad-by (Ask s) e other = replay-reads (room_in report) log 0 none [] _ h (read-ask there s e)
-    bad-by Malformed e other = replay-reads (room_in report) log 0 none [] _ h (read-malformed there e)
+    bad-by (Ok (Open z clock)) e other = absurd (other z clock refl)
+    bad-by (Ok (Ask s)) e other = replay-reads (room_in report) log 0 none [] _ h (read-ask there s e)
+    bad-by (Err m) e other = replay-reads (room_in report) log 0 none [] _ h (read-malformed there m e)
 
     pub left-malformed : NoOpen d.command → (l : Left) → l ≡ malformed_at report 0 → Leaves l.stopped l.report (replay log (length report)) report
     left-malformed other l e = rw (bad-by d.command refl other) (last_line report [] bad_line (omega arith) 15 (omega arith) l e)
 
-    module _ {z : Sizes} {clock : ℕ} (is : d.command ≡ Open z clock) where
+    module _ {z : Sizes} {clock : ℕ} (is : d.command ≡ Ok (Open z clock)) where
       opening : replay log (length report) ≡ opens (room_in report) [] (sizes_view z) clock (onward (room_in report) (drop d.next log))
       unfolding replay
       opening = replay-reads (room_in report) log 0 none [] _ h (read-open there z clock is)
@@ -69,15 +68,15 @@ module _ (log report : List ℕ) where
         abbrev behind : List ℕ → Replayed
         behind = onward (room_in report) (drop d.next log) (fresh (sizes_view z) clock)
 
-        pub left-full : line.wrote ≡ Full → Leaves (record { status = refusal_number NoRoom; wrote = 0 }) line.report (replay log (length report)) report
+        pub left-full : line.wrote ≡ None → Leaves (record { status = refusal_number NoRoom; wrote = 0 }) line.report (replay log (length report)) report
         left-full w =
             let f = line-off report [] (open_line 0) (omega arith) line el w in
             rw (opening, q, goes-full (room_in report) [] (open_line 0) behind f.full, f.report) (refl, omega arith, omega arith)
 
-        pub too_long : line.wrote ≡ Full → room_in report < length (open_line 0)
+        pub too_long : line.wrote ≡ None → room_in report < length (open_line 0)
         too_long w = omega (arith, (line-off report [] (open_line 0) (omega arith) line el w).full)
 
-        module _ {end : ℕ} (w : line.wrote ≡ Next end) where
+        module _ {end : ℕ} (w : line.wrote ≡ Some end) where
           nothing : length {A = ℕ} [] ≤ room_in report
           nothing = omega arith
 

@@ -8,7 +8,7 @@ use native.Mathlib.Omega.{arith}
 use lib.ListN.{length, drop, length-append}
 use lib.Seq.{get_or-set_same}
 use Rattle.base_limits.specs.Limits.{most_rows, most_live}
-use Rattle.model.specs.Refusals.{NoRoom, Malformed, refusal_number}
+use Rattle.model.specs.Refusals.{NoRoom, refusal_number}
 use Rattle.model.specs.Store.{Store}
 use Rattle.model.specs.Machine as machine
 use Rattle.model.specs.Machine.{step, step_in}
@@ -24,12 +24,11 @@ use Rattle.step_bridge.proofs.Placed.{after}
 use Rattle.step_bridge.proofs.Same.{Same}
 use Rattle.step_bridge.proofs.Stepping.{step_same}
 use Rattle.step_bridge.proofs.Running.{Stands, step-stands, step-view}
-use Rattle.log_records.specs.declared.Command.{Command}
-use Rattle.log_records.specs.declared.Command.TheVariants.{Open, Ask, Malformed}
+use Rattle.std.proofs.Common.{Some, None, Ok, Err}
+use Rattle.log_records.specs.declared.Command.TheVariants.{Open, Ask}
 use Rattle.log_records.specs.declared.Decoded.{Decoded}
 use Rattle.log_records.specs.Records.{decoded_of}
-use Rattle.log_records.proofs.Reading.{NoStep, not_step, Reads, reads, read-malformed, read-open, read-ask, read-on}
-use Rattle.report.specs.declared.Wrote.TheVariants.{Next, Full}
+use Rattle.log_records.proofs.Reading.{Told, NoStep, Reads, reads, read-malformed, read-open, read-ask, read-on}
 use Rattle.report.specs.Written.{Written, written_at}
 use Rattle.report.specs.Lines.{bad_line, line_for}
 use Rattle.report.proofs.Reported.{shown}
@@ -66,10 +65,10 @@ module _ {log old : List ℕ} {m : Replayed} {final : Words} {at wrote : ℕ} {r
     there = subst (λ (x : Decoded). Reads log at x) (sym ed) (reads log at)
 
     -- a malformed record, or a second open
-    bad-by : (c : Command) → d.command ≡ c → NoStep c → m ≡ malformed (room_in old) g.text
-    bad-by (Open z clock) e other = g.rest ∙ replay-reads (room_in old) log at (some (view w)) g.text _ h (read-open there z clock e)
-    bad-by (Ask s) e other = absurd (not_step s other)
-    bad-by Malformed e other = g.rest ∙ replay-reads (room_in old) log at (some (view w)) g.text _ h (read-malformed there e)
+    bad-by : (c : Told) → d.command ≡ c → NoStep c → m ≡ malformed (room_in old) g.text
+    bad-by (Ok (Open z clock)) e other = g.rest ∙ replay-reads (room_in old) log at (some (view w)) g.text _ h (read-open there z clock e)
+    bad-by (Ok (Ask s)) e other = absurd (other s refl)
+    bad-by (Err m) e other = g.rest ∙ replay-reads (room_in old) log at (some (view w)) g.text _ h (read-malformed there m e)
 
     pub stops-malformed : NoStep d.command → (l : Left) → l ≡ malformed_at report wrote → Leaves l.stopped l.report m old
     stops-malformed other l e =
@@ -79,10 +78,10 @@ module _ {log old : List ℕ} {m : Replayed} {final : Words} {at wrote : ℕ} {r
     pub stops-words : NoStep d.command → w ≡ final
     stops-words other = sym (g.words ∙ words-none (room_in old) log g.more at wrote w (subst (λ (x : Decoded). NoStep x.command) ed other))
 
-    module _ {s : Step} (asks : d.command ≡ Ask s) where
+    module _ {s : Step} (asks : d.command ≡ Ok (Ask s)) where
       -- the next record is further on
       pub further : at < d.next
-      further = (read-on there (λ e. let z : ◌≡◌ {A = Command} (Ask s) Malformed = sym asks ∙ e in let n : ◌≡◌ {A = ℕ} 0 1 = cc in absurd (omega arith))).0
+      further = (read-on there (Ask s) asks).0
 
       module _ (room : most_rows ≤ length w.tables.found) where
         same : Same w s
@@ -122,18 +121,18 @@ module _ {log old : List ℕ} {m : Replayed} {final : Words} {at wrote : ℕ} {r
           lined = rw (← g.laid, ← g.long, ← em) el
 
           -- the line does not fit
-          pub stops-full : line.wrote ≡ Full → Leaves (record { status = refusal_number NoRoom; wrote = wrote }) line.report m old
+          pub stops-full : line.wrote ≡ None → Leaves (record { status = refusal_number NoRoom; wrote = wrote }) line.report m old
           stops-full q =
               let f = line-off old g.text line_is g.fits line lined q in
               rw (written_then, goes-full (room_in old) g.text line_is goes_to f.full, f.report, g.long) (refl, omega arith, omega (arith, g.fits))
 
-          pub full-words : line.wrote ≡ Full → {k : ℕ} → k ≡ place_for w.txns s → after w k mv ≡ final
+          pub full-words : line.wrote ≡ None → {k : ℕ} → k ≡ place_for w.txns s → after w k mv ≡ final
           full-words q ek =
               let f = line-off old g.text line_is g.fits line lined q in
               rw (ek, em) (sym (g.words ∙ words-full (room_in old) log g.more at wrote w h g.enough s (rw (← ed) asks) (rw g.long f.full)))
 
           -- on, with the words that the step leaves
-          pub goes : {k : ℕ} → k ≡ place_for w.txns s → (end : ℕ) → line.wrote ≡ Next end → Going log old m final d.next end line.report (after w k mv)
+          pub goes : {k : ℕ} → k ≡ place_for w.txns s → (end : ℕ) → line.wrote ≡ Some end → Going log old m final d.next end line.report (after w k mv)
           goes ek end q =
               let f = line_on old g.text line_is g.fits line lined end q in
               rw (ek, em) (record {

@@ -2,7 +2,7 @@
 -- Assumes nothing.
 use borrow.Author.Tests.{leb-true, le-leb}
 use Prim.Native.Nat.{ℕ, suc, ◌*◌, ◌≤◌}
-use mathlib.Core.Path.{◌≡◌, refl, ap, ◌∙◌}
+use mathlib.Core.Path.{◌≡◌, refl}
 use mathlib.Core.Bool.{Bool, true, false, not, ◌&&◌}
 use mathlib.Core.Option.{Option, none, some}
 use mathlib.Core.List.{List}
@@ -15,7 +15,7 @@ use Rattle.model.specs.Store.{Sizes}
 use Rattle.model.specs.Log.{Command, Opening, Asking, read_record}
 use Rattle.model.specs.Shape.{within, good_sizes}
 use Rattle.model.specs.Machine.{can_open}
-use Rattle.model.specs.Replay.{opens_too_short, replay, replay_lent}
+use Rattle.model.specs.Replay.{opens_too_short, replay}
 use Rattle.table.specs.Fields.{row_words, version_words, bucket_words}
 use Rattle.table.specs.Lists.{lists_words}
 use Rattle.replay.specs.Lent.{Lent, long_enough, replayed_in}

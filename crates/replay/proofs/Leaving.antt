@@ -2,7 +2,7 @@
 -- Assumes nothing.
 use borrow.Author.Tests.{lt-ltb, le-ltb, le-leb, lt-leb}
 use Prim.Native.Nat.{ℕ, zero, suc, ◌+◌, ◌-◌, ◌<◌, ◌≤◌}
-use mathlib.Core.Path.{◌≡◌, refl, ◌∙◌}
+use mathlib.Core.Path.{◌≡◌, refl}
 use mathlib.Core.Bool.{Bool, true, false, cond}
 use mathlib.Core.List.{List}
 use native.Mathlib.Omega.{arith}
@@ -10,17 +10,17 @@ use lib.Dec.{leb, ltb}
 use lib.ListN.{length}
 use Rattle.base_protocol.specs.declared.Step.{Step}
 use Rattle.step.specs.Words.{Words, words_after}
-use Rattle.log_records.specs.declared.Command.{Command}
-use Rattle.log_records.specs.declared.Command.TheVariants.{Open, Ask, Malformed}
+use Rattle.std.proofs.Common.{Ok, Err}
+use Rattle.log_records.specs.declared.Command.TheVariants.{Open, Ask}
 use Rattle.log_records.specs.Records.{decoded_of}
-use Rattle.log_records.proofs.Reading.{NoStep, not_step}
+use Rattle.log_records.proofs.Reading.{Told, NoStep}
 use Rattle.replay.specs.Lent.{line_after, where_asked, words_for}
 
 -- a record that asks for no step leaves the words
-none-asked : (c : Command) → NoStep c → (w : Words) (on : Step → Words) → where_asked c w on ≡ w
-none-asked (Open z clock) other w on = refl
-none-asked (Ask s) other w on = absurd (not_step s other)
-none-asked Malformed other w on = refl
+none-asked : (c : Told) → NoStep c → (w : Words) (on : Step → Words) → where_asked c w on ≡ w
+none-asked (Ok (Open z clock)) other w on = refl
+none-asked (Ok (Ask s)) other w on = absurd (other s refl)
+none-asked (Err m) other w on = refl
 
 -- a choice between the same
 either : (b : Bool) (w : Words) → cond b w w ≡ w
@@ -48,14 +48,14 @@ module _ (room : ℕ) (log : List ℕ) where
   words-none (suc n) at wrote w other = rw (none-asked (decoded_of log at).command other w (λ s. onward n at wrote w s)) (either (ltb at (length log)) w)
 
   -- behind a step whose line does not fit
-  pub words-full : (n at wrote : ℕ) (w : Words) → at < length log → length log ≤ at + n → (s : Step) → (decoded_of log at).command ≡ Ask s
+  pub words-full : (n at wrote : ℕ) (w : Words) → at < length log → length log ≤ at + n → (s : Step) → (decoded_of log at).command ≡ Ok (Ask s)
       → room < wrote + length (line_after w s) → words_for room log n at wrote w ≡ words_after w s
   unfolding words_for
   words-full zero at wrote w h k s e f = absurd (omega arith)
   words-full (suc n) at wrote w h k s e f = rw (lt-ltb at (length log) h, e, lt-leb _ _ f)
 
   -- behind one whose line fits
-  pub words-on : (n at wrote : ℕ) (w : Words) → at < length log → length log ≤ at + n → (s : Step) → (decoded_of log at).command ≡ Ask s
+  pub words-on : (n at wrote : ℕ) (w : Words) → at < length log → length log ≤ at + n → (s : Step) → (decoded_of log at).command ≡ Ok (Ask s)
       → wrote + length (line_after w s) ≤ room
       → words_for room log n at wrote w ≡ words_for room log (n - 1) (decoded_of log at).next (wrote + length (line_after w s)) (words_after w s)
   unfolding words_for

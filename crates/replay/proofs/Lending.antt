@@ -14,21 +14,21 @@ use Rattle.model.specs.Store.{Sizes as Sizes'}
 use Rattle.model.specs.Log as bytes
 use Rattle.model.specs.Log.{read_record, whole}
 use Rattle.model.specs.Machine.{can_open}
-use Rattle.model.specs.Replay.{Replayed, opens_too_short, replay, replay_lent}
+use Rattle.model.specs.Replay.{opens_too_short, replay, replay_lent}
+use Rattle.base_protocol.specs.declared.Refusal.{Refusal}
+use Rattle.base_protocol.specs.declared.Refusal.TheVariants as why
 use Rattle.base_protocol.specs.declared.Answer.TheVariants as tell
 use Rattle.base_protocol.specs.declared.Sizes.{Sizes}
-use Rattle.base_protocol.specs.View.{sizes_view}
+use Rattle.base_protocol.specs.View.{sizes_view, number_told}
 use Rattle.step.specs.Steps.{Tables}
 use Rattle.shape.specs.Shape.{tables_lent}
 use Rattle.call.specs.Calls as Opening
 use Rattle.call.specs.Calls.{open_of}
-use Rattle.log_records.specs.declared.Command.{Command}
-use Rattle.log_records.specs.declared.Command.TheVariants.{Open, Ask, Malformed}
+use Rattle.std.proofs.Common.{Some, None, Ok, Err}
+use Rattle.log_records.specs.declared.Command.TheVariants.{Open, Ask}
 use Rattle.log_records.specs.declared.Decoded.{Decoded}
 use Rattle.log_records.specs.Records.{decoded_of}
-use Rattle.log_records.proofs.Reading.{NoOpen, not-open, read_none, Reads, reads, read-malformed, read-open, read-ask}
-use Rattle.report_answers.specs.Answers.{number_of}
-use Rattle.report.specs.declared.Wrote.TheVariants.{Next, Full}
+use Rattle.log_records.proofs.Reading.{Told, NoOpen, read_none, Reads, reads, read-malformed, read-open, read-ask}
 use Rattle.report.specs.Written.{Written, written_at}
 use Rattle.report.specs.Lines.{open_line}
 use Rattle.replay.specs.declared.stop.Stopped.{Stopped}
@@ -65,17 +65,17 @@ module _ (log report : List ℕ) (t : Lent) where
     there = subst (λ (x : Decoded). Reads log 0 x) (sym ed) (reads log 0)
 
     -- no open: as any replay, and the tables are as found
-    unopened-by : (c : Command) → d.command ≡ c → NoOpen c → (replayed_in log report t ≡ replay log (length report)) × (lent_left log (room_in report) t ≡ t)
+    unopened-by : (c : Told) → d.command ≡ c → NoOpen c → (replayed_in log report t ≡ replay log (length report)) × (lent_left log (room_in report) t ≡ t)
     unfolding lent_left
-    unopened-by (Open z clock) e other = absurd (not-open z clock other)
-    unopened-by (Ask s) e other = (short-by _ (read-ask there s e) refl, rw (← ed, e))
-    unopened-by Malformed e other = (short-by none (read-malformed there e) refl, rw (← ed, e))
+    unopened-by (Ok (Open z clock)) e other = absurd (other z clock refl)
+    unopened-by (Ok (Ask s)) e other = (short-by _ (read-ask there s e) refl, rw (← ed, e))
+    unopened-by (Err m) e other = (short-by none (read-malformed there m e) refl, rw (← ed, e))
 
     pub unopened : NoOpen d.command → (replayed_in log report t ≡ replay log (length report)) × (lent_left log (room_in report) t ≡ t)
     unopened other = unopened-by d.command refl other
 
     -- an open
-    module _ {z : Sizes} {clock : ℕ} (is : d.command ≡ Open z clock) where
+    module _ {z : Sizes} {clock : ℕ} (is : d.command ≡ Ok (Open z clock)) where
       abbrev can : Bool
       can = can_open (sizes_view z) clock
 
@@ -115,11 +115,11 @@ module _ (t : Lent) (z : Sizes) (clock : ℕ) where
   abbrev table-long : Bool
   table-long = tables_lent t.rows t.versions t.buckets t.lists z
 
-  wrong_size : size_in ≡ false → (number_of opens.answer ≡ 1) × (lent_in opens.words ≡ t)
+  wrong_size : size_in ≡ false → (opens.answer ≡ tell.Refused why.WrongSize) × (lent_in opens.words ≡ t)
   unfolding open_of
   wrong_size a = rw a (refl, refl)
 
-  wrong-length : size_in ≡ true → table-long ≡ false → (number_of opens.answer ≡ 16) × (lent_in opens.words ≡ t)
+  wrong-length : size_in ≡ true → table-long ≡ false → (opens.answer ≡ tell.Refused why.WrongShape) × (lent_in opens.words ≡ t)
   unfolding open_of
   wrong-length a b = rw (a, b) (refl, refl)
 
@@ -127,37 +127,39 @@ module _ (t : Lent) (z : Sizes) (clock : ℕ) where
   unfolding open_of
   right a b = rw (a, b)
 
-  -- 0 is an accepted open's
+  -- an open that is not refused is accepted
   pub record Accepted : Type 0 where
     pub size : size_in ≡ true
     pub long : table-long ≡ true
     pub answer : opens.answer ≡ tell.Done
 
-  pub accepted : number_of opens.answer ≡ 0 → Accepted
-  accepted e = go size_in table-long refl refl
+  pub accepted : ((r : Refusal) → opens.answer ≢ tell.Refused r) → Accepted
+  accepted n = go size_in table-long refl refl
     where
       go : (a b : Bool) → size_in ≡ a → table-long ≡ b → Accepted
       go true true ea eb = record { size = ea; long = eb; answer = right ea eb }
-      go true false ea eb = absurd (omega (arith, e, (wrong-length ea eb).0))
-      go false b ea eb = absurd (omega (arith, e, (wrong_size ea).0))
+      go true false ea eb = absurd (n why.WrongShape (wrong-length ea eb).0)
+      go false b ea eb = absurd (n why.WrongSize (wrong_size ea).0)
 
-  -- any other a refused one's: its line is written, and the tables stay
-  module _ (log report : List ℕ) (h : 0 < length log) {d : Decoded} (ed : d ≡ decoded_of log 0) (is : d.command ≡ Open z clock) where
-    pub refused : (why : ℕ) → why ≡ number_of opens.answer → why ≢ 0 → (l : Left) → l ≡ unopened_at report why
+  -- of a refused one: its line is written, and the tables stay
+  module _ (log report : List ℕ) (h : 0 < length log) {d : Decoded} (ed : d ≡ decoded_of log 0) (is : d.command ≡ Ok (Open z clock)) where
+    pub refused : (r : Refusal) → opens.answer ≡ tell.Refused r → (l : Left) → l ≡ unopened_at report (number_told r)
         → Leaves l.stopped l.report (replayed_in log report t) report × (lent_in opens.words ≡ lent_left log (room_in report) t)
-    refused why e n l el = go size_in table-long refl refl
+    refused r e l el = go size_in table-long refl refl
       where
         go : (a b : Bool) → size_in ≡ a → table-long ≡ b
             → Leaves l.stopped l.report (replayed_in log report t) report × (lent_in opens.words ≡ lent_left log (room_in report) t)
-        go true true ea eb = absurd (n (e ∙ ap number_of (right ea eb)))
+        go true true ea eb = let done = right ea eb in absurd cc
         go true false ea eb =
-            let w = wrong-length ea eb in (
-              too-short log report t ed is ea eb l (rw (← e ∙ w.0) el),
+            let w = wrong-length ea eb in
+            let same : r ≡ why.WrongShape = cc (e, w.0) in (
+              too-short log report t ed is ea eb l (rw same at el),
               w.1 ∙ sym (tables-refused log report t ed is (rw (ea, eb))),
             )
         go false b ea eb =
-            let w = wrong_size ea in (
-              rw (as-any log report t ed is (rw ea)) (left-unopened log report h ed is ea l (rw (← e ∙ w.0) el)),
+            let w = wrong_size ea in
+            let same : r ≡ why.WrongSize = cc (e, w.0) in (
+              rw (as-any log report t ed is (rw ea)) (left-unopened log report h ed is ea l (rw same at el)),
               w.1 ∙ sym (tables-refused log report t ed is (rw ea)),
             )
 
@@ -170,7 +172,7 @@ module _ (t : Lent) (z : Sizes) (clock : ℕ) where
       opened-tables = tables-opened log report t ed is a.size a.long
 
       -- its line does not fit
-      pub lent-full : line.wrote ≡ Full
+      pub lent-full : line.wrote ≡ None
           → Leaves (record { status = refusal_number NoRoom; wrote = 0 }) line.report (replayed_in log report t) report
           × (lent_in opens.words ≡ lent_left log (room_in report) t)
       lent-full q = (
@@ -179,7 +181,7 @@ module _ (t : Lent) (z : Sizes) (clock : ℕ) where
       )
 
       -- it fits, and the others follow
-      module _ {end : ℕ} (q : line.wrote ≡ Next end) where
+      module _ {end : ℕ} (q : line.wrote ≡ Some end) where
         abbrev goes-from : Opened
         goes-from = record { sizes = z; clock = clock; at = d.next; wrote = end }
 

@@ -9,7 +9,7 @@ use native.Mathlib.Omega.{arith}
 use lib.Dec.{leb}
 use lib.ListN.{length, length-append}
 use Rattle.model.specs.Replay.{stops, write_then, most_room}
-use Rattle.report.specs.declared.Wrote.TheVariants.{Next, Full}
+use Rattle.std.proofs.Common.{Some, None}
 use Rattle.report.specs.Written.{Written, written_at}
 use Rattle.report.proofs.Reported.{shown, written_on, written-stop}
 use Rattle.replay.specs.Stops.{Left, stop_with}
@@ -36,7 +36,7 @@ module _ (old text next : List ℕ) (long : length text ≤ room_in old) where
     pub report : w.report ≡ shown text old
 
   module _ (w : Written) (e : w ≡ written_at (shown text old) (length text) next) where
-    on-by : (b : Bool) → leb (length text + length next) (room_in old) ≡ b → (end : ℕ) → w.wrote ≡ Next end → On w end
+    on-by : (b : Bool) → leb (length text + length next) (room_in old) ≡ b → (end : ℕ) → w.wrote ≡ Some end → On w end
     on-by true t end q =
         let f = leb-true (length text + length next) (room_in old) t in
         let r = e ∙ written_on old text next in-report f in
@@ -47,10 +47,10 @@ module _ (old text next : List ℕ) (long : length text ≤ room_in old) where
         let z : ◌≡◌ {A = ℕ} 0 1 = cc (q, ap (λ (x : Written). x.wrote) r) in
         absurd (omega arith)
 
-    pub line_on : (end : ℕ) → w.wrote ≡ Next end → On w end
+    pub line_on : (end : ℕ) → w.wrote ≡ Some end → On w end
     line_on end q = on-by (leb (length text + length next) (room_in old)) refl end q
 
-    off-by : (b : Bool) → leb (length text + length next) (room_in old) ≡ b → w.wrote ≡ Full → Off w
+    off-by : (b : Bool) → leb (length text + length next) (room_in old) ≡ b → w.wrote ≡ None → Off w
     off-by true t q =
         let r = e ∙ written_on old text next in-report (leb-true (length text + length next) (room_in old) t) in
         let z : ◌≡◌ {A = ℕ} 0 1 = cc (q, ap (λ (x : Written). x.wrote) r) in
@@ -59,7 +59,7 @@ module _ (old text next : List ℕ) (long : length text ≤ room_in old) where
         let f = leb-false (length text + length next) (room_in old) t in
         record { full = f; report = ap (λ (x : Written). x.report) (e ∙ written-stop old text next in-report f) }
 
-    pub line-off : w.wrote ≡ Full → Off w
+    pub line-off : w.wrote ≡ None → Off w
     line-off q = off-by (leb (length text + length next) (room_in old)) refl q
 
 -- a last line: what the code leaves of it is what the model's replay leaves

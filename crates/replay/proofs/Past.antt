@@ -26,11 +26,11 @@ use Rattle.step_bridge.proofs.Slotted.{past-test, still, found-long}
 use Rattle.step_bridge.proofs.Past.{past-kept, past-then}
 use Rattle.call.specs.Calls.{open_of}
 use Rattle.call.proofs.Opened.{fresh-past}
-use Rattle.log_records.specs.declared.Command.{Command}
-use Rattle.log_records.specs.declared.Command.TheVariants.{Open, Ask, Malformed}
+use Rattle.std.proofs.Common.{Ok, Err}
+use Rattle.log_records.specs.declared.Command.TheVariants.{Open, Ask}
 use Rattle.log_records.specs.Records.{decoded_of}
 use Rattle.log_records.specs.Layout.{fields_in, Fit, none_left, one-fits, Bytes}
-use Rattle.log_records.proofs.Reading.{reads, read-open}
+use Rattle.log_records.proofs.Reading.{Told, reads, read-open}
 use Rattle.log_records.proofs.Exact.{read-exact}
 use Rattle.report.specs.Lines.{open_line}
 use Rattle.replay.specs.Lent.{Lent, line_after, where_asked, words_for, words_opened, lent_left, opens_over}
@@ -39,10 +39,10 @@ use Rattle.replay.proofs.Zeroes.{begins, opened-is, is-opened}
 
 -- ---- the records behind an open
 
-asked-past : (P : Words → Type 0) (c : Command) (w : Words) (on : Step → Words) → P w → ((s : Step) → P (on s)) → P (where_asked c w on)
-asked-past P (Open z clock) w on p q = p
-asked-past P (Ask s) w on p q = q s
-asked-past P Malformed w on p q = p
+asked-past : (P : Words → Type 0) (c : Told) (w : Words) (on : Step → Words) → P w → ((s : Step) → P (on s)) → P (where_asked c w on)
+asked-past P (Ok (Open z clock)) w on p q = p
+asked-past P (Ok (Ask s)) w on p q = q s
+asked-past P (Err m) w on p q = p
 
 module _ (w : Words) (h : Stands w) (s : Step) where
   step_past : PastKept w.sizes w.tables (words_after w s).tables
@@ -73,10 +73,10 @@ clock-small : (z : Sizes') (clock : ℕ) → Fit (fields_in (bytes.Opening z clo
 clock-small z clock (one-fits a (one-fits b (one-fits c (one-fits d none_left)))) = omega arith
 
 module _ (log : List ℕ) (bs : Bytes log) (room : ℕ) (t : Lent) where
-  clock-in : (z : Sizes) (clock : ℕ) → (decoded_of log 0).command ≡ Open z clock → clock ≤ last_number
+  clock-in : (z : Sizes) (clock : ℕ) → (decoded_of log 0).command ≡ Ok (Open z clock) → clock ≤ last_number
   clock-in z clock e = clock-small (sizes_view z) clock (read-exact log bs _ _ (read-open (reads log 0) z clock e)).1
 
-  module _ (z : Sizes) (clock : ℕ) (e : (decoded_of log 0).command ≡ Open z clock) (o : opens_over t z clock ≡ true) where
+  module _ (z : Sizes) (clock : ℕ) (e : (decoded_of log 0).command ≡ Ok (Open z clock)) (o : opens_over t z clock ≡ true) where
     accepts : (open_of t.rows t.versions t.buckets t.lists z clock).answer ≡ tell.Done
     unfolding open_of
     accepts = rw (and_l (can_open (sizes_view z) clock) _ o, and_r (can_open (sizes_view z) clock) _ o)
@@ -99,12 +99,12 @@ module _ (log : List ℕ) (bs : Bytes log) (room : ℕ) (t : Lent) where
         let k = behind in
         rw (e, o, opened-is t z clock accepts) (record { rows = k.rows; versions = k.versions; buckets = k.buckets; lists = k.lists })
 
-  left_alone : (c : Command) → (decoded_of log 0).command ≡ c → ((z : Sizes) (clock : ℕ) → c ≡ Open z clock → opens_over t z clock ≡ false)
+  left_alone : (c : Told) → (decoded_of log 0).command ≡ c → ((z : Sizes) (clock : ℕ) → c ≡ Ok (Open z clock) → opens_over t z clock ≡ false)
       → lent_left log room t ≡ t
   unfolding lent_left
-  left_alone (Open z clock) e f = rw (e, f z clock refl)
-  left_alone (Ask s) e f = rw e
-  left_alone Malformed e f = rw e
+  left_alone (Ok (Open z clock)) e f = rw (e, f z clock refl)
+  left_alone (Ok (Ask s)) e f = rw e
+  left_alone (Err m) e f = rw e
 
   -- every log of bytes, every room and all tables
   pub lent-past : LentPast log room t

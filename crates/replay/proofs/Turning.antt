@@ -6,10 +6,9 @@ use mathlib.Core.Bool.{true, false}
 use mathlib.Core.List.{List, []}
 use native.Mathlib.Omega.{arith}
 use lib.ListN.{length, get_or, set, length-set}
-use lib.Seq.{set-get_or}
+use lib.Seq.{set-get_or, get_or-set_same}
 use Rattle.base_protocol.specs.declared.Answer.{Answer}
 use Rattle.base_protocol.specs.declared.Extent.{Extent}
-use Rattle.base_protocol.specs.declared.Sizes.{Sizes}
 use Rattle.base_protocol.specs.declared.Step.{Step}
 use Rattle.table_chain.specs.declared.Snapshot.{Snapshot}
 use Rattle.txn.specs.Methods.{idle_of, rest_of, whole_of, parts_of}
@@ -45,6 +44,10 @@ left a e t b = record {
   found = b.found;
 }
 
+-- what is told of place k, beside the numbers
+abbrev pub marked : Others → ℕ → ℕ → ℕ → Others
+marked o k a p = record { numbers = o.numbers; active = set o.active k a; prepared = set o.prepared k p }
+
 -- the locals behind a step of the words w at place k
 pub record Turned (w : Words) (s : Step) (k : ℕ) (a : Answer) (e : Extent) (o : Others) (ss : List Snapshot) (rs : List Rest) (b : Tables) : Type 0 where
   pub txn : Transaction
@@ -77,6 +80,10 @@ pub record Found (b : Tables) (z : Extent) (o : Others) (ss : List Snapshot) (rs
   pub wanted : n ≡ wanted_of s
   pub place : k ≡ place_in o.numbers n
 
+-- a place is one of the eight
+pub place_small : (ns : List ℕ) (n : ℕ) → length ns ≡ 8 → place_in ns n < 8
+place_small ns n l = place-below 0 ns n 8 (omega arith) (omega (arith, l))
+
 module _ {b : Tables} {z : Extent} {o : Others} {ss : List Snapshot} {rs : List Rest} {s : Step} {n k : ℕ} (f : Found b z o ss rs s n k) where
   abbrev from : Words
   from = before b z o ss rs
@@ -88,7 +95,7 @@ module _ {b : Tables} {z : Extent} {o : Others} {ss : List Snapshot} {rs : List 
       wholes-long 0 o.numbers ss rs (f.snapshots-long ∙ sym l) (f.rests-long ∙ sym l) ∙ l
 
   pub below : k < 8
-  below = rw f.place (place-below 0 o.numbers n 8 (omega arith) (omega (arith, f.numbers-long)))
+  below = rw f.place (place_small o.numbers n f.numbers-long)
 
   pub placed-for : k ≡ place_for from.txns s
   placed-for = place_of from s f.besides eight f.wanted below f.place
@@ -108,8 +115,12 @@ module _ {b : Tables} {z : Extent} {o : Others} {ss : List Snapshot} {rs : List 
         (sym (whole-at (idle_of 0) ds dr o.numbers ss rs k (omega (arith, f.numbers-long, below)) (omega (arith, f.snapshots-long, below))
         (omega (arith, f.rests-long, below)))))
 
+    -- the rest that the step stored
+    stored : {rs' : List Rest} (d r : Rest) → rs' ≡ set rs k r → get_or rs' k d ≡ r
+    stored d r e = rw e (get_or-set_same rs k r d (omega (arith, f.rests-long, below)))
+
     -- a step that keeps its transaction
-    pub keeping : (kept : Kept) (after : Tables) (a p : ℕ) → keeps_of s ≡ true
+    keeping : (kept : Kept) (after : Tables) (a p : ℕ) → keeps_of s ≡ true
         → ◌≡◌ {A = Keeping}
         (record { kept = kept; rows = after.rows; versions = after.versions; buckets = after.buckets; lists = after.lists; found = after.found })
         (kept_in (keeping_of b (place (whole_of parts)) s))
@@ -139,6 +150,19 @@ module _ {b : Tables} {z : Extent} {o : Others} {ss : List Snapshot} {rs : List 
           rests-long = length-set rs k r ∙ f.rests-long;
         }
 
+    -- the same, told of what is stored at its place
+    pub kept-told : (kept : Kept) (after : Tables) (a p : ℕ) → keeps_of s ≡ true
+        → ◌≡◌ {A = Keeping}
+        (record { kept = kept; rows = after.rows; versions = after.versions; buckets = after.buckets; lists = after.lists; found = after.found })
+        (kept_in (keeping_of b (place (whole_of parts)) s))
+        → (d : Rest) {rs' : List Rest} {o' : Others} → rs' ≡ set rs k kept.rest → o' ≡ o
+        → a ≡ active_by (get_or o'.numbers k 0) (get_or rs' k d).rank
+        → p ≡ prepared_by (get_or o'.numbers k 0) (get_or rs' k d).rank (get_or rs' k d).writes_n
+        → Turned from s k kept.answer (record { sizes = z.sizes; clock = z.clock; used = kept.used }) (marked o' k a p) ss rs' after
+    kept-told kept after a p q em d er eo ea ep =
+        let same = stored d kept.rest er in
+        rw (er, eo) (keeping kept after a p q em (ea ∙ rw (same, eo)) (ep ∙ rw (same, eo)))
+
     -- begin, publish, abort: the lent row list is not theirs
     abbrev bare : Tables
     bare = record { rows = b.rows; versions = b.versions; buckets = b.buckets; lists = b.lists; found = [] }
@@ -156,7 +180,7 @@ module _ {b : Tables} {z : Extent} {o : Others} {ss : List Snapshot} {rs : List 
           let placed : in_published (record { stepped = u; rows = rows; buckets = buckets }) bare ≡ step_of bare (place (whole_of parts)) s = em ∙ rw (q, et) in
           moved-from _ (ap (beside b.found) placed ∙ found-kept b.found bare (place (whole_of parts)) s q)
 
-      pub placing : (after : Parts) (a p : ℕ) → after ≡ parts_of u.txn → u.txn.slot ≡ k
+      placing : (after : Parts) (a p : ℕ) → after ≡ parts_of u.txn → u.txn.slot ≡ k
           → a ≡ active_by after.number after.rest.rank → p ≡ prepared_by after.number after.rest.rank after.rest.writes_n
           → Turned from s k u.answer reach
           (record { numbers = set o.numbers k after.number; active = set o.active k a; prepared = set o.prepared k p })
@@ -174,3 +198,14 @@ module _ {b : Tables} {z : Extent} {o : Others} {ss : List Snapshot} {rs : List 
             snapshots-long = length-set ss k u.txn.snapshot ∙ f.snapshots-long;
             rests-long = length-set rs k (rest_of u.txn) ∙ f.rests-long;
           })
+
+      pub placed-told : (after : Parts) (a p : ℕ) → after ≡ parts_of u.txn → u.txn.slot ≡ k
+          → (d : Rest) {rs' : List Rest} {o' : Others} → rs' ≡ set rs k after.rest
+          → o' ≡ record { numbers = set o.numbers k after.number; active = o.active; prepared = o.prepared }
+          → a ≡ active_by (get_or o'.numbers k 0) (get_or rs' k d).rank
+          → p ≡ prepared_by (get_or o'.numbers k 0) (get_or rs' k d).rank (get_or rs' k d).writes_n
+          → Turned from s k u.answer reach (marked o' k a p) (set ss k after.snapshot) rs' lent
+      placed-told after a p eu slot d er eo ea ep =
+          let same = stored d after.rest er in
+          let number = get_or-set_same o.numbers k after.number 0 (omega (arith, f.numbers-long, below)) in
+          rw (er, eo) (placing after a p eu slot (ea ∙ rw (same, eo, number)) (ep ∙ rw (same, eo, number)))

@@ -1,5 +1,5 @@
 -- A replay over lent tables: what it answers, and every word that it leaves.
-use Rattle.std.specs.Prelude.{ℕ, zero, suc, ◌+◌, min, ◌≡◌, Bool, cond, ◌&&◌, List, leb, ltb, length, replicate}
+use Rattle.std.specs.Prelude.{ℕ, zero, suc, ◌+◌, min, ◌≡◌, Result, Ok, Err, Bool, cond, ◌&&◌, List, leb, ltb, length, replicate}
 use Rattle.base_limits.specs.Limits.{most_rows}
 use Rattle.model.specs.Store as model
 use Rattle.model.specs.Machine.{can_open}
@@ -14,7 +14,8 @@ use Rattle.step.specs.Words.{Words, moved_by, words_after}
 use Rattle.shape.specs.Shape.{tables_lent}
 use Rattle.call.specs.Calls.{open_of}
 use Rattle.log_records.specs.declared.Command.{Command}
-use Rattle.log_records.specs.declared.Command.TheVariants.{Open, Ask, Malformed}
+use Rattle.log_records.specs.declared.Command.TheVariants.{Open, Ask}
+use Rattle.log_records.specs.declared.Malformed.{Malformed}
 use Rattle.log_records.specs.Records.{decoded_of, sizes_told}
 use Rattle.report.specs.Lines.{open_line, line_for}
 
@@ -65,10 +66,10 @@ abbrev pub line_after : Words → Step → List ℕ
 line_after w s = line_for s (moved_by w s).stepped.answer (moved_by w s).found
 
 -- what is done where a record asks for a step; any other leaves the words
-abbrev pub where_asked : Command → Words → (Step → Words) → Words
-where_asked (Open z clock) w on = w
-where_asked (Ask s) w on = on s
-where_asked Malformed w on = w
+abbrev pub where_asked : Result Command Malformed → Words → (Step → Words) → Words
+where_asked (Ok (Open z clock)) w on = w
+where_asked (Ok (Ask s)) w on = on s
+where_asked (Err malformed) w on = w
 
 -- the words behind the records from a place of the log on, n at the most, where so many bytes of the report are written: each step is carried out,
 -- and one whose line does not fit is the last
@@ -95,11 +96,11 @@ abbrev pub opens_over : Lent → Sizes → ℕ → Bool
 opens_over t z clock = can_open (sizes_view z) clock && tables_lent t.rows t.versions t.buckets t.lists z
 
 -- the tables behind a whole log: as found where nothing was opened
-abbrev pub lent_after : Command → ℕ → List ℕ → ℕ → Lent → Lent
-lent_after (Open z clock) room log at t =
+abbrev pub lent_after : Result Command Malformed → ℕ → List ℕ → ℕ → Lent → Lent
+lent_after (Ok (Open z clock)) room log at t =
     cond (opens_over t z clock) (lent_in (words_opened room log at (opened_in t z clock))) t
-lent_after (Ask s) room log at t = t
-lent_after Malformed room log at t = t
+lent_after (Ok (Ask s)) room log at t = t
+lent_after (Err malformed) room log at t = t
 
 unfoldable pub lent_left : List ℕ → ℕ → Lent → Lent
 lent_left log room t = lent_after (decoded_of log 0).command room log (decoded_of log 0).next t

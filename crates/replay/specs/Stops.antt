@@ -1,8 +1,6 @@
 -- How a replay stops: its status, how many bytes it wrote, and the lent report.
-use Rattle.std.specs.Prelude.{ℕ, List}
+use Rattle.std.specs.Prelude.{ℕ, Option, Some, None, List}
 use Rattle.model.specs.Refusals.{NoRoom, Malformed, refusal_number}
-use Rattle.report.specs.declared.Wrote.{Wrote}
-use Rattle.report.specs.declared.Wrote.TheVariants.{Next, Full}
 use Rattle.report.specs.Written.{Written, written_at}
 use Rattle.report.specs.Lines.{open_line, bad_line}
 use Rattle.replay.specs.declared.stop.Stopped.{Stopped}
@@ -13,9 +11,9 @@ pub record Left : Type 0 where
   pub report : List ℕ
 
 -- after a last line: with this status, or with 10 where the line did not fit
-abbrev pub stop_after : Wrote → ℕ → ℕ → Stopped
-stop_after (Next end) status at = record { status = status; wrote = end }
-stop_after Full status at = record { status = refusal_number NoRoom; wrote = at }
+abbrev pub stop_after : Option ℕ → ℕ → ℕ → Stopped
+stop_after (Some end) status at = record { status = status; wrote = end }
+stop_after None status at = record { status = refusal_number NoRoom; wrote = at }
 
 abbrev pub stop_with : Written → ℕ → ℕ → Left
 stop_with w status at = record { stopped = stop_after w.wrote status at; report = w.report }

@@ -4,26 +4,26 @@
 ghost use Rattle.std.specs.Prelude.{◌≡◌, ◌≤◌, min, length};
 ghost use Rattle.step.specs.Steps.{Tables};
 ghost use Rattle.model.specs.Replay.{replay, packed, reported, most_room};
-ghost use Rattle.report_answers.specs.Answers.{number_of};
-ghost use Rattle.replay.specs.Replay.{Leaves, opened_from};
+ghost use Rattle.replay.specs.Replay.{Leaves, ended_as, opened_from};
 ghost use Rattle.replay.specs.Lent.{Opens, fresh_in, words_from, replayed_in, lent_left, lent_of};
 
 use base_limits::{MOST_BUCKETS, MOST_LIVE, MOST_ROWS, MOST_VERSIONS};
-use base_protocol::{Answer, Extent, NO_ROOM, Sizes};
+use base_protocol::{Answer, Extent, Refusal, Sizes};
 use call::open;
-use log_records::{Command, decode_at};
-use report::{Wrote, answer_line, open_line};
+use log_records::{Command, Reader};
+use report::{answer_line, open_line};
 use step::{Beside, keeps, step_keeping, step_placing};
 use stop::{Stopped, stop_malformed, stop_unopened};
 use table::lists::SLOT_WORDS;
 use table::{BUCKET_WORDS, ROW_WORDS, VERSION_WORDS};
-use txn::{Parts, idle, parts_of, whole};
+use txn::{Parts, Transaction, idle};
 use txn_places::{Others, active_number, place_of, prepared_count, wanted};
 
 mod stop; // stop.rt: how a replay stops
 
 // The status stands above this, the bytes written below it.
-const HALF: u64 = 4294967296;
+// Stays packed: this is what the C functions answer.
+pub const HALF: u64 = 4294967296;
 
 // A replay behind its open: the sizes and the clock that it was opened with, where its next record stands, the bytes of its report so far.
 #[derive(Clone, Copy)]
@@ -34,7 +34,9 @@ struct Opened {
     wrote: usize,
 }
 
-// The records after the open, each with its line.
+// The records after the open, each with its line: how many bytes of the report are written behind the last one, or how the replay stopped.
+// Stays with the lent tables one by one: the functions for C are lent them so, and the definitions over words name each.
+#[tactic(auto, using(crate::proofs::Turning::place_small))]
 fn replay_steps(
     log: &[u8],
     report: &mut [u8],
@@ -44,11 +46,11 @@ fn replay_steps(
     lists: &mut [u64],
     found: &mut [u64],
     opened: Opened,
-) -> Stopped
+) -> Result<usize, Stopped>
     requires { Opens (record { rows = rows.now; versions = versions.old; buckets = buckets.old; lists = lists.old; found = found.old })
         opened.sizes opened.clock
         × (opened.wrote ≤ min (length report.old) most_room) }
-    ensures { Leaves result report.new (opened_from log.now report.old opened) report.old
+    ensures { Leaves (ended_as result) report.new (opened_from log.now report.old opened) report.old
         × (◌≡◌ {A = Tables}
         (record {
           rows = rows.exit.now;
@@ -70,37 +72,32 @@ fn replay_steps(
         ).tables) }
 {
     let sizes = opened.sizes;
-    let free = parts_of(idle(0));
-    let no_snapshot = free.snapshot;
-    let no_rest = free.rest;
-    let mut snapshots = [no_snapshot; MOST_LIVE];
-    let mut rests = [no_rest; MOST_LIVE];
+    let Parts { snapshot, rest, .. } = Parts::from(idle(0));
+    // Stays arrays beside each other: so a step stores what it changes alone, a snapshot at begin, publish and abort (docs/DECISIONS.md, 72).
+    let mut snapshots = [snapshot; MOST_LIVE];
+    let mut rests = [rest; MOST_LIVE];
     let mut others = Others {
         numbers: [0u64; MOST_LIVE],
         active: [0u64; MOST_LIVE],
         prepared: [0u32; MOST_LIVE],
     };
     let mut extent = Extent {
-        sizes: sizes,
+        sizes,
         clock: opened.clock,
         used: 0,
     };
     let mut wrote = opened.wrote;
-    let mut at = opened.at;
-    while at < log.len() {
-        let d = decode_at(log, at);
-        let command = d.command;
-        let next = d.next;
-        let Command::Ask(s) = command else {
-            return stop_malformed(report, wrote);
+    let mut reader = Reader::new(log, opened.at);
+    // Stays a `while`: no index is counted, the reader moves to where its record ends, and a malformed one ends the replay.
+    while reader.at < log.len() {
+        let Ok(Command::Ask(s)) = reader.next() else {
+            return Err(stop_malformed(report, wrote));
         };
         let k = place_of(&others.numbers, wanted(s));
-        let mut answer = Answer::Done;
-        if keeps(s) {
-            let beside = Beside {
-                extent: extent,
-                others: others,
-            };
+        // Stays made in each arm: made once before them, what stands beside takes 27 instructions a step more (docs/DECISIONS.md, 72),
+        // and with them the 580 that docs/requests/x.md allows are passed.
+        let answer = if keeps(s) {
+            let beside = Beside { extent, others };
             let parts = Parts {
                 number: others.numbers[k],
                 snapshot: snapshots[k],
@@ -108,67 +105,52 @@ fn replay_steps(
                 slot: k as u32,
             };
             let kept = step_keeping(rows, versions, buckets, lists, found, beside, parts, s);
-            answer = kept.answer;
             extent.used = kept.used;
-            let rest = kept.rest;
-            rests[k] = rest;
-            let number = others.numbers[k];
-            others.active[k] = active_number(number, rest.rank);
-            others.prepared[k] = prepared_count(number, rest.rank, rest.writes_n);
+            rests[k] = kept.rest;
+            kept.answer
         } else {
-            let beside = Beside {
-                extent: extent,
-                others: others,
-            };
+            let beside = Beside { extent, others };
             let parts = Parts {
                 number: others.numbers[k],
                 snapshot: snapshots[k],
                 rest: rests[k],
                 slot: k as u32,
             };
-            let u = step_placing(rows, versions, buckets, lists, beside, whole(parts), s);
-            answer = u.answer;
+            let u = step_placing(
+                rows,
+                versions,
+                buckets,
+                lists,
+                beside,
+                Transaction::from(parts),
+                s,
+            );
             extent.clock = u.clock;
             extent.used = u.used;
-            let after = parts_of(u.txn);
-            let rest = after.rest;
-            let number = after.number;
-            let snapshot = after.snapshot;
+            let Parts {
+                number,
+                snapshot,
+                rest,
+                ..
+            } = Parts::from(u.txn);
             rests[k] = rest;
             snapshots[k] = snapshot;
             others.numbers[k] = number;
-            others.active[k] = active_number(number, rest.rank);
-            others.prepared[k] = prepared_count(number, rest.rank, rest.writes_n);
-        }
-        let line = answer_line(report, wrote, s, answer, found);
-        let Wrote::Next(end) = line else {
-            return Stopped {
-                status: NO_ROOM,
-                wrote: wrote,
-            };
+            u.answer
+        };
+        let number = others.numbers[k];
+        let rest = rests[k];
+        others.active[k] = active_number(number, rest.rank);
+        others.prepared[k] = prepared_count(number, rest.rank, rest.writes_n);
+        let Some(end) = answer_line(report, wrote, s, answer, found) else {
+            return Err(Stopped {
+                status: u64::from(Refusal::NoRoom),
+                wrote,
+            });
         };
         wrote = end;
-        at = next;
     }
-    Stopped {
-        status: 0,
-        wrote: wrote,
-    }
-}
-
-// Document 01's number for an answer.
-fn number_of(answer: Answer) -> u64
-    ensures { result ≡ number_of answer }
-{
-    match answer {
-        Answer::Done => 0,
-        Answer::Number(_) => 0,
-        Answer::Stamp(_) => 0,
-        Answer::Count(_) => 0,
-        Answer::Rows(_) => 0,
-        Answer::Judged(_) => 0,
-        Answer::Refused(why) => why,
-    }
+    Ok(wrote)
 }
 
 // The first record, which must be an open that the lent tables are long enough for, and then the others.
@@ -179,8 +161,8 @@ fn replay_open(
     versions: &mut [u64],
     buckets: &mut [u64],
     lists: &mut [u64],
-) -> Stopped
-    ensures { Leaves result report.new
+) -> Result<usize, Stopped>
+    ensures { Leaves (ended_as result) report.new
         (replayed_in log.now report.old
         (record { rows = rows.entry.now; versions = versions.old; buckets = buckets.old; lists = lists.old }))
         report.old
@@ -188,36 +170,28 @@ fn replay_open(
         ≡ lent_left log.now (min (length report.old) most_room)
         (record { rows = rows.entry.now; versions = versions.old; buckets = buckets.old; lists = lists.old })) }
 {
-    if log.len() == 0 {
-        return Stopped {
-            status: 0,
-            wrote: 0,
-        };
+    if log.is_empty() {
+        return Ok(0);
     }
-    let d = decode_at(log, 0);
-    let command = d.command;
-    let next = d.next;
-    let Command::Open { sizes, clock } = command else {
-        return stop_malformed(report, 0);
+    let mut reader = Reader::new(log, 0);
+    let Ok(Command::Open { sizes, clock }) = reader.next() else {
+        return Err(stop_malformed(report, 0));
     };
     let called = open(rows, versions, buckets, lists, sizes, clock);
-    let answer = called.answer;
-    let why = number_of(answer);
-    if why != 0 {
-        return stop_unopened(report, why);
+    if let Answer::Refused(why) = called.answer {
+        return Err(stop_unopened(report, u64::from(why)));
     }
-    let line = open_line(report, 0, 0);
-    let Wrote::Next(end) = line else {
-        return Stopped {
-            status: NO_ROOM,
+    let Some(wrote) = open_line(report, 0, 0) else {
+        return Err(Stopped {
+            status: u64::from(Refusal::NoRoom),
             wrote: 0,
-        };
+        });
     };
     let opened = Opened {
-        sizes: sizes,
-        clock: clock,
-        at: next,
-        wrote: end,
+        sizes,
+        clock,
+        at: reader.at,
+        wrote,
     };
     let mut found = [0u64; MOST_ROWS];
     replay_steps(
@@ -242,8 +216,10 @@ pub fn toruxeng_replay_lent(
         ≡ lent_of log.now report.old
         (record { rows = rows.entry.now; versions = versions.old; buckets = buckets.old; lists = lists.old }) }
 {
-    let r = replay_open(log, report, rows, versions, buckets, lists);
-    r.status * HALF + r.wrote as u64
+    match replay_open(log, report, rows, versions, buckets, lists) {
+        Ok(wrote) => wrote as u64,
+        Err(stopped) => stopped.status * HALF + stopped.wrote as u64,
+    }
 }
 
 // The same over tables of its own, of the greatest size.

@@ -2,10 +2,11 @@
 ghost use Rattle.std.specs.Prelude.{◌≡◌};
 ghost use Rattle.replay.specs.Stops.{stop_after, malformed_at, unopened_at};
 
-use base_protocol::{MALFORMED, NO_ROOM};
-use report::{Wrote, bad_line, open_line};
+use base_protocol::Refusal;
+use report::{bad_line, open_line};
 
 // How a replay stops: its status, and how many bytes of the report it wrote.
+// Stays a number: `stop_after`, `malformed_at` and the theorems of tightness/ReplayStop speak of any status, and C reads it.
 #[derive(Clone, Copy)]
 pub struct Stopped {
     pub status: u64,
@@ -13,16 +14,13 @@ pub struct Stopped {
 }
 
 // How a replay stops after a last line: with this status, or with 10 where the line did not fit.
-pub fn stop_after(line: Wrote, status: u64, at: usize) -> Stopped
+pub fn stop_after(line: Option<usize>, status: u64, at: usize) -> Stopped
     ensures { result ≡ stop_after line status at }
 {
     match line {
-        Wrote::Next(end) => Stopped {
-            status: status,
-            wrote: end,
-        },
-        Wrote::Full => Stopped {
-            status: NO_ROOM,
+        Some(wrote) => Stopped { status, wrote },
+        None => Stopped {
+            status: u64::from(Refusal::NoRoom),
             wrote: at,
         },
     }
@@ -33,7 +31,7 @@ pub fn stop_malformed(report: &mut [u8], at: usize) -> Stopped
     ensures { record { stopped = result; report = report.new } ≡ malformed_at report.old at }
 {
     let line = bad_line(report, at);
-    stop_after(line, MALFORMED, at)
+    stop_after(line, u64::from(Refusal::Malformed), at)
 }
 
 // The line of a refused open, and stop.

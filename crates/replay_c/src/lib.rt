@@ -6,6 +6,7 @@ ghost use Rattle.model.specs.Replay.{replay, packed, reported};
 ghost use Rattle.replay.specs.Lent.{lent_of};
 
 // Replays a log into a report, over lent tables, whatever stands in them: status × 4,294,967,296 + bytes written.
+// Stays with the tables one by one: this is the C interface.
 #[unsafe(no_mangle)]
 pub extern "C" fn toruxeng_replay_lent(
     log: &[u8],

@@ -3,14 +3,15 @@
 use borrow.Author.Tests.{leb-true, leb-false}
 use Prim.Native.Nat.{ℕ, min}
 use mathlib.Core.Bool.{Bool, true, false}
-use mathlib.Core.List.{◌++◌, List}
-use mathlib.Core.Path.{◌≡◌, refl}
+use mathlib.Core.List.{◌++◌, List, [], ◌∷◌}
+use mathlib.Core.Path.{◌≡◌, refl, ap}
 use native.Mathlib.Omega.{arith}
 use lib.Dec.{leb}
 use lib.ListN.{length, take, drop}
 use lib.Seq.{take_all, take-append_seam}
 use Rattle.model.specs.Report.{word_of, line, answer_line}
 use Rattle.base_protocol.specs.View.{asked, told}
+use Rattle.base_protocol.proofs.Told.{refusal-number}
 use Rattle.base_protocol.specs.declared.Step.{Step}
 use Rattle.base_protocol.specs.declared.Answer.{Answer}
 use Rattle.report_answers.specs.declared.Numbers.{Numbers}
@@ -50,4 +51,4 @@ line-told s (machine.Stamp n) lent = refl
 line-told s (machine.Count n) lent = refl
 line-told s (machine.Rows rs) lent = rw (take-append_seam rs (drop (length rs) lent))
 line-told s (machine.Judged v) lent = judged-line s v lent
-line-told s (machine.Refused r) lent = refl
+line-told s (machine.Refused r) lent = ap (λ (n : ℕ). line (word_of (asked s)) (n ∷ [])) (refusal-number r)

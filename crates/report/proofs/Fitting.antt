@@ -10,6 +10,7 @@ use denote.Enum.Laws.{Fields, spellss, owed}
 use lib.ListN.{length, get_or, length-take}
 use Rattle.model.specs.Report.{word_of}
 use Rattle.base_protocol.specs.View.{asked}
+use Rattle.base_protocol.proofs.Told.{number-few}
 use Rattle.base_protocol.specs.declared.Step.{Step}
 use Rattle.base_protocol.specs.declared.Step.TheVariants as ask
 use Rattle.base_protocol.specs.declared.Verdict.{Verdict}
@@ -53,7 +54,7 @@ values-few (tell.Stamp n) rows = omega arith
 values-few (tell.Count n) rows = omega arith
 values-few (tell.Rows n) rows = let said = length-take n rows in omega arith
 values-few (tell.Judged v) rows = let few = verdict-few v in omega arith
-values-few (tell.Refused number) rows = omega arith
+values-few (tell.Refused r) rows = omega arith
 
 -- the numbers of an answer's line have 64 bits, as its fields have
 abbrev VerdictFields : Verdict → Type 0
@@ -75,7 +76,7 @@ said-words (tell.Stamp n) rows f w = (omega arith, (f.0.1, tt))
 said-words (tell.Count n) rows f w = (omega arith, (f.0.1, tt))
 said-words (tell.Rows n) rows f w = (omega arith, (f.0.1, words-first n rows w))
 said-words (tell.Judged v) rows f w = (omega arith, verdict-words v (owed verdict-type verdict-laws v _ f.0))
-said-words (tell.Refused number) rows f w = (f.0.1, tt)
+said-words (tell.Refused r) rows f w = let few = number-few r in (omega arith, tt)
 
 -- the longest line
 pub line-most : (s : Step) (a : Answer) (rows : List ℕ) (vs : List Val) → Is (held-as answer-type) a vs → ((i : ℕ) → get_or rows i 0 < 2 ^ 64)

@@ -49,13 +49,6 @@ module _ (old : List ℕ) (at : ℕ) (s l : List ℕ) (p : ℕ) (el : l ≡ laid
 pub sets-laid : (l : List ℕ) (i v w : ℕ) → i + 1 < length l → set (set l i v) (i + 1) w ≡ laid l i (v ∷ w ∷ [])
 sets-laid l i v w h = then-store l i (v ∷ []) (set l i v) (i + 1) (set-laid l i v (omega arith)) refl w h
 
--- the next byte of a word
-pub word_next : (old l : List ℕ) (w : List ℕ) (i : ℕ) → i < length w → length w ≤ length old → l ≡ laid old 0 (take i w)
-    → set l i (get_or w i 0) ≡ laid old 0 (take (i + 1) w)
-word_next old l w i h fits e =
-    let n : length (take i w) ≡ i = length-take-le i w (omega arith) in
-    rw (add-one, take-suc w i 0) (then-store old 0 (take i w) l i e (omega arith) (get_or w i 0) (omega arith))
-
 -- a byte stored right before a text makes it longer
 pub store-before : (old l s : List ℕ) (p v : ℕ) → p < length old → l ≡ laid old (p + 1) s → set l p v ≡ laid old p (v ∷ s)
 store-before old l s p v h e =

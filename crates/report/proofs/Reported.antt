@@ -7,7 +7,7 @@ use native.Mathlib.Omega.{arith}
 use lib.ListN.{length, drop, length-append, length-drop}
 use lib.Seq.{take-append_seam, drop-append-add, drop-drop}
 use Rattle.model.specs.Replay.{most_room}
-use Rattle.report.specs.declared.Wrote.TheVariants.{Next, Full}
+use Rattle.std.specs.Prelude.{Some, None}
 use Rattle.report.specs.Written.{laid, written_at}
 use Rattle.report.proofs.Writing.{written-full, written_next}
 
@@ -29,10 +29,10 @@ module _ (old text next : List ℕ) (h : length text ≤ length old) where
       )
 
   pub written_on : length text + length next ≤ min (length old) most_room
-      → written_at (shown text old) (length text) next ≡ record { wrote = Next (length (text ++ next)); report = shown (text ++ next) old }
+      → written_at (shown text old) (length text) next ≡ record { wrote = Some (length (text ++ next)); report = shown (text ++ next) old }
   written_on fits =
       sym (written_next (shown text old) (length text) next (rw shown-long fits)) ∙ rw (shown-laid, ← length-append text next)
 
   pub written-stop : min (length old) most_room < length text + length next
-      → written_at (shown text old) (length text) next ≡ record { wrote = Full; report = shown text old }
+      → written_at (shown text old) (length text) next ≡ record { wrote = None; report = shown text old }
   written-stop full = sym (written-full (shown text old) (length text) next (rw shown-long full))

@@ -4,6 +4,7 @@ use mathlib.Core.List.{[], ◌∷◌}
 use Rattle.model.specs.Report.{bytes, digits_step, digits_for, decimal, spaced, line}
 use Rattle.base_protocol.specs.declared.Step.TheVariants as ask
 use Rattle.base_protocol.specs.declared.Verdict.TheVariants as verdict
+use Rattle.base_protocol.specs.declared.Refusal.TheVariants as why
 use Rattle.base_protocol.specs.declared.Answer.TheVariants as tell
 use Rattle.report.specs.Lines.{line_for}
 
@@ -76,6 +77,6 @@ pub tells-mark : line_for (ask.Validate 3) (tell.Judged verdict.Mark) [] ≡ byt
 unfolding computes
 tells-mark = refl
 
-pub tells-refused : line_for (ask.Prepare 3) (tell.Refused 14) [] ≡ bytes "prepare 14\n"
+pub tells-refused : line_for (ask.Prepare 3) (tell.Refused why.Conflict) [] ≡ bytes "prepare 14\n"
 unfolding computes
 tells-refused = refl

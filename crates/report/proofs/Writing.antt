@@ -9,7 +9,7 @@ use lib.ListN.{length, take, drop, set, length-append, length-drop, drop_of_leng
 use lib.Seq.{take_all, drop-drop}
 use Rattle.model.specs.Report.{spaced, line}
 use Rattle.model.specs.Replay.{most_room}
-use Rattle.report.specs.declared.Wrote.TheVariants.{Next, Full}
+use Rattle.std.specs.Prelude.{Some, None}
 use Rattle.report.specs.Written.{laid, written_at}
 use Rattle.report.proofs.Laid.{then-store, then-text}
 use Rattle.report.proofs.Spaced.{two-long, line-long}
@@ -28,12 +28,12 @@ line-done old w ns l₁ l₂ p₁ p₂ fits e₁ q₁ e₂ q₂ =
     then-store old 0 (w ++ spaced ns) l₂ p₂ text (omega arith) 10 (omega arith)
 
 module _ (old : List ℕ) (at : ℕ) (text : List ℕ) where
-  pub written-full : min (length old) most_room < at + length text → record { wrote = Full; report = old } ≡ written_at old at text
+  pub written-full : min (length old) most_room < at + length text → record { wrote = None; report = old } ≡ written_at old at text
   unfolding written_at
   written-full h = rw (lt-leb (at + length text) (min (length old) most_room) h)
 
   pub written_next : at + length text ≤ min (length old) most_room
-      → record { wrote = Next (at + length text); report = laid old at text } ≡ written_at old at text
+      → record { wrote = Some (at + length text); report = laid old at text } ≡ written_at old at text
   unfolding written_at
   written_next h = rw (le-leb (at + length text) (min (length old) most_room) h)
 

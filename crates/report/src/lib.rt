@@ -9,18 +9,11 @@ ghost use Rattle.report_answers.specs.Answers.{number_of, verdict_values, values
 ghost use Rattle.report.specs.Written.{laid, written_at};
 ghost use Rattle.report.specs.Lines.{open_line, bad_line, line_for, longest_line};
 
-use base_numbers::lesser_usize;
-use base_protocol::{Answer, MALFORMED, Step, Verdict};
+use base_protocol::{Answer, Refusal, Step, Verdict};
 use report_answers::{Numbers, numbers_of};
 
-// Where the next line begins, or that the line does not fit.
-#[derive(Clone, Copy)]
-pub enum Wrote {
-    Next(usize),
-    Full,
-}
-
 // Room beyond this is not used.
+// Stays a bound in each contract that needs it: it is of the room in two, of a list's length in two and of a word's in one, so of no one value.
 const MOST_ROOM: usize = 4294967295;
 
 // The longest name of a kind: `validate`.
@@ -38,26 +31,21 @@ const MOST_NUMBERS: usize = 5;
 fn room_of(long: usize) -> usize
     ensures { result ≡ min long most_room }
 {
-    lesser_usize(long, MOST_ROOM)
+    long.min(MOST_ROOM)
 }
 
 // How many digits n has.
+// Stays by hand, with `put_digits`: Display tells no width before it writes, and a line that does not fit is not begun.
 fn width(n: u64) -> usize
     ensures { (result ≡ length (decimal n)) × (result ≤ 20) }
 {
-    if n < 10 {
-        return 1;
+    match n {
+        ..10 => 1,
+        ..100 => 2,
+        ..1000 => 3,
+        ..10000 => 4,
+        _ => width(n / 10000) + 4,
     }
-    if n < 100 {
-        return 2;
-    }
-    if n < 1000 {
-        return 3;
-    }
-    if n < 10000 {
-        return 4;
-    }
-    width(n / 10000) + 4
 }
 
 // How long the numbers are, each after its space.
@@ -66,10 +54,8 @@ fn spaced_width(list: &[u64]) -> usize
     ensures { (result ≡ length (spaced list.now)) × (result ≤ 21 * length list.now) }
 {
     let mut long = 0;
-    let mut i = 0;
-    while i < list.len() {
-        long += 1 + width(list[i]);
-        i += 1;
+    for n in list {
+        long += 1 + width(*n);
     }
     long
 }
@@ -79,15 +65,12 @@ fn put_word(out: &mut [u8], word: &[u8]) -> usize
     requires { length word.now ≤ length out.old }
     ensures { (result ≡ length word.now) × (out.new ≡ laid out.old 0 word.now) }
 {
-    let mut i = 0;
-    while i < word.len() {
-        out[i] = word[i];
-        i += 1;
-    }
-    i
+    out[..word.len()].copy_from_slice(word);
+    word.len()
 }
 
 // Writes n from `at` on, and returns the place after it.
+// Stays with `out` and `at`, as the functions below: methods of a struct of both would promise the same of each, and besides that they keep the lent bytes.
 fn put_digits(out: &mut [u8], at: usize, n: u64) -> usize
     requires { at + length (decimal n) ≤ length out.old }
     ensures { (result ≡ at + length (decimal n)) × (out.new ≡ laid out.old at (decimal n)) }
@@ -102,12 +85,10 @@ fn put_digits(out: &mut [u8], at: usize, n: u64) -> usize
         return at + 2;
     }
     let end = at + width(n);
-    let mut p = end;
     let mut rest = n;
-    while p > at {
-        p -= 1;
+    for p in (at..end).rev() {
         out[p] = b'0' + (rest % 10) as u8;
-        rest = rest / 10;
+        rest /= 10;
     }
     end
 }
@@ -136,101 +117,64 @@ fn put_spaced(out: &mut [u8], at: usize, list: &[u64]) -> usize
     ensures { (result ≡ at + length (spaced list.now)) × (out.new ≡ laid out.old at (spaced list.now)) }
 {
     let mut p = at;
-    let mut i = 0;
-    while i < list.len() {
-        p = put_number(out, p, list[i]);
-        i += 1;
+    for n in list {
+        p = put_number(out, p, *n);
     }
     p
 }
 
-// Writes a line at the front of the rest of the report.
-fn put_line(rest: &mut [u8], word: &[u8], numbers: &[u64], rows: &[u64])
-    requires { length (line word.now (numbers.now ++ rows.now)) ≤ length rest.old }
-    ensures { rest.new ≡ laid rest.old 0 (line word.now (numbers.now ++ rows.now)) }
+// Writes a word and a number, from `at` on, or nothing where the line does not fit.
+fn write_line(report: &mut [u8], at: usize, word: &[u8], number: u64) -> Option<usize>
+    requires { length word.now ≤ most_room }
+    ensures { record { wrote = result; report = report.new } ≡ written_at report.old at (line word.now (number ∷ [])) }
 {
-    let a = put_word(rest, word);
-    let b = put_spaced(rest, a, numbers);
-    let end = put_spaced(rest, b, rows);
-    rest[end] = b'\n';
-}
-
-// Writes a word, then numbers and rows, from `at` on, or nothing where the line does not fit.
-fn write_line(report: &mut [u8], at: usize, word: &[u8], numbers: &[u64], rows: &[u64]) -> Wrote
-    ensures { record { wrote = result; report = report.new }
-        ≡ written_at report.old at (line word.now (numbers.now ++ rows.now)) }
-{
-    if word.len() > MOST_ROOM {
-        return Wrote::Full;
-    }
-    if numbers.len() > MOST_ROOM {
-        return Wrote::Full;
-    }
-    if rows.len() > MOST_ROOM {
-        return Wrote::Full;
-    }
-    let long = word.len() + spaced_width(numbers) + spaced_width(rows) + 1;
+    let long = word.len() + 1 + width(number) + 1;
     let room = room_of(report.len());
-    if at > room {
-        return Wrote::Full;
+    if at > room || room - at < long {
+        return None;
     }
-    if room - at < long {
-        return Wrote::Full;
-    }
-    put_line(&mut report[at..], word, numbers, rows);
-    Wrote::Next(at + long)
+    let rest = &mut report[at..];
+    let behind_word = put_word(rest, word);
+    let end = put_number(rest, behind_word, number);
+    rest[end] = b'\n';
+    Some(at + long)
 }
 
 // ---- the line of an answer
 
 // How long the kind's name is.
+// Stays beside the names in `put_kind`: there each is a constant, copied by a store or two, and a width is asked for only at the end of a report.
 fn kind_width(step: Step) -> usize
     ensures { result ≡ length (word_of (asked step)) }
 {
     match step {
-        Step::Begin => 5,
-        Step::Capture { number: _, key: _ } => 7,
-        Step::Collect { number: _ } => 7,
-        Step::Rows { number: _, room: _ } => 4,
-        Step::Put {
-            number: _,
-            row: _,
-            key: _,
-            payload: _,
-        } => 3,
-        Step::Erase { number: _, row: _ } => 5,
-        Step::Prepare { number: _ } => 7,
-        Step::Install { number: _ } => 7,
-        Step::End { number: _ } => 3,
-        Step::Publish { number: _ } => 7,
-        Step::Validate { number: _ } => 8,
-        Step::Abort { number: _ } => 5,
+        Step::Put { .. } | Step::End { .. } => 3,
+        Step::Rows { .. } => 4,
+        Step::Begin | Step::Erase { .. } | Step::Abort { .. } => 5,
+        Step::Validate { .. } => 8,
+        _ => 7,
     }
 }
 
 // Writes the kind's name at the front, and returns the place after it.
+// Stays an arm for each kind: docs/DECISIONS.md, "Language forms that document 01 names", has a constant word written for each.
 fn put_kind(rest: &mut [u8], step: Step) -> usize
     requires { length (word_of (asked step)) ≤ length rest.old }
     ensures { (result ≡ length (word_of (asked step))) × (rest.new ≡ laid rest.old 0 (word_of (asked step))) }
 {
     match step {
         Step::Begin => put_word(rest, b"begin"),
-        Step::Capture { number: _, key: _ } => put_word(rest, b"capture"),
-        Step::Collect { number: _ } => put_word(rest, b"collect"),
-        Step::Rows { number: _, room: _ } => put_word(rest, b"rows"),
-        Step::Put {
-            number: _,
-            row: _,
-            key: _,
-            payload: _,
-        } => put_word(rest, b"put"),
-        Step::Erase { number: _, row: _ } => put_word(rest, b"erase"),
-        Step::Prepare { number: _ } => put_word(rest, b"prepare"),
-        Step::Install { number: _ } => put_word(rest, b"install"),
-        Step::End { number: _ } => put_word(rest, b"end"),
-        Step::Publish { number: _ } => put_word(rest, b"publish"),
-        Step::Validate { number: _ } => put_word(rest, b"validate"),
-        Step::Abort { number: _ } => put_word(rest, b"abort"),
+        Step::Capture { .. } => put_word(rest, b"capture"),
+        Step::Collect { .. } => put_word(rest, b"collect"),
+        Step::Rows { .. } => put_word(rest, b"rows"),
+        Step::Put { .. } => put_word(rest, b"put"),
+        Step::Erase { .. } => put_word(rest, b"erase"),
+        Step::Prepare { .. } => put_word(rest, b"prepare"),
+        Step::Install { .. } => put_word(rest, b"install"),
+        Step::End { .. } => put_word(rest, b"end"),
+        Step::Publish { .. } => put_word(rest, b"publish"),
+        Step::Validate { .. } => put_word(rest, b"validate"),
+        Step::Abort { .. } => put_word(rest, b"abort"),
     }
 }
 
@@ -243,17 +187,17 @@ fn put_verdict(rest: &mut [u8], at: usize, verdict: Verdict) -> usize
     match verdict {
         Verdict::Clear => put_pair(rest, at, 0, 0),
         Verdict::Bucket {
-            bucket: b,
-            captured: c,
-            present: p,
+            bucket,
+            captured,
+            present,
         } => {
             let behind_verdict = put_pair(rest, at, 0, 1);
-            let behind_captured = put_pair(rest, behind_verdict, b, c);
-            put_number(rest, behind_captured, p)
+            let behind_captured = put_pair(rest, behind_verdict, bucket, captured);
+            put_number(rest, behind_captured, present)
         }
-        Verdict::Row { row: r, ptr: p } => {
+        Verdict::Row { row, ptr } => {
             let behind_verdict = put_pair(rest, at, 0, 2);
-            put_pair(rest, behind_verdict, r, p)
+            put_pair(rest, behind_verdict, row, ptr)
         }
         Verdict::Mark => put_pair(rest, at, 0, 3),
     }
@@ -267,20 +211,19 @@ fn put_answer(rest: &mut [u8], at: usize, answer: Answer, rows: &[u64]) -> usize
 {
     match answer {
         Answer::Done => put_number(rest, at, 0),
-        Answer::Number(n) => put_pair(rest, at, 0, n),
-        Answer::Stamp(n) => put_pair(rest, at, 0, n),
-        Answer::Count(n) => put_pair(rest, at, 0, n),
+        Answer::Number(n) | Answer::Stamp(n) | Answer::Count(n) => put_pair(rest, at, 0, n),
         Answer::Rows(n) => {
             let behind_count = put_pair(rest, at, 0, n);
-            let said = lesser_usize(n as usize, rows.len());
+            let said = (n as usize).min(rows.len());
             put_spaced(rest, behind_count, &rows[..said])
         }
         Answer::Judged(v) => put_verdict(rest, at, v),
-        Answer::Refused(r) => put_number(rest, at, r),
+        Answer::Refused(why) => put_number(rest, at, u64::from(why)),
     }
 }
 
 // Writes an answer's line at the front of the rest of the report, and tells how long it is.
+// Stays with step, answer and rows apart: the public `answer_line` and the definition `line_for` take them so.
 fn put_answer_line(rest: &mut [u8], step: Step, answer: Answer, rows: &[u64]) -> usize
     requires { length (line_for step answer rows.now) ≤ length rest.old }
     ensures { (result ≡ length (line_for step answer rows.now))
@@ -297,10 +240,7 @@ fn surely_fits(room: usize, rows: usize) -> bool
     requires { room ≤ most_room }
     ensures { result ≡ leb (longest_line rows) room }
 {
-    if rows > room {
-        return false;
-    }
-    LONGEST_WORD + LONGEST_NUMBER * (MOST_NUMBERS + rows) + 1 <= room
+    rows <= room && LONGEST_WORD + LONGEST_NUMBER * (MOST_NUMBERS + rows) + 1 <= room
 }
 
 // How long the line is with these numbers and rows.
@@ -308,8 +248,7 @@ fn answer_width(step: Step, numbers: Numbers, rows: &[u64]) -> usize
     requires { (numbers.count ≤ 5) × (length rows.now ≤ most_room) }
     ensures { result ≡ length (line (word_of (asked step)) (take numbers.count numbers.list ++ rows.now)) }
 {
-    let list = numbers.list;
-    let count = numbers.count;
+    let Numbers { list, count, .. } = numbers;
     kind_width(step) + spaced_width(&list[..count]) + spaced_width(rows) + 1
 }
 
@@ -322,38 +261,37 @@ fn answer_fits(room: usize, step: Step, answer: Answer, rows: &[u64]) -> bool
         return true;
     }
     let numbers = numbers_of(answer);
-    let said = lesser_usize(numbers.rows, rows.len());
-    if said > room {
-        return false;
-    }
-    answer_width(step, numbers, &rows[..said]) <= room
+    let said = numbers.rows.min(rows.len());
+    said <= room && answer_width(step, numbers, &rows[..said]) <= room
 }
 
 // `open` and its number.
-pub fn open_line(report: &mut [u8], at: usize, number: u64) -> Wrote
+pub fn open_line(report: &mut [u8], at: usize, number: u64) -> Option<usize>
     ensures { record { wrote = result; report = report.new } ≡ written_at report.old at (open_line number) }
 {
-    write_line(report, at, b"open", &[number], &[])
+    write_line(report, at, b"open", number)
 }
 
 // `bad 15`.
-pub fn bad_line(report: &mut [u8], at: usize) -> Wrote
+pub fn bad_line(report: &mut [u8], at: usize) -> Option<usize>
     ensures { record { wrote = result; report = report.new } ≡ written_at report.old at bad_line }
 {
-    write_line(report, at, b"bad", &[MALFORMED], &[])
+    write_line(report, at, b"bad", u64::from(Refusal::Malformed))
 }
 
 // The kind's name, the answer's number, and its values; found rows stand at the front of the lent list.
-pub fn answer_line(report: &mut [u8], at: usize, step: Step, answer: Answer, rows: &[u64]) -> Wrote
+pub fn answer_line(
+    report: &mut [u8],
+    at: usize,
+    step: Step,
+    answer: Answer,
+    rows: &[u64],
+) -> Option<usize>
     ensures { record { wrote = result; report = report.new } ≡ written_at report.old at (line_for step answer rows.now) }
 {
     let room = room_of(report.len());
-    if at > room {
-        return Wrote::Full;
+    if at > room || !answer_fits(room - at, step, answer, rows) {
+        return None;
     }
-    if !answer_fits(room - at, step, answer, rows) {
-        return Wrote::Full;
-    }
-    let end = at + put_answer_line(&mut report[at..], step, answer, rows);
-    Wrote::Next(end)
+    Some(at + put_answer_line(&mut report[at..], step, answer, rows))
 }

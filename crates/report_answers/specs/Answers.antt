@@ -4,6 +4,7 @@ use Rattle.base_protocol.specs.declared.Verdict.{Verdict}
 use Rattle.base_protocol.specs.declared.Verdict.TheVariants as verdict
 use Rattle.base_protocol.specs.declared.Answer.{Answer}
 use Rattle.base_protocol.specs.declared.Answer.TheVariants as tell
+use Rattle.base_protocol.specs.View.{number_told}
 use Rattle.report_answers.specs.declared.Numbers.{Numbers}
 
 -- document 01's number for each answer
@@ -14,7 +15,7 @@ number_of (tell.Stamp n) = 0
 number_of (tell.Count n) = 0
 number_of (tell.Rows n) = 0
 number_of (tell.Judged v) = 0
-number_of (tell.Refused number) = number
+number_of (tell.Refused r) = number_told r
 
 -- a verdict and its values
 abbrev pub verdict_values : Verdict → List ℕ
@@ -31,7 +32,7 @@ values_of (tell.Stamp n) rows = n ∷ []
 values_of (tell.Count n) rows = n ∷ []
 values_of (tell.Rows n) rows = n ∷ take n rows
 values_of (tell.Judged v) rows = verdict_values v
-values_of (tell.Refused number) rows = []
+values_of (tell.Refused r) rows = []
 
 -- the first `count` of the list, and then the first `rows` of the lent rows
 abbrev pub numbers_with : Numbers → List ℕ → List ℕ
@@ -60,4 +61,4 @@ held_of (tell.Stamp n) = value_held n 0
 held_of (tell.Count n) = value_held n 0
 held_of (tell.Rows n) = value_held n n
 held_of (tell.Judged v) = verdict_held v
-held_of (tell.Refused number) = number_held number
+held_of (tell.Refused r) = number_held (number_told r)

@@ -7,6 +7,8 @@ ghost use Rattle.report_answers.specs.Answers.{verdict_held, number_held, value_
 use base_protocol::{Answer, Verdict};
 
 // An answer in numbers: the first `count` of the list, and then the first `rows` of the lent rows.
+// Stays a list with its count: the project has no heap, and `held_of` of specs/Answers says both.
+// Stays a clause that count is at most 5: with a ghost field the records of `held_of` would hold a proof of it too, and their meaning may not change.
 #[derive(Clone, Copy)]
 pub struct Numbers {
     pub list: [u64; 5],
@@ -25,16 +27,16 @@ fn verdict_numbers(verdict: Verdict) -> Numbers
             rows: 0,
         },
         Verdict::Bucket {
-            bucket: b,
-            captured: c,
-            present: p,
+            bucket,
+            captured,
+            present,
         } => Numbers {
-            list: [0, 1, b, c, p],
+            list: [0, 1, bucket, captured, present],
             count: 5,
             rows: 0,
         },
-        Verdict::Row { row: r, ptr: p } => Numbers {
-            list: [0, 2, r, p, 0],
+        Verdict::Row { row, ptr } => Numbers {
+            list: [0, 2, row, ptr, 0],
             count: 4,
             rows: 0,
         },
@@ -64,7 +66,7 @@ fn value_numbers(value: u64, rows: usize) -> Numbers
     Numbers {
         list: [0, value, 0, 0, 0],
         count: 2,
-        rows: rows,
+        rows,
     }
 }
 
@@ -74,11 +76,9 @@ pub fn numbers_of(answer: Answer) -> Numbers
 {
     match answer {
         Answer::Done => number_alone(0),
-        Answer::Number(n) => value_numbers(n, 0),
-        Answer::Stamp(n) => value_numbers(n, 0),
-        Answer::Count(n) => value_numbers(n, 0),
+        Answer::Number(n) | Answer::Stamp(n) | Answer::Count(n) => value_numbers(n, 0),
         Answer::Rows(n) => value_numbers(n, n as usize),
         Answer::Judged(v) => verdict_numbers(v),
-        Answer::Refused(r) => number_alone(r),
+        Answer::Refused(why) => number_alone(u64::from(why)),
     }
 }

@@ -28,28 +28,28 @@ returns-then-surely_fits c =
     let most = line-most a.step a.answer a.rows.now _ c.well_formed.1.1.0 (λ i. omega (arith, c.type_inv.rows i)) in
     sym (le-leb (length (line_for a.step a.answer a.rows.now)) a.room (omega arith))
 
-pub returns-then-said-room : goal.returns-then-said-room
-returns-then-said-room c =
+pub returns-else-said-room : goal.returns-else-said-room
+returns-else-said-room c =
     let a = c.args in
     let held = c.numbers_of-numbers.result in
-    let k = c.lesser_usize-said.result in
+    let k = c.min-said.result in
     let said = take k a.rows.now in
-    let long = said-long k held.rows a.rows.now c.lesser_usize-said.ensures in
+    let long = said-long k held.rows a.rows.now c.min-said.ensures in
     let least = spaced-least said in
     let parts = line-two-long (word_of (asked a.step)) (take held.count held.list) said in
-    rw (← line-said a.step a.answer a.rows.now _ held k refl c.numbers_of-numbers.ensures.0 c.lesser_usize-said.ensures)
-    (sym (lt-leb _ a.room (omega arith)))
+    rw (← line-said a.step a.answer a.rows.now _ held k refl c.numbers_of-numbers.ensures.0 c.min-said.ensures)
+    (lt-leb k a.room (omega arith) ∙ sym (lt-leb _ a.room (omega arith)))
 
 pub answer_width-requires : goal.answer_width-requires
 answer_width-requires c =
-    let long = said-long _ _ _ c.lesser_usize-said.ensures in
+    let long = said-long _ _ _ c.min-said.ensures in
     let few = c.numbers_of-numbers.ensures.1 in
     (omega arith, omega arith)
 
-pub returns : goal.returns
-returns c =
+pub returns-then-said-room : goal.returns-then-said-room
+returns-then-said-room c =
     let a = c.args in
     let lined =
-    line-said a.step a.answer a.rows.now _ c.numbers_of-numbers.result c.lesser_usize-said.result refl
-    c.numbers_of-numbers.ensures.0 c.lesser_usize-said.ensures in
+    line-said a.step a.answer a.rows.now _ c.numbers_of-numbers.result c.min-said.result refl
+    c.numbers_of-numbers.ensures.0 c.min-said.ensures in
     ap (λ n. leb n a.room) (c.answer_width.ensures ∙ ap length lined)

@@ -1,47 +1,22 @@
 -- `report::answer_line` meets its contract.
 -- Assumes nothing.
+use Rattle.std.proofs.Common.{◌-◌, length, sym, ◌∙◌, arith}
 use borrow.Author.Tests.{leb-true, leb-false}
-use Prim.Native.Nat.{◌-◌}
-use mathlib.Core.Path.{sym, ◌∙◌}
-use native.Mathlib.Omega.{arith}
-use lib.ListN.{length}
 use Rattle.report.specs.Lines.{line_for}
 use Rattle.report.proofs.Writing.{written-full, written_next, rest-laid}
 use Rattle.report.proofs.answer_line.Goals as goal
+use Rattle.report.proofs.answer_line.Goals.{then-at-room-via-then-at-room, then-at-room-via-else-at-room+then-not-answer_fits}
 
 pub returns-then-at-room : goal.returns-then-at-room
 returns-then-at-room c =
     let a = c.args in
-    let room = c.room_of-room.ensures in
-    written-full a.report.now a.at (line_for a.step a.answer a.rows.now) (omega arith)
-
-pub answer_fits-requires : goal.answer_fits-requires
-answer_fits-requires c = let room = c.room_of-room.ensures in omega arith
-
-pub returns-then-not-answer_fits : goal.returns-then-not-answer_fits
-returns-then-not-answer_fits c =
-    let a = c.args in
     let text = line_for a.step a.answer a.rows.now in
-    let room = c.room_of-room.ensures in
-    let full = leb-false (length text) (c.room_of-room.result - a.at) (sym c.answer_fits.ensures ∙ c.if-not-answer_fits.true) in
-    written-full a.report.now a.at text (omega arith)
-
-pub put_answer_line-requires : goal.put_answer_line-requires
-put_answer_line-requires c =
-    let a = c.args in
-    let text = line_for a.step a.answer a.rows.now in
-    let room = c.room_of-room.ensures in
-    let fits = leb-true (length text) (c.room_of-room.result - a.at) (sym c.answer_fits.ensures ∙ c.if-not-answer_fits.false) in
-    omega arith
-
-pub overflow_add-end : goal.overflow_add-end
-overflow_add-end c =
-    let a = c.args in
-    let text = line_for a.step a.answer a.rows.now in
-    let room = c.room_of-room.ensures in
-    let long = c.put_answer_line.ensures.0 in
-    let fits = leb-true (length text) (c.room_of-room.result - a.at) (sym c.answer_fits.ensures ∙ c.if-not-answer_fits.false) in
-    omega arith
+    elim c.then-at-room.branch [
+      | then-at-room-via-then-at-room w ↦ written-full a.report.now a.at text (omega arith)
+      | then-at-room-via-else-at-room+then-not-answer_fits w ↦
+          let full = leb-false (length text) (c.room_of-room.result - a.at) (sym w.answer_fits.ensures ∙ w.if-not-answer_fits.true) in
+          written-full a.report.now a.at text (omega arith)
+    ]
 
 pub returns : goal.returns
 returns c =

@@ -1,9 +1,6 @@
 -- `report::put_digits` meets its contract.
 -- Assumes nothing.
-use Prim.Native.Nat.{◌+◌, ◌-◌, ◌/◌, ◌%◌}
-use mathlib.Core.Path.{◌≡◌, refl}
-use native.Mathlib.Omega.{arith}
-use lib.ListN.{length, length-set}
+use Rattle.std.proofs.Common.{◌≡◌, ◌+◌, ◌-◌, ◌/◌, ◌%◌, length, arith, length-set}
 use lib.Seq.{take-length, drop-length}
 use Rattle.model.specs.Report.{decimal}
 use Rattle.report.proofs.Digits.{decimal-one, decimal-two, one-long, two-long, digits-left, digit-laid}
@@ -49,8 +46,6 @@ loop-p-init c =
     let long = c.width.ensures.0 in
     let whole : a.at + c.width.result - a.at ≡ length digits = omega arith in (
       omega arith,
-      omega arith,
-      refl,
       λ some. rw whole (take-length digits),
       rw (whole, drop-length digits) (laid_none a.out.now (a.at + c.width.result)),
     )
@@ -59,12 +54,10 @@ pub loop-p-preserved : goal.loop-p-preserved
 loop-p-preserved c =
     let l = c.loop-p in
     let a = c.args in
-    let front = l.invariant.3 c.loop-p-test.true in (
+    let front = l.invariant.1 c.loop-p-test.true in (
       omega arith,
-      omega arith,
-      simp length-set l.invariant.2,
       digits-left a.out.now l.out a.n a.at l.p l.rest (omega arith) (omega arith) front,
-      digit-laid a.out.now l.out a.n a.at l.p l.rest (omega arith) (omega arith) front (omega arith) l.invariant.4,
+      digit-laid a.out.now l.out a.n a.at l.p l.rest (omega arith) (omega arith) front (omega arith) l.invariant.2,
     )
 
 pub returns : goal.returns
@@ -74,4 +67,4 @@ returns c =
     let long = c.width.ensures.0 in
     let first : l.p ≡ a.at = omega arith in
     let none : a.at - a.at ≡ 0 = omega arith in
-    (omega arith, rw none at (rw first at l.invariant.4))
+    (omega arith, rw none at (rw first at l.invariant.2))

@@ -1,68 +1,40 @@
 -- `report::write_line` meets its contract.
 -- Assumes nothing.
-use Prim.Native.Nat.{◌+◌}
-use mathlib.Core.Path.{◌≡◌}
-use mathlib.Core.List.{◌++◌}
-use native.Mathlib.Omega.{arith}
-use lib.ListN.{length}
+use Rattle.std.proofs.Common.{◌≡◌, [], ◌∷◌, ◌+◌, ◌-◌, length, take, drop, arith}
 use Rattle.model.specs.Report.{line}
-use Rattle.report.proofs.Spaced.{spaced-least}
-use Rattle.report.proofs.Writing.{line-two-long, written-full, written_next, rest-laid}
+use Rattle.report.proofs.Spaced.{number-long, line-long}
+use Rattle.report.proofs.Writing.{line-done, written-full, written_next, rest-laid}
 use Rattle.report.proofs.write_line.Goals as goal
-
-pub returns-then-word-gt-MOST_ROOM : goal.returns-then-word-gt-MOST_ROOM
-returns-then-word-gt-MOST_ROOM c =
-    let a = c.args in
-    let long = line-two-long a.word.now a.numbers.now a.rows.now in
-    written-full a.report.now a.at _ (omega arith)
-
-pub returns-then-numbers-gt-MOST_ROOM : goal.returns-then-numbers-gt-MOST_ROOM
-returns-then-numbers-gt-MOST_ROOM c =
-    let a = c.args in
-    let two = spaced-least a.numbers.now in
-    let long = line-two-long a.word.now a.numbers.now a.rows.now in
-    written-full a.report.now a.at _ (omega arith)
-
-pub returns-then-rows-gt-MOST_ROOM : goal.returns-then-rows-gt-MOST_ROOM
-returns-then-rows-gt-MOST_ROOM c =
-    let a = c.args in
-    let two = spaced-least a.rows.now in
-    let long = line-two-long a.word.now a.numbers.now a.rows.now in
-    written-full a.report.now a.at _ (omega arith)
+use Rattle.report.proofs.write_line.Goals.{then-at-room-via-then-at-room, then-at-room-via-else-at-room+then-room-at}
 
 pub returns-then-at-room : goal.returns-then-at-room
 returns-then-at-room c =
     let a = c.args in
-    let r = c.room_of-room.ensures in
-    let long = line-two-long a.word.now a.numbers.now a.rows.now in
-    written-full a.report.now a.at _ (omega arith)
+    let long = line-long a.word.now (a.number ∷ []) in
+    let number = number-long a.number in
+    let text = line a.word.now (a.number ∷ []) in
+    elim c.then-at-room.branch [
+      | then-at-room-via-then-at-room w ↦ written-full a.report.now a.at text (omega arith)
+      | then-at-room-via-else-at-room+then-room-at w ↦ written-full a.report.now a.at text (omega arith)
+    ]
 
-pub returns-then-room-at : goal.returns-then-room-at
-returns-then-room-at c =
-    let a = c.args in
-    let r = c.room_of-room.ensures in
-    let v = c.spaced_width.ensures.0 in
-    let w = c.spaced_width-2.ensures.0 in
-    let long = line-two-long a.word.now a.numbers.now a.rows.now in
-    written-full a.report.now a.at _ (omega arith)
+pub put_number-end-requires : goal.put_number-end-requires
+put_number-end-requires c = let number = number-long c.args.number in omega arith
 
-pub put_line-requires : goal.put_line-requires
-put_line-requires c =
-    let a = c.args in
-    let r = c.room_of-room.ensures in
-    let v = c.spaced_width.ensures.0 in
-    let w = c.spaced_width-2.ensures.0 in
-    let long = line-two-long a.word.now a.numbers.now a.rows.now in
-    omega arith
+pub bounds-rest-end : goal.bounds-rest-end
+bounds-rest-end c = let number = number-long c.args.number in omega arith
 
 pub returns : goal.returns
 returns c =
     let a = c.args in
     let r = c.room_of-room.ensures in
-    let v = c.spaced_width.ensures.0 in
-    let w = c.spaced_width-2.ensures.0 in
-    let text = line a.word.now (a.numbers.now ++ a.rows.now) in
-    let long = line-two-long a.word.now a.numbers.now a.rows.now in
-    let n : length a.word.now + c.spaced_width.result + c.spaced_width-2.result + 1 ≡ length text = omega arith in
-    let l = rest-laid a.report.now a.at text c.put_line.new.rest (omega arith) c.put_line.ensures in
+    let text = line a.word.now (a.number ∷ []) in
+    let long = line-long a.word.now (a.number ∷ []) in
+    let number = number-long a.number in
+    let w = c.put_word-behind_word in
+    let d = c.put_number-end in
+    let rest = take (length a.report.now - a.at) (drop a.at a.report.now) in
+    let done = line-done rest a.word.now (a.number ∷ []) w.new.out d.new.out w.result d.result (omega arith) w.ensures.1 w.ensures.0 d.ensures.1 d.ensures.0 in
+    let n : length a.word.now + 1 + c.width.result + 1 ≡ length text = omega arith in
+    let l = rest-laid a.report.now a.at text _ (omega arith) done in
     rw (n, l) (written_next a.report.now a.at text (omega arith))
