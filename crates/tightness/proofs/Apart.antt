@@ -5,10 +5,10 @@ use mathlib.Core.Path.{◌≡◌, sym, ap, ◌∙◌}
 use mathlib.Core.Bool.{Bool, false, cond, true≢false}
 use lib.Dec.{eqb}
 use borrow.Author.Tests.{eq-eqb}
+use Rattle.std.specs.Prelude.{Option, Some, None}
+use Rattle.base_protocol.specs.View.{number_told}
 use Rattle.base_protocol.specs.declared.Answer.{Answer}
 use Rattle.base_protocol.specs.declared.Answer.TheVariants as tell
-use Rattle.table_scans.specs.declared.Found.{Found}
-use Rattle.table_scans.specs.declared.Found.TheVariants.{At, Nothing}
 use Rattle.txn_needs.specs.Needs.{Listed}
 use Rattle.tightness.specs.Wrong.{Excludes}
 
@@ -36,12 +36,12 @@ number_in (tell.Stamp n) = n
 number_in (tell.Count n) = n
 number_in (tell.Rows n) = n
 number_in (tell.Judged v) = 0
-number_in (tell.Refused n) = n
+number_in (tell.Refused r) = number_told r
 
 -- a place counted from 1, 0 for none
-abbrev pub place_found : Found → ℕ
-place_found (At i) = suc i
-place_found Nothing = 0
+abbrev pub place_found : Option ℕ → ℕ
+place_found (Some i) = suc i
+place_found None = 0
 
 -- how many numbers are listed
 abbrev pub count : Listed → ℕ

@@ -10,7 +10,7 @@ use Rattle.tightness.specs.Wrong.{Excludes}
 use Rattle.tightness.proofs.Apart.{apart, itself, bit}
 use Rattle.tightness.proofs.Computes.{computes}
 
--- what the contracts of `lesser_u32`, `lesser_u64` and `lesser_usize` ask for: each theorem below is of all three
+-- what the contract of the library's `min` asks for, which `u32`, `u64` and `usize` have alike: each theorem below is of all three
 abbrev lesser : ℕ × ℕ → ℕ
 lesser (a, b) = min a b
 

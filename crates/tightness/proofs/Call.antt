@@ -5,13 +5,13 @@ use mathlib.Core.Path.{◌≡◌, refl}
 use mathlib.Core.Bool.{true, cond, not}
 use mathlib.Core.List.{List, []}
 use lib.ListN.{get_or, set}
-use Rattle.model.specs.Refusals.{WrongShape, refusal_number}
+use Rattle.model.specs.Refusals.{WrongSize, WrongShape}
 use Rattle.model.specs.Machine.{can_open}
 use Rattle.base_protocol.specs.declared.Step.{Step}
 use Rattle.base_protocol.specs.declared.Step.TheVariants as ask
 use Rattle.base_protocol.specs.declared.Answer.TheVariants as tell
 use Rattle.base_protocol.specs.declared.Sizes.{Sizes}
-use Rattle.base_protocol.specs.View.{sizes_view}
+use Rattle.base_protocol.specs.View.{sizes_view, refusal_told}
 use Rattle.table.specs.Fields.{row_words, version_words, bucket_words}
 use Rattle.txn.specs.Methods.{idle_of}
 use Rattle.txn.specs.declared.Phase.TheVariants as phase
@@ -44,8 +44,8 @@ opened_over rows versions buckets lists z clock = record { answer = tell.Done; w
 
 -- `open`: a table shorter than its size gets 1
 pub open-short-is-one : Excludes opens (λ (rows, versions, buckets, lists, z, clock).
-    cond (not (can_open (sizes_view z) clock)) (refused_open 1 rows versions buckets lists)
-    (cond (not (tables_lent rows versions buckets lists z)) (refused_open 1 rows versions buckets lists)
+    cond (not (can_open (sizes_view z) clock)) (refused_open (refusal_told WrongSize) rows versions buckets lists)
+    (cond (not (tables_lent rows versions buckets lists z)) (refused_open (refusal_told WrongSize) rows versions buckets lists)
     (opened_over (cleared (row_words * z.rows) rows) (cleared (version_words * suc z.versions) versions) (cleared (bucket_words * z.buckets) buckets)
     lists z clock)))
 unfolding computes
@@ -53,8 +53,8 @@ open-short-is-one = apart nothing (λ (l : Left). number_in l.answer) refl
 
 -- `open`: the versions keep what stood there
 pub open-versions-kept : Excludes opens (λ (rows, versions, buckets, lists, z, clock).
-    cond (not (can_open (sizes_view z) clock)) (refused_open 1 rows versions buckets lists)
-    (cond (not (tables_lent rows versions buckets lists z)) (refused_open 16 rows versions buckets lists)
+    cond (not (can_open (sizes_view z) clock)) (refused_open (refusal_told WrongSize) rows versions buckets lists)
+    (cond (not (tables_lent rows versions buckets lists z)) (refused_open (refusal_told WrongShape) rows versions buckets lists)
     (opened_over (cleared (row_words * z.rows) rows) versions (cleared (bucket_words * z.buckets) buckets) lists z clock)))
 unfolding computes
 open-versions-kept = apart littered (λ (l : Left). get_or l.words.tables.versions 0 0) refl
@@ -95,6 +95,6 @@ claimed-shape = refl
 -- what carries the number of a transaction that ended is freed only where the transaction lists it
 pub call-unswept : Excludes calls
     (λ (l, m, s). cond (shape_of (over l m)) (record { answer = (moved_by (over l m) s).stepped.answer; words = words_after (over l m) s })
-    (record { answer = tell.Refused (refusal_number WrongShape); words = over l m }))
+    (record { answer = tell.Refused (refusal_told WrongShape); words = over l m }))
 unfolding computes call_of
 call-unswept = apart (claimed, machine phase.Open, ask.Abort 1) (λ (l : Left). get_or l.words.tables.rows 1 0) (rw claimed-shape)

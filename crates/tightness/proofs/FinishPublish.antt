@@ -7,7 +7,8 @@ use mathlib.Core.List.{List, [], ◌∷◌}
 use lib.Dec.{eqb}
 use lib.ListN.{get_or, set}
 use Rattle.model.specs.Store.{rank, phase_installed}
-use Rattle.model.specs.Refusals.{WrongPhase, refusal_number}
+use Rattle.model.specs.Refusals.{WrongPhase}
+use Rattle.base_protocol.specs.View.{refusal_told}
 use Rattle.base_protocol.specs.declared.Answer.TheVariants as tell
 use Rattle.base_protocol.specs.declared.Extent.{Extent}
 use Rattle.table.specs.Fields.{clear_claims}
@@ -31,7 +32,7 @@ end-any-phase = apart (live 1 phase.Open) (λ (a : Answered). number_in a.answer
 
 -- `end`: the transaction stays Installed
 pub end-stays-installed : Excludes end_of
-    (λ t. cond (not (eqb (rank (phase_view t.phase)) phase_installed)) (refused_of t (refusal_number WrongPhase)) (record { answer = tell.Done; txn = t }))
+    (λ t. cond (not (eqb (rank (phase_view t.phase)) phase_installed)) (refused_of t (refusal_told WrongPhase)) (record { answer = tell.Done; txn = t }))
 unfolding computes
 end-stays-installed = apart (live 1 phase.Installed) (λ (a : Answered). rank (phase_view a.txn.phase)) refl
 

@@ -8,8 +8,7 @@ use denote.Ref.{Bor}
 use Rattle.model.specs.Log.{length_in}
 use Rattle.log_records.specs.declared.Decoded.{Decoded}
 use Rattle.log_records.specs.declared.Reader.{Reader}
-use Rattle.log_records.specs.declared.Taken.{Taken}
-use Rattle.log_records.specs.Records.{decoded_of, reader_at, taken_by}
+use Rattle.log_records.specs.Records.{decoded_of, reader_at, Taken, taken_by}
 use Rattle.tightness.specs.Wrong.{Excludes}
 use Rattle.tightness.proofs.Apart.{apart}
 use Rattle.tightness.proofs.Computes.{computes}

@@ -7,6 +7,8 @@ use mathlib.Core.List.{List, [], ◌∷◌, ◌++◌}
 use lib.Dec.{eqb}
 use lib.ListN.{get_or, replicate}
 use Rattle.model.specs.Store.{rank, phase_collected}
+use Rattle.model.specs.Refusals.{WrongPhase}
+use Rattle.base_protocol.specs.View.{refusal_told}
 use Rattle.base_protocol.specs.declared.Extent.{Extent}
 use Rattle.table.specs.Fields.{version_words}
 use Rattle.txn.specs.View.{phase_view}
@@ -57,7 +59,7 @@ seen = (
 
 -- `rows`: the version read is not recorded
 pub rows-unrecorded : Excludes reads (λ (rows, versions, lists, found, e, t, room).
-    cond (not (eqb (rank (phase_view t.phase)) phase_collected)) (refused_rows lists found t 5)
+    cond (not (eqb (rank (phase_view t.phase)) phase_collected)) (refused_rows lists found t (refusal_told WrongPhase))
     (answer_of lists found (matched_rows (look rows versions lists (reading_by e t room)) e.sizes.rows) [] (reading_by e t room)))
 unfolding computes
 rows-unrecorded = apart seen (λ (l : LeftRows). l.reply.txn.records_n) refl

@@ -5,10 +5,9 @@ use mathlib.Core.Path.{refl}
 use mathlib.Core.Bool.{cond}
 use mathlib.Core.List.{List, []}
 use lib.Dec.{eqb}
+use Rattle.std.specs.Prelude.{Option, Some, None}
 use Rattle.table.specs.Lists.{write_at}
 use Rattle.table_scans.specs.Scans.{latest_pending}
-use Rattle.table_scans.specs.declared.Found.{Found}
-use Rattle.table_scans.specs.declared.Found.TheVariants as place
 use Rattle.txn.specs.declared.Phase.TheVariants as phase
 use Rattle.read_match.specs.declared.Reading.{Reading}
 use Rattle.read_match.specs.declared.Match.{Match}
@@ -31,14 +30,14 @@ abbrev asks : List ℕ → ℕ → Given
 asks lists k = ([], [], lists, record { txn = writer (phase.Collected k); key = k; used = 0; room = 0 }, 0)
 
 -- `match_of`: own pending writes are not looked at
-pub match-of-writes-unseen : Excludes matches (λ (rows, versions, lists, d, r). match_by (look rows versions lists d) r place.Nothing)
+pub match-of-writes-unseen : Excludes matches (λ (rows, versions, lists, d, r). match_by (look rows versions lists d) r None)
 unfolding computes
 match-of-writes-unseen = apart (asks puts 5) (λ m. bit (is_match m)) refl
 
 -- a pending write matches by its key word alone
-abbrev by_key_word : Look → ℕ → Found → Match
-by_key_word l r (place.At i) = cond (eqb (write_at l.lists l.reading.txn.slot i).key l.reading.key) Write No
-by_key_word l r place.Nothing = match_by l r place.Nothing
+abbrev by_key_word : Look → ℕ → Option ℕ → Match
+by_key_word l r (Some i) = cond (eqb (write_at l.lists l.reading.txn.slot i).key l.reading.key) Write No
+by_key_word l r None = match_by l r None
 
 -- `match_of`: an erase matches key 0
 pub match-of-erase : Excludes matches

@@ -1,13 +1,12 @@
 -- Wrong bodies of the crate `read_record`.
 -- Assumes nothing.
+use Rattle.std.specs.Prelude.{Option, Some, None}
 use Prim.Native.Nat.{ℕ, suc, ◌+◌}
 use mathlib.Core.Path.{refl}
 use mathlib.Core.List.{List, [], ◌∷◌}
 use lib.ListN.{length}
 use Rattle.base_limits.specs.Limits.{most_records}
 use Rattle.read_record.specs.Recording.{known_pointers, planned, records_for, put_records, LeftRecords, kept_records, recorded_of}
-use Rattle.read_record.specs.declared.Recorded.{Recorded}
-use Rattle.read_record.specs.declared.Recorded.TheVariants.{TooMany, Kept}
 use Rattle.tightness.specs.Wrong.{Excludes}
 use Rattle.tightness.proofs.Apart.{apart}
 use Rattle.tightness.proofs.Computes.{computes}
@@ -20,9 +19,9 @@ abbrev records : Given → LeftRecords
 records (versions, lists, rows, ptrs, slot, n) = recorded_of versions lists rows ptrs slot n
 
 -- 0 where they are too many, else one more than there are
-abbrev told_by : Recorded → ℕ
-told_by TooMany = 0
-told_by (Kept n) = suc n
+abbrev told_by : Option ℕ → ℕ
+told_by None = 0
+told_by (Some n) = suc n
 
 -- `record_versions`: a pointer met again is recorded again
 pub record-versions-again : Excludes records (λ (versions, lists, rows, ptrs, slot, n). kept_records lists slot n (records_for versions rows ptrs) ptrs)
@@ -33,6 +32,6 @@ record-versions-again = apart ([], [], 0 ∷ 1 ∷ [], 1 ∷ 1 ∷ [], 0, 0) (λ
 pub record-versions-any-number : Excludes records (λ (versions, lists, rows, ptrs, slot, n).
     let ps = planned (known_pointers lists slot n) ptrs in
     let new = records_for versions rows ps in
-    record { told = Kept (n + length new); lists = put_records lists slot n new; pointers = ps })
+    record { told = Some (n + length new); lists = put_records lists slot n new; pointers = ps })
 unfolding computes
 record-versions-any-number = apart ([], [], 0 ∷ [], 1 ∷ [], 0, most_records) (λ (l : LeftRecords). told_by l.told) refl

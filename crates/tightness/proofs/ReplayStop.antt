@@ -5,8 +5,7 @@ use mathlib.Core.Path.{refl}
 use mathlib.Core.List.{List}
 use lib.ListN.{get_or}
 use Rattle.model.specs.Refusals.{WrongSize, Malformed, WrongShape, refusal_number}
-use Rattle.report.specs.declared.Wrote.{Wrote}
-use Rattle.report.specs.declared.Wrote.TheVariants.{Next, Full}
+use Rattle.std.proofs.Common.{Option, Some, None}
 use Rattle.report.specs.Written.{written_at}
 use Rattle.report.specs.Lines.{open_line, bad_line}
 use Rattle.replay.specs.declared.stop.Stopped.{Stopped}
@@ -17,7 +16,7 @@ use Rattle.tightness.proofs.Computes.{computes}
 use Rattle.tightness.proofs.Small.{blank}
 
 -- what the contracts of `stop_after`, `stop_malformed` and `stop_unopened` ask for
-abbrev after : Wrote × ℕ × ℕ → Stopped
+abbrev after : Option ℕ × ℕ × ℕ → Stopped
 after (line, status, at) = stop_after line status at
 
 abbrev malformed : List ℕ × ℕ → Left
@@ -35,11 +34,11 @@ byte i l = get_or l.report i 0
 
 -- `stop_after`: the status stays where the line did not fit
 pub stop-after-no-room : Excludes after (λ (line, status, at). record { status = status; wrote = (after (line, status, at)).wrote })
-stop-after-no-room = apart (Full, 1, 0) (λ (s : Stopped). s.status) refl
+stop-after-no-room = apart (None, 1, 0) (λ (s : Stopped). s.status) refl
 
 -- `stop_after`: the last line is not counted
 pub stop-after-last-line : Excludes after (λ (line, status, at). record { status = (after (line, status, at)).status; wrote = at })
-stop-after-last-line = apart (Next 1, 0, 0) (λ (s : Stopped). s.wrote) refl
+stop-after-last-line = apart (Some 1, 0, 0) (λ (s : Stopped). s.wrote) refl
 
 -- `stop_malformed`: the status of a wrong size
 pub stop-malformed-size : Excludes malformed (λ (report, at). stop_with (written_at report at bad_line) (refusal_number WrongSize) at)

@@ -3,6 +3,8 @@
 use Prim.Native.Nat.{ℕ}
 use mathlib.Core.Path.{refl}
 use lib.ListN.{get_or}
+use Rattle.base_protocol.specs.View.{number_told}
+use Rattle.base_protocol.specs.declared.Refusal.TheVariants as why
 use Rattle.base_protocol.specs.declared.Answer.{Answer}
 use Rattle.base_protocol.specs.declared.Answer.TheVariants as tell
 use Rattle.report_answers.specs.declared.Numbers.{Numbers}
@@ -18,11 +20,11 @@ tells refused found (tell.Stamp n) = value_held n 0
 tells refused found (tell.Count n) = value_held n 0
 tells refused found (tell.Rows n) = found n
 tells refused found (tell.Judged v) = verdict_held v
-tells refused found (tell.Refused n) = refused n
+tells refused found (tell.Refused r) = refused (number_told r)
 
 -- `numbers_of`: a refusal is 0 with its number as a value
 pub numbers-of-refusal-valued : Excludes held_of (tells (λ n. value_held n 0) (λ n. value_held n n))
-numbers-of-refusal-valued = apart (tell.Refused 7) (λ (s : Numbers). get_or s.list 0 0) refl
+numbers-of-refusal-valued = apart (tell.Refused why.Taken) (λ (s : Numbers). get_or s.list 0 0) refl
 
 -- `numbers_of`: found rows are counted and not said
 pub numbers-of-rows-unsaid : Excludes held_of (tells number_held (λ n. value_held n 0))

@@ -1,13 +1,14 @@
 -- Wrong bodies of the crate `table_buckets`.
 -- Assumes nothing.
+use Rattle.std.specs.Prelude.{Result, Ok, Err}
 use Prim.Native.Nat.{ℕ, ◌+◌, ◌%◌, ◌/◌}
 use mathlib.Core.Path.{refl}
 use mathlib.Core.List.{List, [], ◌∷◌, reverse}
 use lib.Dec.{leb}
 use lib.ListN.{length, get_or}
 use Rattle.base_limits.specs.Limits.{most_buckets}
-use Rattle.table_buckets.specs.declared.Canonical.{Canonical}
-use Rattle.table_buckets.specs.declared.Canonical.TheVariants.{Sorted, Bad, NoRoom}
+use Rattle.table_buckets.specs.declared.ListError.{ListError}
+use Rattle.table_buckets.specs.declared.ListError.TheVariants.{Bad, NoRoom}
 use Rattle.table_buckets.specs.Buckets.{precedes, counted, buckets_of, check_of, sorted_count, Made, answered, canonical_of}
 use Rattle.tightness.specs.Wrong.{Excludes}
 use Rattle.tightness.proofs.Apart.{apart, itself, bit}
@@ -30,18 +31,18 @@ pub bucket-of-quotient : Excludes {A = ℕ × ℕ} (λ (count, key). key % count
 bucket-of-quotient = apart (4, 2) itself refl
 
 -- the number in an answer
-abbrev number_of : Canonical → ℕ
-number_of (Sorted n) = n
-number_of (Bad b) = b
-number_of NoRoom = 0
+abbrev number_of : Result ℕ ListError → ℕ
+number_of (Ok n) = n
+number_of (Err (Bad b)) = b
+number_of (Err NoRoom) = 0
 
 -- `sorted_count`: a bad bucket counts as many
-pub sorted-count-bad : Excludes (λ (a : Canonical). sorted_count a) (λ a. number_of a)
-sorted-count-bad = apart (Bad 7) itself refl
+pub sorted-count-bad : Excludes (λ (a : Result ℕ ListError). sorted_count a) (λ a. number_of a)
+sorted-count-bad = apart (Err (Bad 7)) itself refl
 
 -- `sorted_count`: none, whatever was listed
-pub sorted-count-none : Excludes (λ (a : Canonical). sorted_count a) (λ a. 0)
-sorted-count-none = apart (Sorted 2) itself refl
+pub sorted-count-none : Excludes (λ (a : Result ℕ ListError). sorted_count a) (λ a. 0)
+sorted-count-none = apart (Ok 2) itself refl
 
 -- what the contracts of `canonical_buckets_sort` and `canonical_buckets_bitmap` ask for: each theorem below is of both
 abbrev canonical : List ℕ × ℕ × List ℕ → Made

@@ -4,11 +4,11 @@ use Prim.Native.Nat.{ℕ, ◌+◌, ◌-◌, min}
 use mathlib.Core.Path.{refl}
 use mathlib.Core.Bool.{Bool}
 use mathlib.Core.List.{List, [], ◌∷◌, map}
+use Rattle.std.specs.Prelude.{Option}
 use Rattle.base_limits.specs.Limits.{most_index_reads, most_writes, most_records}
 use lib.ListN.{take}
 use Rattle.base_lists.specs.Lists.{member, least}
 use Rattle.table.specs.Lists.{records, reads_of, writes_of, records_of}
-use Rattle.table_scans.specs.declared.Found.{Found}
 use Rattle.table_scans.specs.Scans as spec
 use Rattle.tightness.specs.Wrong.{Excludes}
 use Rattle.tightness.proofs.Apart.{apart, itself, bit, place_found}
@@ -22,13 +22,13 @@ active_contains (active, n, x) = spec.is_active active n x
 abbrev least_of : ℕ × List ℕ × ℕ → ℕ
 least_of (x, active, n) = least x (take n active)
 
-abbrev latest_pending : List ℕ × ℕ × ℕ × ℕ → Found
+abbrev latest_pending : List ℕ × ℕ × ℕ × ℕ → Option ℕ
 latest_pending (lists, slot, n, row) = spec.latest_pending lists slot n row
 
 abbrev read_already_recorded : List ℕ × ℕ × ℕ × ℕ → Bool
 read_already_recorded (lists, slot, n, ptr) = spec.already_recorded lists slot n ptr
 
-abbrev find_read_prefix : List ℕ × ℕ × ℕ × ℕ → Found
+abbrev find_read_prefix : List ℕ × ℕ × ℕ × ℕ → Option ℕ
 find_read_prefix (lists, slot, n, bucket) = spec.read_prefix lists slot n bucket
 
 -- `active_contains`: numbers behind the first n count

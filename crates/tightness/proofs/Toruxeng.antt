@@ -6,7 +6,8 @@ use mathlib.Core.Bool.{true, false, true≢false}
 use lib.Dec.{eqb}
 use lib.ListN.{get_or}
 use Rattle.model.specs.Store.{bucket_in}
-use Rattle.model.specs.Refusals.{Full, NoSuch, refusal_number}
+use Rattle.model.specs.Refusals.{Full, NoSuch}
+use Rattle.base_protocol.specs.View.{refusal_told}
 use Rattle.base_protocol.specs.declared.Step.{Step}
 use Rattle.base_protocol.specs.declared.Step.TheVariants as ask
 use Rattle.base_protocol.specs.declared.Answer.TheVariants as tell
@@ -120,7 +121,7 @@ unfolding computes
 begin-not-kept = apart (lent, machine phase.Open) (λ (l : Left). l.words.clock) (rw (call-done phase.Open refl ask.Begin))
 
 -- `toruxeng::begin`: always no free place
-pub begin-full : Excludes begin (λ (l, m). record { answer = tell.Refused (refusal_number Full); words = over l m })
+pub begin-full : Excludes begin (λ (l, m). record { answer = tell.Refused (refusal_told Full); words = over l m })
 unfolding computes
 begin-full = apart (lent, machine phase.Open) code (rw (call-done phase.Open refl ask.Begin))
 
@@ -152,7 +153,7 @@ unfolding computes
 placed s e = rw e
 
 strange-step : (s : Step) → is_begin s ≡ false → wanted_of s ≡ 2
-    → moved_by (store phase.Ended) s ≡ stays (record { answer = tell.Refused (refusal_number NoSuch); txn = live 1 phase.Ended; clock = 2; used = 0 })
+    → moved_by (store phase.Ended) s ≡ stays (record { answer = tell.Refused (refusal_told NoSuch); txn = live 1 phase.Ended; clock = 2; used = 0 })
     (store phase.Ended).tables
 unfolding computes
 strange-step s b e = rw (placed s e, missed s b e)

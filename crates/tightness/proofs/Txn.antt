@@ -8,10 +8,12 @@ use lib.Dec.{eqb, leb}
 use lib.ListN.{get_or}
 use Rattle.base_limits.specs.Limits.{most_rows}
 use Rattle.model.specs.Store.{rank, phase_holding, phase_prepared, phase_installed, bucket_in, key_in}
-use Rattle.model.specs.Refusals.{WrongPhase, Marked, ManyWrites, refusal_number}
+use Rattle.model.specs.Refusals.{WrongPhase, Taken, Marked, ManyWrites}
+use Rattle.base_protocol.specs.View.{refusal_told}
 use Rattle.table.specs.Fields.{first_of}
 use Rattle.table.specs.Lists.{writes}
 use Rattle.table_postings.specs.Postings.{list_for, follow, keyed_of, listed_with}
+use Rattle.base_protocol.specs.declared.Refusal.{Refusal}
 use Rattle.txn.specs.declared.Phase.{Phase}
 use Rattle.txn.specs.declared.Phase.TheVariants as phase
 use Rattle.txn.specs.declared.Transaction.{Transaction}
@@ -114,12 +116,12 @@ pub whole_open : Excludes (λ p. whole_of p) (λ p. with_phase (whole_of p) phas
 whole_open = apart (parts_of (live 5 phase.Ended)) (λ (t : Transaction). rank (phase_view t.phase)) refl
 
 -- `refused`: the record comes back marked
-pub refused-marks : Excludes {A = Transaction × ℕ} (λ (t, why). refused_of t why) (λ (t, why). refused_of (with_mark t) why)
-refused-marks = apart (idle_of 0, 5) (λ (a : Answered). bit a.txn.marked) refl
+pub refused-marks : Excludes {A = Transaction × Refusal} (λ (t, why). refused_of t why) (λ (t, why). refused_of (with_mark t) why)
+refused-marks = apart (idle_of 0, refusal_told WrongPhase) (λ (a : Answered). bit a.txn.marked) refl
 
 -- `refused`: always with number 5
-pub refused-always-5 : Excludes {A = Transaction × ℕ} (λ (t, why). refused_of t why) (λ (t, why). refused_of t (refusal_number WrongPhase))
-refused-always-5 = apart (idle_of 0, 7) (λ (a : Answered). number_in a.answer) refl
+pub refused-always-5 : Excludes {A = Transaction × Refusal} (λ (t, why). refused_of t why) (λ (t, why). refused_of t (refusal_told WrongPhase))
+refused-always-5 = apart (idle_of 0, refusal_told Taken) (λ (a : Answered). number_in a.answer) refl
 
 -- `with_phase`: the phase stays
 pub with-phase-stays : Excludes {A = Transaction × Phase} (λ (t, ph). with_phase t ph) (λ (t, ph). t)
@@ -172,7 +174,7 @@ unfolding computes
 capture-key-itself = apart capturing (λ (l : Left). get_or l.buckets 1 0) refl
 
 -- `capture`: always refused
-pub capture-refuses : Excludes capture (λ (t, buckets, lists, count, key). left (refused_of t (refusal_number Marked)) buckets lists)
+pub capture-refuses : Excludes capture (λ (t, buckets, lists, count, key). left (refused_of t (refusal_told Marked)) buckets lists)
 unfolding computes
 capture-refuses = apart capturing (λ (l : Left). number_in l.reply.answer) refl
 
@@ -199,7 +201,7 @@ put-row-before-mark = apart (with_mark (live 5 phase.Open), room_for writes, 1, 
 
 -- `put`: 8 before 5
 pub put-mark-before-phase : Excludes put
-    (λ (t, lists, rows, row, key, payload). cond t.marked (record { reply = refused_of t (refusal_number Marked); lists = lists })
+    (λ (t, lists, rows, row, key, payload). cond t.marked (record { reply = refused_of t (refusal_told Marked); lists = lists })
     (put (t, lists, rows, row, key, payload)))
 unfolding computes
 put-mark-before-phase = apart (with_mark (live 5 phase.Prepared), room_for writes, 1, 0, 7, 9) (λ (l : LeftLists). number_in l.reply.answer) refl
@@ -215,7 +217,7 @@ unfolding computes
 erase-keyed = apart (live 5 phase.Open, room_for writes, 1, 0) (λ (l : LeftLists). get_or l.lists (writes.off + 1) 0) refl
 
 -- `erase`: always refused
-pub erase-refuses : Excludes erase (λ (t, lists, rows, row). record { reply = refused_of t (refusal_number ManyWrites); lists = lists })
+pub erase-refuses : Excludes erase (λ (t, lists, rows, row). record { reply = refused_of t (refusal_told ManyWrites); lists = lists })
 unfolding computes
 erase-refuses = apart (live 5 phase.Open, room_for writes, 1, 0) (λ (l : LeftLists). number_in l.reply.answer) refl
 
@@ -231,7 +233,7 @@ collect-bucket-held = apart collecting (λ (l : Left). get_or l.buckets 1 0) ref
 
 -- `collect`: the last row is not looked at
 pub collect-last-row-missed : Excludes collect (λ (t, rows, buckets, lists, n).
-    cond (not (eqb (rank (phase_view t.phase)) phase_holding)) (left (refused_of t (refusal_number WrongPhase)) buckets lists)
+    cond (not (eqb (rank (phase_view t.phase)) phase_holding)) (left (refused_of t (refusal_told WrongPhase)) buckets lists)
     (collected_left t (bucket_in (phase_view t.phase)) (key_in (phase_view t.phase))
     (keyed_of rows (key_in (phase_view t.phase))
     (follow rows (first_of rows (list_for n (key_in (phase_view t.phase)))) 0 (min (n - 1) most_rows))) buckets lists))
@@ -244,7 +246,7 @@ carrying_other = (live 5 (phase.Holding 0 6), 0 ∷ 0 ∷ 1 ∷ 6 ∷ 0 ∷ 0 �
 
 -- `collect`: the list of the number of the carried bucket is followed, not that of the key
 pub collect-carried-list : Excludes collect (λ (t, rows, buckets, lists, n).
-    cond (not (eqb (rank (phase_view t.phase)) phase_holding)) (left (refused_of t (refusal_number WrongPhase)) buckets lists)
+    cond (not (eqb (rank (phase_view t.phase)) phase_holding)) (left (refused_of t (refusal_told WrongPhase)) buckets lists)
     (collected_left t (bucket_in (phase_view t.phase)) (key_in (phase_view t.phase))
     (keyed_of rows (key_in (phase_view t.phase)) (follow rows (first_of rows (bucket_in (phase_view t.phase))) 0 (min n most_rows))) buckets lists))
 unfolding computes
@@ -252,7 +254,7 @@ collect-carried-list = apart carrying_other (λ (l : Left). number_in l.reply.an
 
 -- `collect`: the bucket of the number of the key's list is freed, not the one that the phase carries
 pub collect-list-bucket-freed : Excludes collect (λ (t, rows, buckets, lists, n).
-    cond (not (eqb (rank (phase_view t.phase)) phase_holding)) (left (refused_of t (refusal_number WrongPhase)) buckets lists)
+    cond (not (eqb (rank (phase_view t.phase)) phase_holding)) (left (refused_of t (refusal_told WrongPhase)) buckets lists)
     (collected_left t (list_for n (key_in (phase_view t.phase))) (key_in (phase_view t.phase))
     (listed_with rows n (key_in (phase_view t.phase))) buckets lists))
 unfolding computes

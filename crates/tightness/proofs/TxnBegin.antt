@@ -6,6 +6,8 @@ use mathlib.Core.Bool.{cond}
 use mathlib.Core.List.{List}
 use lib.ListN.{set, replicate}
 use Rattle.base_limits.specs.Limits.{most_live}
+use Rattle.model.specs.Refusals.{NoNumbers}
+use Rattle.base_protocol.specs.View.{refusal_told}
 use Rattle.txn.specs.Methods.{idle_of}
 use Rattle.txn.specs.declared.Phase.TheVariants as phase
 use Rattle.txn.specs.declared.Transaction.{Transaction}
@@ -29,7 +31,7 @@ after_one t = (set (replicate most_live 0) 0 1, 1, 2, t)
 
 -- `begin`: a place that is not free is taken
 pub begin-takes-any-place : Excludes begins
-    (λ (active, n, clock, t). cond (spent clock n) (refused_begin t clock 2) (begun_of t (snapshot_of active clock) clock))
+    (λ (active, n, clock, t). cond (spent clock n) (refused_begin t clock (refusal_told NoNumbers)) (begun_of t (snapshot_of active clock) clock))
 unfolding computes
 begin-takes-any-place = apart (after_one (live 1 phase.Open)) (λ (b : Begun). number_in b.answer) refl
 

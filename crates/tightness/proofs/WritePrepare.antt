@@ -8,7 +8,8 @@ use lib.Dec.{eqb, ltb}
 use lib.ListN.{get_or, replicate}
 use Rattle.base_limits.specs.Limits.{most_live, most_writes}
 use Rattle.model.specs.Store.{rank, phase_open}
-use Rattle.model.specs.Refusals.{WrongPhase, Taken, NoVersions, refusal_number}
+use Rattle.model.specs.Refusals.{WrongPhase, Taken, NoVersions}
+use Rattle.base_protocol.specs.View.{refusal_told}
 use Rattle.base_protocol.specs.declared.Answer.TheVariants as tell
 use Rattle.base_protocol.specs.declared.Extent.{Extent}
 use Rattle.table.specs.Fields.{row_words, set_claims}
@@ -45,14 +46,14 @@ validates (versions, buckets, lists, t) = validate_of versions buckets lists t
 
 -- `validate`: the phase is not tested
 pub validate-any-phase : Excludes validates (λ (versions, buckets, lists, t).
-    cond (reads_taken_in buckets lists t) (refused_of t (refusal_number Taken))
+    cond (reads_taken_in buckets lists t) (refused_of t (refusal_told Taken))
     (record { answer = tell.Judged (verdict_of versions buckets lists t); txn = t }))
 unfolding computes
 validate-any-phase = apart ([], [], [], live 1 phase.Ended) (λ (a : Answered). number_in a.answer) refl
 
 -- `validate`: a bucket that another holds is read
 pub validate-held-read : Excludes validates (λ (versions, buckets, lists, t).
-    cond (not (eqb (rank (phase_view t.phase)) phase_open)) (refused_of t (refusal_number WrongPhase))
+    cond (not (eqb (rank (phase_view t.phase)) phase_open)) (refused_of t (refusal_told WrongPhase))
     (record { answer = tell.Judged (verdict_of versions buckets lists t); txn = t }))
 unfolding computes
 validate-held-read = apart ([], held_by 2, captured, reader) (λ (a : Answered). number_in a.answer) refl
@@ -93,7 +94,7 @@ prepare-rows-unclaimed = apart (given (replicate row_words 0) [] puts (writer ph
 -- `prepare`: 13 counts an erase of nothing
 pub prepare-13-of-nothing : Excludes prepares (λ (rows, versions, buckets, lists, e, prepared, t).
     cond (ltb e.sizes.versions (e.used + (pending_into lists t.slot t.writes_n (replicate most_writes 0)).n))
-    (left (refused_of t (refusal_number NoVersions)) rows buckets)
+    (left (refused_of t (refusal_told NoVersions)) rows buckets)
     (prepares (rows, versions, buckets, lists, e, prepared, t)))
 unfolding computes
 prepare-13-of-nothing = apart ([], [], [], erases, reaching 0, replicate most_live 0, writer phase.Open) (λ (l : Left). number_in l.reply.answer) refl

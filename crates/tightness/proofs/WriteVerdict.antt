@@ -4,12 +4,11 @@ use Prim.Native.Nat.{ℕ}
 use mathlib.Core.Path.{refl}
 use mathlib.Core.Bool.{false}
 use mathlib.Core.List.{List, [], ◌∷◌}
+use Rattle.std.specs.Prelude.{Option, None}
 use Rattle.model.specs.Verdict as judged
 use Rattle.base_protocol.specs.declared.Verdict.{Verdict}
 use Rattle.base_protocol.specs.declared.Verdict.TheVariants as verdict
 use Rattle.table.specs.Lists.{records}
-use Rattle.table_scans.specs.declared.Found.{Found}
-use Rattle.table_scans.specs.declared.Found.TheVariants.{Nothing}
 use Rattle.table_chain.specs.declared.Snapshot.{Snapshot}
 use Rattle.txn.specs.declared.Phase.TheVariants as phase
 use Rattle.txn.specs.declared.Transaction.{Transaction}
@@ -22,7 +21,7 @@ use Rattle.tightness.proofs.Computes.{computes}
 use Rattle.tightness.proofs.Small.{live, three_active, three_below, from_xmin, starting}
 
 -- what the contracts of `has_serialization_conflict` and `verdict` ask for
-abbrev conflict : List ℕ × List ℕ × Transaction → Found
+abbrev conflict : List ℕ × List ℕ × Transaction → Option ℕ
 conflict (versions, lists, t) = changed_record versions lists t
 
 abbrev judge : List ℕ × List ℕ × List ℕ × Transaction → Verdict
@@ -80,7 +79,7 @@ unfolding computes
 has-serialization-conflict-from-1 = apart (ended_by 3, read, reader 6) place_found refl
 
 -- `has_serialization_conflict`: never a conflict
-pub has-serialization-conflict-never : Excludes conflict (λ (versions, lists, t). Nothing)
+pub has-serialization-conflict-never : Excludes conflict (λ (versions, lists, t). None)
 unfolding computes
 has-serialization-conflict-never = apart (ended_by 3, read, reader 6) place_found refl
 
