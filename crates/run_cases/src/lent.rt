@@ -1,8 +1,7 @@
 // The vectors over lent tables: whatever stands in them the answer is the same, words past the sizes keep their contents, and a word too few is refused.
-ghost use Rattle.std.specs.Prelude.{◌≤◌, length};
-
-use super::{FILL, MOST_REPORT, agrees, answers, long_at};
+use super::{ENDED, FILL, MOST_REPORT, Vector, long_at};
 use base_limits::{MOST_BUCKETS, MOST_LIVE, MOST_ROWS, MOST_VERSIONS};
+use base_protocol::Refusal;
 use replay::toruxeng_replay_lent;
 use table::lists::SLOT_WORDS;
 use table::{BUCKET_WORDS, ROW_WORDS, VERSION_WORDS};
@@ -19,17 +18,6 @@ const LISTS_LENT: usize = SLOT_WORDS * MOST_LIVE;
 // The word that fills them before a replay.
 const SEVEN: u64 = 7;
 
-// How many tables there are, and the place of each in a list of their words.
-const TABLES: usize = 4;
-
-const ROWS: usize = 0;
-
-const VERSIONS: usize = 1;
-
-const BUCKETS: usize = 2;
-
-const LISTS: usize = 3;
-
 // The bytes of an open record, and where its sizes stand in it.
 const OPEN_BYTES: usize = 24;
 
@@ -39,156 +27,132 @@ const VERSIONS_AT: usize = 8;
 
 const BUCKETS_AT: usize = 12;
 
-// The words of the greatest tables, of each.
-fn greatest() -> [usize; TABLES] {
-    [ROWS_LENT, VERSIONS_LENT, BUCKETS_LENT, LISTS_LENT]
+// How many words of each table.
+#[derive(Clone, Copy)]
+struct Words {
+    rows: usize,
+    versions: usize,
+    buckets: usize,
+    lists: usize,
 }
 
-// The words that the open of a log needs, of each table.
-fn needed(log: &[u8]) -> [usize; TABLES] {
-    [
-        ROW_WORDS * long_at(log, ROWS_AT),
-        VERSION_WORDS * (long_at(log, VERSIONS_AT) + 1),
-        BUCKET_WORDS * long_at(log, BUCKETS_AT),
-        LISTS_LENT,
-    ]
-}
+const NO_WORDS: Words = Words {
+    rows: 0,
+    versions: 0,
+    buckets: 0,
+    lists: 0,
+};
 
-// The same with a word fewer of one table.
-fn one_fewer(words: [usize; TABLES], table: usize) -> [usize; TABLES] {
-    let mut fewer = words;
-    if table < TABLES {
-        if words[table] > 0 {
-            fewer[table] = words[table] - 1;
+// Those of the greatest tables.
+const GREATEST: Words = Words {
+    rows: ROWS_LENT,
+    versions: VERSIONS_LENT,
+    buckets: BUCKETS_LENT,
+    lists: LISTS_LENT,
+};
+
+impl Words {
+    // Those that the open of a log needs.
+    fn needed(log: &[u8]) -> Words {
+        Words {
+            rows: ROW_WORDS * long_at(log, ROWS_AT),
+            versions: VERSION_WORDS * (long_at(log, VERSIONS_AT) + 1),
+            buckets: BUCKET_WORDS * long_at(log, BUCKETS_AT),
+            lists: LISTS_LENT,
         }
     }
-    fewer
-}
 
-// The lower of two numbers.
-fn least(a: usize, b: usize) -> usize
-    ensures { result ≤ b }
-{
-    if a < b { a } else { b }
-}
-
-// A replay over so many words of each table, or all that it has, into the first bytes of a report.
-fn replay_over(
-    log: &[u8],
-    report: &mut [u8],
-    rows: &mut [u64],
-    versions: &mut [u64],
-    buckets: &mut [u64],
-    lists: &mut [u64],
-    room: usize,
-    lent: [usize; TABLES],
-) -> u64
-    requires { room ≤ length report.old }
-{
-    let r = least(lent[ROWS], rows.len());
-    let v = least(lent[VERSIONS], versions.len());
-    let b = least(lent[BUCKETS], buckets.len());
-    let l = least(lent[LISTS], lists.len());
-    toruxeng_replay_lent(
-        log,
-        &mut report[0..room],
-        &mut rows[0..r],
-        &mut versions[0..v],
-        &mut buckets[0..b],
-        &mut lists[0..l],
-    )
+    // The same with a word fewer of one table, for each table.
+    fn each_one_fewer(self) -> [Words; 4] {
+        [
+            Words {
+                rows: self.rows.saturating_sub(1),
+                ..self
+            },
+            Words {
+                versions: self.versions.saturating_sub(1),
+                ..self
+            },
+            Words {
+                buckets: self.buckets.saturating_sub(1),
+                ..self
+            },
+            Words {
+                lists: self.lists.saturating_sub(1),
+                ..self
+            },
+        ]
+    }
 }
 
 // Whether the words from a place on are as they were.
-fn kept(words: &[u64], from: usize) -> bool {
-    let mut i = from;
-    while i < words.len() {
-        if words[i] != SEVEN {
+fn are_kept(words: &[u64], from: usize) -> bool {
+    words.iter().skip(from).all(|word| *word == SEVEN)
+}
+
+impl Vector<'_> {
+    // Whether a replay over so many words of each table, or all that it has, agrees, and keeps the words past those that it may write.
+    fn agrees_over(&self, lent: Words, written: Words) -> bool {
+        if self.room > MOST_REPORT {
             return false;
         }
-        i += 1;
+        let mut report = [FILL; MOST_REPORT];
+        let mut rows = [SEVEN; ROWS_LENT];
+        let mut versions = [SEVEN; VERSIONS_LENT];
+        let mut buckets = [SEVEN; BUCKETS_LENT];
+        let mut lists = [SEVEN; LISTS_LENT];
+        let answer = toruxeng_replay_lent(
+            self.log,
+            &mut report[..self.room],
+            &mut rows[..lent.rows.min(ROWS_LENT)],
+            &mut versions[..lent.versions.min(VERSIONS_LENT)],
+            &mut buckets[..lent.buckets.min(BUCKETS_LENT)],
+            &mut lists[..lent.lists.min(LISTS_LENT)],
+        );
+        self.is_met(answer, &report)
+            && are_kept(&rows, written.rows)
+            && are_kept(&versions, written.versions)
+            && are_kept(&buckets, written.buckets)
+            && are_kept(&lists, written.lists)
     }
-    true
-}
 
-// Whether a replay over so many words of each table gives this status and this report, and keeps the words past those that it may write.
-fn agrees_over(
-    log: &[u8],
-    room: usize,
-    status: u64,
-    said: &[u8],
-    lent: [usize; TABLES],
-    written: [usize; TABLES],
-) -> bool {
-    if room > MOST_REPORT {
-        return false;
+    // Whether its log begins with an open that is accepted.
+    fn opens(&self) -> bool {
+        self.log.get(..OPEN_BYTES).is_some_and(|open| {
+            let opening = Vector {
+                log: open,
+                room: MOST_REPORT,
+                status: ENDED,
+                first: b"open 0\n",
+                last: b"",
+            };
+            opening.agrees()
+        })
     }
-    let mut report = [FILL; MOST_REPORT];
-    let mut rows = [SEVEN; ROWS_LENT];
-    let mut versions = [SEVEN; VERSIONS_LENT];
-    let mut buckets = [SEVEN; BUCKETS_LENT];
-    let mut lists = [SEVEN; LISTS_LENT];
-    let answer = replay_over(
-        log,
-        &mut report,
-        &mut rows,
-        &mut versions,
-        &mut buckets,
-        &mut lists,
-        room,
-        lent,
-    );
-    if !answers(answer, &report, status, said, b"") {
-        return false;
-    }
-    if !kept(&rows, written[ROWS]) {
-        return false;
-    }
-    if !kept(&versions, written[VERSIONS]) {
-        return false;
-    }
-    if !kept(&buckets, written[BUCKETS]) {
-        return false;
-    }
-    kept(&lists, written[LISTS])
-}
 
-// Whether a log begins with an open that is accepted.
-fn opens(log: &[u8]) -> bool {
-    if log.len() < OPEN_BYTES {
-        return false;
+    // Whether the open is refused with 16 over so many words of each table, and no word written.
+    fn is_too_few(&self, lent: Words) -> bool {
+        let refused = Vector {
+            log: self.log,
+            room: MOST_REPORT,
+            status: u64::from(Refusal::WrongShape),
+            first: b"open 16\n",
+            last: b"",
+        };
+        refused.agrees_over(lent, NO_WORDS)
     }
-    agrees(&log[0..OPEN_BYTES], MOST_REPORT, 0, b"open 0\n", b"")
-}
 
-// Whether the open is refused with 16 over so many words of each table, and no word written.
-fn too_few(log: &[u8], lent: [usize; TABLES]) -> bool {
-    agrees_over(log, MOST_REPORT, 16, b"open 16\n", lent, [0; TABLES])
-}
-
-// Whether one word fewer of any table is too few.
-fn each_too_few(log: &[u8], need: [usize; TABLES]) -> bool {
-    let mut table = 0;
-    while table < TABLES {
-        if !too_few(log, one_fewer(need, table)) {
-            return false;
+    // Whether it agrees over the greatest tables and, where it opens, over just the words that its open needs, and is refused over a word fewer of any table.
+    pub fn agrees_lent(&self) -> bool {
+        if !self.opens() {
+            return self.agrees_over(GREATEST, NO_WORDS);
         }
-        table += 1;
+        let need = Words::needed(self.log);
+        self.agrees_over(GREATEST, need)
+            && self.agrees_over(need, need)
+            && need
+                .each_one_fewer()
+                .iter()
+                .all(|fewer| self.is_too_few(*fewer))
     }
-    true
-}
-
-// Whether a vector agrees over the greatest tables and, where it opens, over just the words that its open needs, and is refused over fewer.
-pub fn agrees_lent(log: &[u8], room: usize, status: u64, said: &[u8]) -> bool {
-    if !opens(log) {
-        return agrees_over(log, room, status, said, greatest(), [0; TABLES]);
-    }
-    let need = needed(log);
-    if !agrees_over(log, room, status, said, greatest(), need) {
-        return false;
-    }
-    if !agrees_over(log, room, status, said, need, need) {
-        return false;
-    }
-    each_too_few(log, need)
 }

@@ -2,11 +2,11 @@
 // compares every byte.
 #![tactic(auto)]
 
-ghost use Rattle.std.specs.Prelude.{◌+◌, ◌≤◌, ◌<◌, length};
+ghost use Rattle.std.specs.Prelude.{◌+◌, ◌≤◌, ◌<◌, ℕ, IfSome, length};
 
 use anyhow::{Context, Result};
-use lent::agrees_lent;
-use replay::toruxeng_replay;
+use base_protocol::Refusal;
+use replay::{HALF, toruxeng_replay};
 use std::alloc::Global;
 use std::io::Read;
 use std::rt::Files;
@@ -22,173 +22,100 @@ const MOST_REPORT: usize = 65536;
 
 const FILL: u8 = 170;
 
+// The status of a replay that no refusal stopped.
+const ENDED: u64 = 0;
+
 // A vector begins with four numbers of four bytes.
 const HEAD: usize = 16;
 
-// The status stands above this, the bytes written below it.
-const HALF: u64 = 4294967296;
-
-// A byte as a number.
-fn wide(b: u8) -> usize
-    ensures { result < 256 }
-{
-    b as usize
+// The bytes from a place on; zeros where they are not all there.
+fn bytes_at<const N: usize>(bytes: &[u8], at: usize) -> [u8; N] {
+    bytes
+        .get(at..)
+        .and_then(|rest| rest.first_chunk())
+        .copied()
+        .unwrap_or([0; N])
 }
 
-// The number of the two bytes from `at` on, the lowest first; 0 where they are not there.
-fn number_at(bytes: &[u8], at: usize) -> usize
+// The number of the two bytes from a place on, and of the four.
+// Stays two functions: each is one call of std's `from_le_bytes`, which no trait of std has for both types, so that one function would write it anew.
+fn short_at(bytes: &[u8], at: usize) -> usize
     ensures { result < 65536 }
 {
-    if bytes.len() < 2 {
-        return 0;
-    }
-    if at > bytes.len() - 2 {
-        return 0;
-    }
-    wide(bytes[at]) + 256 * wide(bytes[at + 1])
+    usize::from(u16::from_le_bytes(bytes_at(bytes, at)))
 }
 
-// The number of the four bytes from `at` on, in the same way.
 fn long_at(bytes: &[u8], at: usize) -> usize
     ensures { result < 4294967296 }
 {
-    if at >= bytes.len() {
-        return 0;
-    }
-    number_at(bytes, at) + 65536 * number_at(bytes, at + 2)
+    u32::from_le_bytes(bytes_at(bytes, at)) as usize
 }
 
-// Whether two texts are the same.
-fn same(a: &[u8], b: &[u8]) -> bool {
-    if a.len() != b.len() {
-        return false;
-    }
-    let mut i = 0;
-    while i < a.len() {
-        if a[i] != b[i] {
-            return false;
-        }
-        i += 1;
-    }
-    true
-}
-
-// Whether nothing was written there.
-fn untouched(rest: &[u8]) -> bool {
-    let mut i = 0;
-    while i < rest.len() {
-        if rest[i] != FILL {
-            return false;
-        }
-        i += 1;
-    }
-    true
-}
-
-// Whether the report says the first text and then the last, `wrote` bytes in all, and has nothing written behind them.
-fn says(report: &[u8], wrote: usize, first: &[u8], last: &[u8]) -> bool {
-    if wrote > report.len() {
-        return false;
-    }
-    let said = first.len();
-    if said > wrote {
-        return false;
-    }
-    if !same(&report[0..said], first) {
-        return false;
-    }
-    if !same(&report[said..wrote], last) {
-        return false;
-    }
-    untouched(&report[wrote..])
-}
-
-// Whether an answer has this status, and the report says the first text and then the last.
-fn answers(answer: u64, report: &[u8], status: u64, first: &[u8], last: &[u8]) -> bool {
-    if answer / HALF != status {
-        return false;
-    }
-    says(report, (answer % HALF) as usize, first, last)
-}
-
-// A replay into the first bytes of a report.
-fn replay_into(log: &[u8], report: &mut [u8], room: usize) -> u64
-    requires { room ≤ length report.old }
-{
-    toruxeng_replay(log, &mut report[0..room])
-}
-
-// Whether a replay into this room gives this status and the first text with the last behind it, and leaves the rest alone.
-fn agrees(log: &[u8], room: usize, status: u64, first: &[u8], last: &[u8]) -> bool {
-    if room > MOST_REPORT {
-        return false;
-    }
-    let mut report = [FILL; MOST_REPORT];
-    let answer = replay_into(log, &mut report, room);
-    answers(answer, &report, status, first, last)
-}
-
-// Where a vector's log begins and ends, where its report ends, and what else it says.
+// A log, and what its replay is to give into this room: the status, and a report that says the first text and then the last.
 #[derive(Clone, Copy)]
-struct Vector {
-    log: usize,
-    report: usize,
-    end: usize,
+struct Vector<'a> {
+    log: &'a [u8],
     room: usize,
     status: u64,
+    first: &'a [u8],
+    last: &'a [u8],
 }
 
-// The vector that begins at a place of the file; an empty one where the file ends before it does.
-fn vector_at(file: &[u8], at: usize) -> Vector
-    requires { at ≤ length file.now }
-    ensures { (at ≤ result.log) × (result.log ≤ result.report) × (result.report ≤ result.end) × (result.end ≤ length file.now) }
+impl Vector<'_> {
+    // Whether an answer has this status, and the report says the first text and then the last, and has nothing written behind them.
+    fn is_met(&self, answer: u64, report: &[u8]) -> bool {
+        if answer / HALF != self.status {
+            return false;
+        }
+        let Some((said, rest)) = report.split_at_checked((answer % HALF) as usize) else {
+            return false;
+        };
+        said.strip_prefix(self.first) == Some(self.last) && rest.iter().all(|b| *b == FILL)
+    }
+
+    // Whether a replay agrees.
+    fn agrees(&self) -> bool {
+        if self.room > MOST_REPORT {
+            return false;
+        }
+        let mut report = [FILL; MOST_REPORT];
+        let answer = toruxeng_replay(self.log, &mut report[..self.room]);
+        self.is_met(answer, &report)
+    }
+}
+
+// The vector at the front of a file, and what is behind it; none where the file ends before it does.
+fn first_vector(file: &[u8]) -> Option<(Vector<'_>, &[u8])>
+    ensures { IfSome result (λ found. length found.1.now < length file.now) }
 {
-    let none = Vector {
-        log: at,
-        report: at,
-        end: at,
-        room: 0,
-        status: 0,
+    let (head, body) = file.split_at_checked(HEAD)?;
+    let (log, behind) = body.split_at_checked(long_at(head, 0))?;
+    let (report, behind) = behind.split_at_checked(long_at(head, 12))?;
+    let vector = Vector {
+        log,
+        room: long_at(head, 4),
+        status: long_at(head, 8) as u64,
+        first: report,
+        last: b"",
     };
-    let left = file.len() - at;
-    if left < HEAD {
-        return none;
-    }
-    let log = long_at(file, at);
-    let report = long_at(file, at + 12);
-    if left - HEAD < log {
-        return none;
-    }
-    if left - HEAD - log < report {
-        return none;
-    }
-    Vector {
-        log: at + HEAD,
-        report: at + HEAD + log,
-        end: at + HEAD + log + report,
-        room: long_at(file, at + 4),
-        status: long_at(file, at + 8) as u64,
-    }
+    Some((vector, behind))
 }
 
-// Whether the vector agrees: over lent tables, or over those of the replay itself.
-fn vector_agrees(file: &[u8], at: usize, over_lent: bool) -> bool
-    requires { at ≤ length file.now }
+// How many vectors agree before the first that does not.
+fn vectors<F: Fn(&Vector<'_>) -> bool>(file: &[u8], agrees: F) -> usize
+    requires { F.IsAlwaysCallable agrees }
 {
-    let v = vector_at(file, at);
-    let log = v.log;
-    let report = v.report;
-    let end = v.end;
-    if over_lent {
-        return agrees_lent(&file[log..report], v.room, v.status, &file[report..end]);
+    let mut rest = file;
+    let mut n = 0;
+    // Stays a `while let`: each vector says where the next begins, and an iterator made of that keeps `rest` in a closure besides: no plainer.
+    while let Some((vector, behind)) = first_vector(rest) {
+        if !agrees(&vector) {
+            return n;
+        }
+        rest = behind;
+        n += 1;
     }
-    agrees(
-        &file[log..report],
-        v.room,
-        v.status,
-        &file[report..end],
-        b"",
-    )
+    n
 }
 
 // Where the line that begins at a place ends.
@@ -196,28 +123,22 @@ fn line_end(report: &[u8], at: usize) -> usize
     requires { at < length report.now }
     ensures { (at < result) × (result ≤ length report.now) }
 {
-    let mut i = at;
-    while i < report.len() {
-        if report[i] == b'\n' {
-            return i + 1;
-        }
-        i += 1;
+    match report[at..].iter().position(|b| *b == b'\n') {
+        Some(n) => at + n + 1,
+        None => report.len(),
     }
-    i
 }
 
 // How far whole lines reach in the first bytes of a report.
 fn lines_within(report: &[u8], room: usize) -> usize
-    requires { room ≤ length report.now }
     ensures { result ≤ room }
 {
     let mut said = 0;
-    while said < room {
-        let end = line_end(report, said);
-        if end > room {
-            return said;
+    for line in report.split_inclusive(|b| *b == b'\n') {
+        if line.len() > room - said {
+            break;
         }
-        said = end;
+        said += line.len();
     }
     said
 }
@@ -229,6 +150,7 @@ struct Cut {
     whole: bool,
 }
 
+// Stays a `while`: a record says by itself where the next one begins, and `log_records::Reader`, which reads them, is among what this program tests.
 fn cut_at(log: &[u8], report: &[u8], cut: usize) -> Cut
     requires { cut ≤ length log.now }
     ensures { result.said ≤ length report.now }
@@ -236,99 +158,72 @@ fn cut_at(log: &[u8], report: &[u8], cut: usize) -> Cut
     let mut at = 0;
     let mut said = 0;
     while at < cut {
-        let next = at + 2 + number_at(log, at);
+        let next = at + 2 + short_at(log, at);
         if next > cut {
-            return Cut {
-                said: said,
-                whole: false,
-            };
+            return Cut { said, whole: false };
         }
         if said >= report.len() {
-            return Cut {
-                said: said,
-                whole: true,
-            };
+            return Cut { said, whole: true };
         }
         said = line_end(report, said);
         at = next;
     }
-    Cut {
-        said: said,
-        whole: true,
+    Cut { said, whole: true }
+}
+
+impl Vector<'_> {
+    // Whether its log, cut, gives the lines of the whole records, and `bad 15` where the cut is in a record.
+    fn cut_agrees(&self, cut: usize) -> bool
+        requires { cut ≤ length self.now.log.now }
+    {
+        let Cut { said, whole } = cut_at(self.log, self.first, cut);
+        let (status, last): (u64, &[u8]) = if whole {
+            (ENDED, b"")
+        } else {
+            (u64::from(Refusal::Malformed), b"bad 15\n")
+        };
+        let of_cut = Vector {
+            log: &self.log[..cut],
+            room: MOST_REPORT,
+            status,
+            first: &self.first[..said],
+            last,
+        };
+        of_cut.agrees()
+    }
+
+    // Whether a room gets the lines of its report that fit it.
+    fn room_agrees(&self, room: usize) -> bool
+        requires { room ≤ length self.now.first.now }
+    {
+        let in_room = Vector {
+            log: self.log,
+            room,
+            status: if room < self.first.len() {
+                u64::from(Refusal::NoRoom)
+            } else {
+                ENDED
+            },
+            first: &self.first[..lines_within(self.first, room)],
+            last: b"",
+        };
+        in_room.agrees()
     }
 }
 
-// Whether a cut log gives the lines of its whole records, and `bad 15` where the cut is in a record.
-fn cut_agrees(log: &[u8], report: &[u8], cut: usize) -> bool
-    requires { cut ≤ length log.now }
+// How many of the numbers up to the last agree before the first that does not.
+// Stays a `for`: tried `(0..last + 1).find(|n| !agrees(*n))`, and the proof did not close (`find-requires-clause-callable`).
+// There the closure must take every number, and `agrees` takes those up to the last alone.
+fn agreeing<F: Fn(usize) -> bool>(last: usize, agrees: F) -> usize
+    requires few { last < 9223372036854775808 }
+    requires callable { (n : ℕ) → n ≤ last → F.pre agrees n }
 {
-    let c = cut_at(log, report, cut);
-    let said = c.said;
-    if c.whole {
-        return agrees(&log[0..cut], MOST_REPORT, 0, &report[0..said], b"");
-    }
-    agrees(&log[0..cut], MOST_REPORT, 15, &report[0..said], b"bad 15\n")
-}
-
-// The status of a replay whose report has so many bytes, into this room.
-fn room_status(room: usize, long: usize) -> u64 {
-    if room < long { 10 } else { 0 }
-}
-
-// Whether a room gets the lines that fit it.
-fn room_agrees(log: &[u8], report: &[u8], room: usize) -> bool
-    requires { room ≤ length report.now }
-{
-    let said = lines_within(report, room);
-    agrees(
-        log,
-        room,
-        room_status(room, report.len()),
-        &report[0..said],
-        b"",
-    )
-}
-
-// How many vectors agree before the first that does not.
-fn vectors(file: &[u8], over_lent: bool) -> usize {
-    let mut at = 0;
-    let mut n = 0;
-    while at < file.len() {
-        if !vector_agrees(file, at, over_lent) {
+    for n in 0..last + 1 {
+        if !agrees(n) {
             return n;
         }
-        let v = vector_at(file, at);
-        let end = v.end;
-        if end == at {
-            return n;
-        }
-        at = end;
-        n += 1;
     }
-    n
-}
-
-// How many cuts agree before the first that does not; and how many rooms.
-fn cuts(log: &[u8], report: &[u8]) -> usize {
-    let mut cut = 0;
-    while cut <= log.len() {
-        if !cut_agrees(log, report, cut) {
-            return cut;
-        }
-        cut += 1;
-    }
-    cut
-}
-
-fn rooms(log: &[u8], report: &[u8]) -> usize {
-    let mut room = 0;
-    while room <= report.len() {
-        if !room_agrees(log, report, room) {
-            return room;
-        }
-        room += 1;
-    }
-    room
+    last + 1
 }
 
 // A line with a count.
@@ -338,19 +233,23 @@ fn told(rt: &impl Print, what: &str, n: usize) -> io::Result<()> {
 
 // The first vector, which is the worked example: its cuts and its rooms.
 fn told_example(rt: &impl Print, file: &[u8]) -> io::Result<()> {
-    let v = vector_at(file, 0);
-    let log = v.log;
-    let report = v.report;
-    let end = v.end;
+    let none = Vector {
+        log: b"",
+        room: 0,
+        status: ENDED,
+        first: b"",
+        last: b"",
+    };
+    let example = first_vector(file).map_or(none, |(vector, _)| vector);
     told(
         rt,
         "cuts of the worked example that agree: ",
-        cuts(&file[log..report], &file[report..end]),
+        agreeing(example.log.len(), |cut| example.cut_agrees(cut)),
     )?;
     told(
         rt,
         "rooms of its report that agree: ",
-        rooms(&file[log..report], &file[report..end]),
+        agreeing(example.first.len(), |room| example.room_agrees(room)),
     )
 }
 
@@ -368,11 +267,15 @@ fn bytes_of(rt: &impl Files, alloc: Global, path: &str) -> Result<Vec<u8>> {
 fn main(rt: HostRuntime) -> Result<()> {
     let space = bytes_of(&rt, rt.alloc(), "vectors")?;
     let file = space.as_slice();
-    told(&rt, "vectors that agree: ", vectors(file, false))?;
+    told(
+        &rt,
+        "vectors that agree: ",
+        vectors(file, |vector| vector.agrees()),
+    )?;
     told(
         &rt,
         "vectors that agree over lent tables: ",
-        vectors(file, true),
+        vectors(file, |vector| vector.agrees_lent()),
     )?;
     told_example(&rt, file)?;
     Ok(())

@@ -1,3 +1,2 @@
-pub mod Naming
 pub mod Named
 pub mod NamedRecords

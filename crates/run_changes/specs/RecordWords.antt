@@ -1,16 +1,10 @@
 -- A record and the machine's own numbers as words, in the order of their names, and back.
-use Rattle.std.specs.Prelude.{ℕ, ◌%◌, Bool, true, false, cond, not, List, [], ◌∷◌, eqb, get_or}
-use Rattle.model.specs.Store.{phase_holding, phase_collected, phase_prepared, phase_installed, phase_ended, rank, bucket_in, key_in}
+use Rattle.std.specs.Prelude.{ℕ, ◌%◌, not, List, [], ◌∷◌, eqb, get_or}
+use Rattle.model.specs.Store.{rank, bucket_in, key_in}
 use Rattle.txn.specs.View.{phase_view}
-use Rattle.txn.specs.declared.Phase.{Phase}
-use Rattle.txn.specs.declared.Phase.TheVariants as phase
+use Rattle.txn.specs.Methods.{mark_word, phase_from}
 use Rattle.txn.specs.declared.Transaction.{Transaction}
 use Rattle.shape.specs.declared.Machine.{Machine}
-
--- a mark is 1, none is 0
-abbrev pub mark_word : Bool → ℕ
-mark_word true = 1
-mark_word false = 0
 
 -- number, snapshot xmin and xmax, count of active numbers, mark, phase with the bucket and the key that it carries, slot, counts of the four lists; then the
 -- seven active numbers
@@ -38,15 +32,6 @@ record_words t =
     ∷ get_or t.snapshot.active 6 0
     ∷ []
 
--- the phase of a number, with what it carries; Open for any other number
-abbrev pub phase_of : ℕ → ℕ → ℕ → Phase
-phase_of n bucket key =
-    cond (eqb n phase_holding) (phase.Holding bucket key)
-    (cond (eqb n phase_collected) (phase.Collected key)
-    (cond (eqb n phase_prepared) phase.Prepared
-    (cond (eqb n phase_installed) phase.Installed
-    (cond (eqb n phase_ended) phase.Ended phase.Open))))
-
 -- a slot and a count have 32 bits
 abbrev pub low : ℕ → ℕ
 low n = n % 4294967296
@@ -62,7 +47,7 @@ record_of ws = record {
     active_n = get_or ws 3 0;
   };
   marked = not (eqb (get_or ws 4 0) 0);
-  phase = phase_of (get_or ws 5 0) (get_or ws 6 0) (get_or ws 7 0);
+  phase = phase_from (get_or ws 5 0) (get_or ws 6 0) (get_or ws 7 0);
   slot = low (get_or ws 8 0);
   reads_n = low (get_or ws 9 0);
   writes_n = low (get_or ws 10 0);

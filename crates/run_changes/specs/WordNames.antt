@@ -1,5 +1,5 @@
 -- The names of a state's words, in one list: a word is the place of its name.
-use Rattle.std.specs.Prelude.{ℕ, suc, cond, List, [], ◌∷◌, eqb}
+use Rattle.std.specs.Prelude.{ℕ, List, [], ◌∷◌, ◌==◌, Option, position}
 use Rattle.run_script.specs.Names.{named}
 
 -- words 0 to 5, of a row; 6 to 11, of a version; 12 and 13, of a bucket
@@ -53,11 +53,6 @@ names =
     ∷ named "buckets"
     ∷ []
 
--- the first place of a name, counted from k; behind them all where it is none of them
-unfoldable pub name_from : ℕ → List ℕ → ℕ → ℕ
-name_from k [] name = k
-name_from k (x ∷ xs) name = cond (eqb x name) k (name_from (suc k) xs name)
-
--- the word that a name names
-abbrev pub word_named : ℕ → ℕ
-word_named name = name_from 0 names name
+-- the word that a name names: its first place; none where it is none of them
+abbrev pub word_named : ℕ → Option ℕ
+word_named name = position (λ x. x == name) names

@@ -1,64 +1,70 @@
 // The names of the words.
-ghost use Rattle.std.specs.Prelude.{◌≡◌};
+ghost use Rattle.std.specs.Prelude.{◌≡◌, ◌==◌, position};
+ghost use Rattle.std.specs.Int.{w64, from_be_bytes};
 ghost use Rattle.run_changes.specs.WordNames.{word_named};
 
-const NAMES: usize = 43;
+const NAMES_COUNT: usize = 43;
 
-// The word that a name names: the name's place among all, by its letters.
-pub fn word_named(name: u64) -> usize
+// The names, in the order of the words.
+static NAMES: [[u8; 8]; NAMES_COUNT] = [
+    *b"\0\0\0\0head",
+    *b"\0\0\0claim",
+    *b"\0\0posted",
+    *b"\0postkey",
+    *b"\0\0\0later",
+    *b"\0\0\0first",
+    *b"\0\0\0\0xmin",
+    *b"\0\0\0\0xmax",
+    *b"\0\0\0\0next",
+    *b"\0\0\0keyed",
+    *b"\0\0\0\0\0key",
+    *b"\0payload",
+    *b"\0\0\0stamp",
+    *b"\0\0holder",
+    *b"\0ibucket",
+    *b"\0\0istamp",
+    *b"\0\0\0\0wrow",
+    *b"\0\0wkeyed",
+    *b"\0\0\0\0wkey",
+    *b"wpayload",
+    *b"\0\0\0\0rrow",
+    *b"rpointer",
+    *b"\0\0\0rxmin",
+    *b"\0\0\0\0crow",
+    *b"\0\0number",
+    *b"snapxmin",
+    *b"snapxmax",
+    *b"\0\0acount",
+    *b"\0\0\0\0mark",
+    *b"\0\0\0phase",
+    *b"\0\0\0\0held",
+    *b"\0\0sought",
+    *b"\0\0\0\0slot",
+    *b"\0\0icount",
+    *b"\0\0wcount",
+    *b"\0\0rcount",
+    *b"\0\0ccount",
+    *b"\0anumber",
+    *b"\0\0\0clock",
+    *b"\0\0\0\0used",
+    *b"rowcount",
+    *b"versions",
+    *b"\0buckets",
+];
+
+// The place of a name among some, by its letters.
+fn place_among(names: &[[u8; 8]], name: u64) -> Option<usize>
+    ensures { result ≡ position (λ letters. from_be_bytes w64 letters == name) names.now }
+{
+    names
+        .iter()
+        .position(|letters| u64::from_be_bytes(*letters) == name)
+}
+
+// The word that a name names: the name's place among all.
+#[tactic(auto, unfolding(crate::specs::WordNames::names))]
+pub fn word_named(name: u64) -> Option<usize>
     ensures { result ≡ word_named name }
 {
-    let names: [u64; NAMES] = [
-        0x68656164, // head
-        0x636c61696d, // claim
-        0x706f73746564, // posted
-        0x706f73746b6579, // postkey
-        0x6c61746572, // later
-        0x6669727374, // first
-        0x786d696e, // xmin
-        0x786d6178, // xmax
-        0x6e657874, // next
-        0x6b65796564, // keyed
-        0x6b6579, // key
-        0x7061796c6f6164, // payload
-        0x7374616d70, // stamp
-        0x686f6c646572, // holder
-        0x696275636b6574, // ibucket
-        0x697374616d70, // istamp
-        0x77726f77, // wrow
-        0x776b65796564, // wkeyed
-        0x776b6579, // wkey
-        0x777061796c6f6164, // wpayload
-        0x72726f77, // rrow
-        0x72706f696e746572, // rpointer
-        0x72786d696e, // rxmin
-        0x63726f77, // crow
-        0x6e756d626572, // number
-        0x736e6170786d696e, // snapxmin
-        0x736e6170786d6178, // snapxmax
-        0x61636f756e74, // acount
-        0x6d61726b, // mark
-        0x7068617365, // phase
-        0x68656c64, // held
-        0x736f75676874, // sought
-        0x736c6f74, // slot
-        0x69636f756e74, // icount
-        0x77636f756e74, // wcount
-        0x72636f756e74, // rcount
-        0x63636f756e74, // ccount
-        0x616e756d626572, // anumber
-        0x636c6f636b, // clock
-        0x75736564, // used
-        0x726f77636f756e74, // rowcount
-        0x76657273696f6e73, // versions
-        0x6275636b657473, // buckets
-    ];
-    let mut k = 0;
-    while k < NAMES {
-        if names[k] == name {
-            return k;
-        }
-        k += 1;
-    }
-    k
+    place_among(&NAMES, name)
 }

@@ -4,65 +4,47 @@
 use std::io;
 use table::{set_next, set_xmax, set_xmin};
 use table_buckets::{
-    Canonical, canonical_buckets_bitmap, canonical_buckets_sort, stamp_precedes_snapshot,
+    ListError, canonical_buckets_bitmap, canonical_buckets_sort, stamp_precedes_snapshot,
 };
-use table_chain::{Pointer, Snapshot, first_visible};
+use table_chain::{Snapshot, first_visible};
 
 // A yes or a no.
 fn told(rt: &impl Print, yes: bool) -> io::Result<()> {
-    if yes {
-        println!(rt; " yes")
-    } else {
-        println!(rt; " no")
-    }
+    let word = if yes { "yes" } else { "no" };
+    println!(rt; " {word}")
 }
 
-// A number after a space.
-fn number(rt: &impl Print, n: u64) -> io::Result<()> {
-    print!(rt; " {n}")
-}
-
-// What a kernel gave: the list, or the bad bucket.
-fn list(rt: &impl Print, made: Canonical, out: &[u64; 4]) -> io::Result<()> {
-    match made {
-        Canonical::Sorted(n) => {
-            if n > 0 {
-                number(rt, out[0])?;
-            }
-            if n > 1 {
-                number(rt, out[1])?;
+// What a kernel gives: the list, or the bad bucket.
+fn list<K: FnOnce(&mut [u64]) -> Result<usize, ListError>>(
+    rt: &impl Print,
+    kernel: K,
+) -> io::Result<()>
+    requires { K.IsAlwaysCallable kernel }
+{
+    let mut out = [0u64; 4];
+    match kernel(&mut out) {
+        Ok(n) => {
+            for bucket in out.iter().take(n) {
+                print!(rt; " {bucket}")?;
             }
         }
-        Canonical::Bad(bucket) => {
-            print!(rt; " error")?;
-            number(rt, bucket)?;
-        }
-        Canonical::NoRoom => {
-            print!(rt; " no room")?;
-        }
+        Err(ListError::Bad(bucket)) => print!(rt; " error {bucket}")?,
+        Err(ListError::NoRoom) => print!(rt; " no room")?,
     }
     println!(rt)
 }
 
 // Both kernels on one list.
 fn both(rt: &impl Print, input: &[u64], count: usize) -> io::Result<()> {
-    let mut out = [0u64; 4];
-    let sorted = canonical_buckets_sort(input, count, &mut out);
-    list(rt, sorted, &out)?;
-    let mut again = [0u64; 4];
-    let marked = canonical_buckets_bitmap(input, count, &mut again);
-    list(rt, marked, &again)
+    list(rt, |out| canonical_buckets_sort(input, count, out))?;
+    list(rt, |out| canonical_buckets_bitmap(input, count, out))
 }
 
 // The first version that a snapshot sees.
 fn seen(rt: &impl Print, versions: &[u64], s: Snapshot) -> io::Result<()> {
-    let found = first_visible(versions, 9, s, 9);
-    match found {
-        Pointer::At(p) => {
-            number(rt, p)?;
-            println!(rt)
-        }
-        Pointer::Nothing => println!(rt; " none"),
+    match first_visible(versions, 9, s, 9) {
+        Some(p) => println!(rt; " {p}"),
+        None => println!(rt; " none"),
     }
 }
 
@@ -101,11 +83,6 @@ fn main(rt: HostRuntime) -> io::Result<()> {
     };
     seen(&rt, &versions, two)?;
     print!(rt; "P12 with an xmin above 2, as no begin takes it:")?;
-    let above = Snapshot {
-        xmin: 5,
-        xmax: 6,
-        active: [2, 0, 0, 0, 0, 0, 0],
-        active_n: 1,
-    };
+    let above = Snapshot { xmin: 5, ..two };
     seen(&rt, &versions, above)
 }

@@ -4,12 +4,11 @@
 
 use base_limits::{MOST_ACTIVE, MOST_INDEX_READS, MOST_RECORDS, MOST_WRITES};
 use report_answers::numbers_of;
-use std::io;
 use std::io::Read;
+use std::{fmt, io};
 use toruxeng::{
-    BUCKET_WORDS, Called, MOST_BUCKETS, MOST_LIVE, MOST_ROWS, MOST_VERSIONS, Machine, ROW_WORDS,
-    SLOT_WORDS, Sizes, VERSION_WORDS, begin, capture, collect, end, install, open, prepare,
-    publish, put, validate,
+    Answer, BUCKET_WORDS, MOST_BUCKETS, MOST_LIVE, MOST_ROWS, MOST_VERSIONS, ROW_WORDS, SLOT_WORDS,
+    Sizes, Store, VERSION_WORDS, closed,
 };
 use txn::Transaction;
 
@@ -56,33 +55,6 @@ struct Counts {
     beside: u64,
 }
 
-// The number and the value that the last step answered, how many steps were refused so far, and the machine behind them.
-#[derive(Clone, Copy)]
-struct Played {
-    machine: Machine,
-    number: u64,
-    value: u64,
-    refusals: u64,
-}
-
-// What a call answered, and its refusal counted.
-fn after(refusals: u64, called: Called) -> Played {
-    let answer = called.answer;
-    let machine = called.machine;
-    let numbers = numbers_of(answer);
-    let list = numbers.list;
-    let mut met = refusals;
-    if list[0] != 0 {
-        met = std::num::wrapping_add_u64(refusals, 1);
-    }
-    Played {
-        machine: machine,
-        number: list[0],
-        value: list[1],
-        refusals: met,
-    }
-}
-
 // The row of the i-th write of all.
 fn row_of(i: u64) -> u64 {
     i % MOST_ROWS as u64
@@ -93,321 +65,172 @@ fn key_of(i: u64) -> u64 {
     i % FILLED / ROWS_OF_KEY * KEY_STEP
 }
 
-// As many puts as a transaction may have, from the write `first` on.
-fn put_all(
-    rows: &mut [u64; ROWS_LENT],
-    versions: &mut [u64; VERSIONS_LENT],
-    buckets: &mut [u64; BUCKETS_LENT],
-    lists: &mut [u64; LISTS_LENT],
-    before: Played,
-    number: u64,
-    first: u64,
-) -> Played {
-    let mut p = before;
-    let mut i: u64 = 0;
-    while i < WRITES {
-        let write = std::num::wrapping_add_u64(first, i);
-        let called = put(
-            rows,
-            versions,
-            buckets,
-            lists,
-            p.machine,
-            number,
-            row_of(write),
-            key_of(write),
-            write,
-        );
-        p = after(p.refusals, called);
-        i += 1;
+// A store, what its last step answered, and how many steps were refused so far.
+#[derive(Drop)]
+struct Player<'a> {
+    store: Store<'a>,
+    last: Answer,
+    refusals: u64,
+}
+
+impl Player<'_> {
+    // What a step answered, and its refusal counted.
+    fn heard(&mut self, answer: Answer) {
+        self.last = answer;
+        if matches!(answer, Answer::Refused(_)) {
+            self.refusals = self.refusals.wrapping_add(1);
+        }
     }
-    p
-}
 
-// What was written is prepared, installed, ended and published.
-fn finish(
-    rows: &mut [u64; ROWS_LENT],
-    versions: &mut [u64; VERSIONS_LENT],
-    buckets: &mut [u64; BUCKETS_LENT],
-    lists: &mut [u64; LISTS_LENT],
-    written: Played,
-    number: u64,
-) -> Played {
-    let prepared = after(
-        written.refusals,
-        prepare(rows, versions, buckets, lists, written.machine, number),
-    );
-    let installed = after(
-        prepared.refusals,
-        install(rows, versions, buckets, lists, prepared.machine, number),
-    );
-    let ended = after(
-        installed.refusals,
-        end(rows, versions, buckets, lists, installed.machine, number),
-    );
-    after(
-        ended.refusals,
-        publish(rows, versions, buckets, lists, ended.machine, number),
-    )
-}
-
-// One transaction writes as many rows as it may and is published.
-fn publish_one(
-    rows: &mut [u64; ROWS_LENT],
-    versions: &mut [u64; VERSIONS_LENT],
-    buckets: &mut [u64; BUCKETS_LENT],
-    lists: &mut [u64; LISTS_LENT],
-    before: Played,
-    first: u64,
-) -> Played {
-    let begun = after(
-        before.refusals,
-        begin(rows, versions, buckets, lists, before.machine),
-    );
-    let written = put_all(rows, versions, buckets, lists, begun, begun.value, first);
-    finish(rows, versions, buckets, lists, written, begun.value)
-}
-
-// Every version is made, by transactions with full lists of writes.
-fn fill(
-    rows: &mut [u64; ROWS_LENT],
-    versions: &mut [u64; VERSIONS_LENT],
-    buckets: &mut [u64; BUCKETS_LENT],
-    lists: &mut [u64; LISTS_LENT],
-    before: Played,
-) -> Played {
-    let mut p = before;
-    let mut first: u64 = 0;
-    while first < FILLED {
-        p = publish_one(rows, versions, buckets, lists, p, first);
-        first += WRITES;
+    // A transaction begins; its number is 0, which names nobody, where it was refused.
+    fn begin(&mut self) -> u64 {
+        let answer = self.store.begin();
+        self.heard(answer);
+        match answer {
+            Answer::Number(number) => number,
+            _ => 0,
+        }
     }
-    p
-}
 
-// Looks a key up: capture, collect, rows.
-fn look_up(
-    rows: &mut [u64; ROWS_LENT],
-    versions: &mut [u64; VERSIONS_LENT],
-    buckets: &mut [u64; BUCKETS_LENT],
-    lists: &mut [u64; LISTS_LENT],
-    before: Played,
-    number: u64,
-    key: u64,
-) -> Played {
-    let mut found = [0u64; MOST_ROWS];
-    let captured = after(
-        before.refusals,
-        capture(rows, versions, buckets, lists, before.machine, number, key),
-    );
-    let collected = after(
-        captured.refusals,
-        collect(rows, versions, buckets, lists, captured.machine, number),
-    );
-    after(
-        collected.refusals,
-        toruxeng::rows(
-            rows,
-            versions,
-            buckets,
-            lists,
-            &mut found,
-            collected.machine,
-            number,
-        ),
-    )
-}
-
-// As many keys as a transaction may are looked up, from that of the write `first` on.
-fn look_up_all(
-    rows: &mut [u64; ROWS_LENT],
-    versions: &mut [u64; VERSIONS_LENT],
-    buckets: &mut [u64; BUCKETS_LENT],
-    lists: &mut [u64; LISTS_LENT],
-    before: Played,
-    number: u64,
-    first: u64,
-) -> Played {
-    let mut p = before;
-    let mut i: u64 = 0;
-    while i < READS {
-        let key = key_of(std::num::wrapping_add_u64(first, i * ROWS_OF_KEY));
-        p = look_up(rows, versions, buckets, lists, p, number, key);
-        i += 1;
+    // As many puts as a transaction may have, from the write `first` on.
+    fn put_all(&mut self, number: u64, first: u64) {
+        for i in 0..WRITES {
+            let write = first.wrapping_add(i);
+            let answer = self.store.put(number, row_of(write), key_of(write), write);
+            self.heard(answer);
+        }
     }
-    p
-}
 
-// One transaction begins and fills its lists.
-fn begin_reader(
-    rows: &mut [u64; ROWS_LENT],
-    versions: &mut [u64; VERSIONS_LENT],
-    buckets: &mut [u64; BUCKETS_LENT],
-    lists: &mut [u64; LISTS_LENT],
-    before: Played,
-    first: u64,
-) -> Played {
-    let begun = after(
-        before.refusals,
-        begin(rows, versions, buckets, lists, before.machine),
-    );
-    let read = look_up_all(rows, versions, buckets, lists, begun, begun.value, first);
-    put_all(rows, versions, buckets, lists, read, begun.value, first)
-}
-
-// The readers begin, each with full lists.
-fn crowd(
-    rows: &mut [u64; ROWS_LENT],
-    versions: &mut [u64; VERSIONS_LENT],
-    buckets: &mut [u64; BUCKETS_LENT],
-    lists: &mut [u64; LISTS_LENT],
-    before: Played,
-) -> Played {
-    let mut p = before;
-    let mut i: u64 = 0;
-    while i < READERS {
-        let first = LAST_WRITES + i * RECORDS;
-        p = begin_reader(rows, versions, buckets, lists, p, first);
-        i += 1;
+    // What was written is prepared, installed, ended and published.
+    fn finish(&mut self, number: u64) {
+        let answer = self.store.prepare(number);
+        self.heard(answer);
+        let answer = self.store.install(number);
+        self.heard(answer);
+        let answer = self.store.end(number);
+        self.heard(answer);
+        let answer = self.store.publish(number);
+        self.heard(answer);
     }
-    p
+
+    // Every version is made, by transactions that write as many rows as they may.
+    fn fill(&mut self) {
+        for i in 0..FILLED / WRITES {
+            let number = self.begin();
+            self.put_all(number, i * WRITES);
+            self.finish(number);
+        }
+    }
+
+    // Looks a key up: capture, collect, rows.
+    fn look_up(&mut self, number: u64, key: u64) {
+        let answer = self.store.capture(number, key);
+        self.heard(answer);
+        let answer = self.store.collect(number);
+        self.heard(answer);
+        let answer = self.store.rows(&mut [0; MOST_ROWS], number);
+        self.heard(answer);
+    }
+
+    // As many keys as a transaction may are looked up, from that of the write `first` on.
+    fn look_up_all(&mut self, number: u64, first: u64) {
+        for i in 0..READS {
+            self.look_up(number, key_of(first.wrapping_add(i * ROWS_OF_KEY)));
+        }
+    }
+
+    // The readers begin, each with full lists.
+    fn crowd(&mut self) {
+        for i in 0..READERS {
+            let first = LAST_WRITES + i * RECORDS;
+            let number = self.begin();
+            self.look_up_all(number, first);
+            self.put_all(number, first);
+        }
+    }
+
+    // A transaction is validated so many times.
+    fn validate_all(&mut self, number: u64, count: u64) {
+        for _ in 0..count {
+            let answer = self.store.validate(number);
+            self.heard(answer);
+        }
+    }
+
+    // How many transactions have full lists.
+    fn full_count(&self) -> usize {
+        self.store
+            .machine
+            .txns
+            .iter()
+            .filter(|t| lists_full(**t))
+            .count()
+    }
 }
 
-// A transaction is validated so many times.
-fn validate_all(
-    rows: &mut [u64; ROWS_LENT],
-    versions: &mut [u64; VERSIONS_LENT],
-    buckets: &mut [u64; BUCKETS_LENT],
-    lists: &mut [u64; LISTS_LENT],
-    before: Played,
-    number: u64,
-    count: u64,
-) -> Played {
-    let mut p = before;
-    let mut i: u64 = 0;
-    while i < count {
-        let called = validate(rows, versions, buckets, lists, p.machine, number);
-        p = after(p.refusals, called);
-        i += 1;
+// What the last step answered, the refusals so far, clock and used.
+impl fmt::Display for Player<'_> {
+    fn fmt<W: fmt::Write>(&self, f: &mut fmt::Formatter<W>) -> fmt::Result {
+        let [number, value, ..] = numbers_of(self.last).list;
+        let refusals = self.refusals;
+        let clock = self.store.machine.clock;
+        let used = self.store.machine.used;
+        write!(
+            f,
+            "{number} {value}, refused so far {refusals}, clock {clock}, used {used}"
+        )
     }
-    p
 }
 
 // Whether no list of a transaction takes another entry.
 fn lists_full(t: Transaction) -> bool {
-    if t.reads_n != MOST_INDEX_READS {
-        return false;
-    }
-    if t.records_n != MOST_RECORDS {
-        return false;
-    }
-    t.writes_n == MOST_WRITES
-}
-
-// How many transactions have full lists.
-fn full_count(m: Machine) -> u64 {
-    let txns = m.txns;
-    let mut full: u64 = 0;
-    let mut i = 0;
-    while i < MOST_LIVE {
-        if lists_full(txns[i]) {
-            full = std::num::wrapping_add_u64(full, 1);
-        }
-        i += 1;
-    }
-    full
-}
-
-// Words and a number.
-fn say(rt: &impl Print, words: &str, number: u64) -> io::Result<()> {
-    print!(rt; "{words}{number}")
-}
-
-// A line: what was played, what the last step answered, the refusals so far, clock and used.
-fn tell(rt: &impl Print, words: &str, p: Played) -> io::Result<()> {
-    let m = p.machine;
-    say(rt, words, p.number)?;
-    say(rt, " ", p.value)?;
-    say(rt, ", refused so far ", p.refusals)?;
-    say(rt, ", clock ", m.clock)?;
-    say(rt, ", used ", m.used)?;
-    println!(rt)
+    t.reads_n == MOST_INDEX_READS && t.records_n == MOST_RECORDS && t.writes_n == MOST_WRITES
 }
 
 // The whole: filled, validated alone, validated in a crowd with full lists; and no ninth transaction begins.
-fn play(
-    rt: &impl Print,
-    rows: &mut [u64; ROWS_LENT],
-    versions: &mut [u64; VERSIONS_LENT],
-    buckets: &mut [u64; BUCKETS_LENT],
-    lists: &mut [u64; LISTS_LENT],
-    opened: Played,
-    counts: Counts,
-) -> io::Result<()> {
-    let filled = fill(rows, versions, buckets, lists, opened);
-    tell(rt, "filled, the last publish: ", filled)?;
-    let begun = after(
-        filled.refusals,
-        begin(rows, versions, buckets, lists, filled.machine),
-    );
-    let number = begun.value;
-    let alone = validate_all(rows, versions, buckets, lists, begun, number, counts.alone);
-    tell(rt, "one live, the last validate: ", alone)?;
-    let crowded = crowd(rows, versions, buckets, lists, alone);
-    tell(rt, "eight live, the last put: ", crowded)?;
-    say(rt, "with full lists: ", full_count(crowded.machine))?;
-    println!(rt)?;
-    let beside = validate_all(
-        rows,
-        versions,
-        buckets,
-        lists,
-        crowded,
-        number,
-        counts.beside,
-    );
-    tell(rt, "eight live, the last validate: ", beside)?;
-    let ninth = after(
-        beside.refusals,
-        begin(rows, versions, buckets, lists, beside.machine),
-    );
-    tell(rt, "a ninth begin: ", ninth)
+fn play(rt: &impl Print, player: &mut Player, counts: Counts) -> io::Result<()> {
+    let sizes = Sizes {
+        rows: MOST_ROWS as u64,
+        versions: MOST_VERSIONS as u64,
+        buckets: MOST_BUCKETS as u64,
+    };
+    let opened = player.store.open(sizes, 1);
+    player.heard(opened);
+    player.fill();
+    println!(rt; "filled, the last publish: {player}")?;
+    let number = player.begin();
+    player.validate_all(number, counts.alone);
+    println!(rt; "one live, the last validate: {player}")?;
+    player.crowd();
+    println!(rt; "eight live, the last put: {player}")?;
+    println!(rt; "with full lists: {}", player.full_count())?;
+    player.validate_all(number, counts.beside);
+    println!(rt; "eight live, the last validate: {player}")?;
+    player.begin();
+    println!(rt; "a ninth begin: {player}")
 }
 
 // A count with one digit more; what is no digit, and what would be too many, is passed over.
 fn with_digit(count: u64, byte: u8) -> u64 {
-    if byte < b'0' {
-        return count;
+    match byte {
+        b'0'..=b'9' if count < MOST_COUNT => 10 * count + u64::from(byte - b'0'),
+        _ => count,
     }
-    if byte > b'9' {
-        return count;
-    }
-    if count >= MOST_COUNT {
-        return count;
-    }
-    10 * count + (byte - b'0') as u64
 }
 
-// The counts on the first line and on the second.
+fn count_in(text: &[u8]) -> u64 {
+    text.iter().fold(0, |count, byte| with_digit(count, *byte))
+}
+
+// The counts on the first line and behind it.
 fn counts_of(text: &[u8]) -> Counts {
-    let mut alone: u64 = 0;
-    let mut beside: u64 = 0;
-    let mut first = true;
-    let mut at = 0;
-    while at < text.len() {
-        if text[at] == b'\n' {
-            first = false;
-        }
-        if first {
-            alone = with_digit(alone, text[at]);
-        } else {
-            beside = with_digit(beside, text[at]);
-        }
-        at += 1;
-    }
+    let end = text
+        .iter()
+        .position(|byte| *byte == b'\n')
+        .unwrap_or(text.len());
     Counts {
-        alone: alone,
-        beside: beside,
+        alone: count_in(&text[..end]),
+        beside: count_in(&text[end..]),
     }
 }
 
@@ -419,33 +242,17 @@ fn counts_read(rt: &(impl Input + AllocGlobal)) -> io::Result<Counts> {
 }
 
 fn main(rt: HostRuntime) -> io::Result<()> {
-    let mut rows = [0u64; ROWS_LENT];
-    let mut versions = [0u64; VERSIONS_LENT];
-    let mut buckets = [0u64; BUCKETS_LENT];
-    let mut lists = [0u64; LISTS_LENT];
     let counts = counts_read(&rt)?;
-    let opened = after(
-        0,
-        open(
-            &mut rows,
-            &mut versions,
-            &mut buckets,
-            &lists,
-            Sizes {
-                rows: MOST_ROWS as u64,
-                versions: MOST_VERSIONS as u64,
-                buckets: MOST_BUCKETS as u64,
-            },
-            1,
-        ),
-    );
-    play(
-        &rt,
-        &mut rows,
-        &mut versions,
-        &mut buckets,
-        &mut lists,
-        opened,
-        counts,
-    )
+    let mut player = Player {
+        store: Store {
+            rows: &mut [0; ROWS_LENT],
+            versions: &mut [0; VERSIONS_LENT],
+            buckets: &mut [0; BUCKETS_LENT],
+            lists: &mut [0; LISTS_LENT],
+            machine: closed(),
+        },
+        last: Answer::Done,
+        refusals: 0,
+    };
+    play(&rt, &mut player, counts)
 }

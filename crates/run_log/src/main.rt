@@ -1,7 +1,7 @@
 // Replays the log on standard input: the report goes to standard output, and a status other than 0 is named on standard error.
 #![tactic(auto)]
 
-use replay::toruxeng_replay;
+use replay::{HALF, toruxeng_replay};
 use std::io;
 use std::io::{Read, Write};
 
@@ -10,10 +10,8 @@ const MOST_LOG: usize = 262144;
 
 const MOST_REPORT: usize = 1048576;
 
-// The status stands above this, the bytes written below it.
-const HALF: u64 = 4294967296;
-
 // Says a status in words.
+// Stays a number: this is what the C function answers.
 fn name_status(rt: &impl Eprint, status: u64) -> io::Result<()> {
     match status {
         0 => Ok(()),
@@ -40,11 +38,10 @@ fn replay_input(
         );
     }
     let answer = toruxeng_replay(log.as_slice(), report);
-    let wrote = (answer % HALF) as usize;
-    if wrote > report.len() {
+    let Some(said) = report.get(..(answer % HALF) as usize) else {
         return Ok(());
-    }
-    if io::writer(rt).write_all(&report[0..wrote]).is_err() {
+    };
+    if io::writer(rt).write_all(said).is_err() {
         eprintln!(rt; "replay_log: the report could not be written")?;
     }
     name_status(rt, answer / HALF)

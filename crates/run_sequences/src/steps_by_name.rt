@@ -1,11 +1,8 @@
-// A step by its name: a call of the public function that does it.
-ghost use Rattle.std.specs.Prelude.{◌≤◌};
-
+// A step by its name: the method of the store that does it.
 use run_script::Line;
 use toruxeng::{
-    Answer, BUCKET_WORDS, Called, MOST_BUCKETS, MOST_LIVE, MOST_ROWS, MOST_VERSIONS, Machine,
-    ROW_WORDS, SLOT_WORDS, VERSION_WORDS, abort, begin, capture, collect, end, erase, install,
-    prepare, publish, put, validate,
+    Answer, BUCKET_WORDS, MOST_BUCKETS, MOST_LIVE, MOST_ROWS, MOST_VERSIONS, ROW_WORDS, SLOT_WORDS,
+    Sizes, Store, VERSION_WORDS,
 };
 
 // Words of the lent tables: an entry more than the largest sizes name, so that a size beyond is wrong by itself; and the room for rows.
@@ -19,166 +16,76 @@ pub const LISTS_LENT: usize = MOST_LIVE * SLOT_WORDS;
 
 pub const MOST_FOUND: usize = MOST_ROWS;
 
-// The steps' names, by their letters.
-const BEGIN: u64 = 0x626567696e;
-
-const CAPTURE: u64 = 0x63617074757265;
-
-const COLLECT: u64 = 0x636f6c6c656374;
-
-const ROWS: u64 = 0x726f7773;
-
-const PUT: u64 = 0x707574;
-
-const ERASE: u64 = 0x6572617365;
-
-const VALIDATE: u64 = 0x76616c6964617465;
-
-const PREPARE: u64 = 0x70726570617265;
-
-const INSTALL: u64 = 0x696e7374616c6c;
-
-const END: u64 = 0x656e64;
-
-const PUBLISH: u64 = 0x7075626c697368;
-
-const ABORT: u64 = 0x61626f7274;
-
-// What no step answers: its name is no step's.
-const NO_STEP: u64 = 99;
-
-// Install to abort; another name is no step.
-fn finishing_step(
-    rows: &mut [u64; ROWS_LENT],
-    versions: &mut [u64; VERSIONS_LENT],
-    buckets: &mut [u64; BUCKETS_LENT],
-    lists: &mut [u64; LISTS_LENT],
-    m: Machine,
-    line: Line,
-) -> Called {
-    let n = line.numbers;
-    if line.name == INSTALL {
-        return install(rows, versions, buckets, lists, m, n[0]);
-    }
-    if line.name == END {
-        return end(rows, versions, buckets, lists, m, n[0]);
-    }
-    if line.name == PUBLISH {
-        return publish(rows, versions, buckets, lists, m, n[0]);
-    }
-    if line.name == ABORT {
-        return abort(rows, versions, buckets, lists, m, n[0]);
-    }
-    Called {
-        answer: Answer::Refused(NO_STEP),
-        machine: m,
-    }
+// A table without the words that are held back.
+fn lent(table: &mut [u64], back: u64) -> &mut [u64] {
+    let words = table.len().saturating_sub(back as usize);
+    &mut table[..words]
 }
 
-// Put to prepare, and then the others.
-fn writing_step(
-    rows: &mut [u64; ROWS_LENT],
-    versions: &mut [u64; VERSIONS_LENT],
-    buckets: &mut [u64; BUCKETS_LENT],
-    lists: &mut [u64; LISTS_LENT],
-    m: Machine,
-    line: Line,
-) -> Called {
-    let n = line.numbers;
-    if line.name == PUT {
-        return put(rows, versions, buckets, lists, m, n[0], n[1], n[2], n[3]);
-    }
-    if line.name == ERASE {
-        return erase(rows, versions, buckets, lists, m, n[0], n[1]);
-    }
-    if line.name == VALIDATE {
-        return validate(rows, versions, buckets, lists, m, n[0]);
-    }
-    if line.name == PREPARE {
-        return prepare(rows, versions, buckets, lists, m, n[0]);
-    }
-    finishing_step(rows, versions, buckets, lists, m, line)
-}
-
-// How much of the list is lent: the room that rows names, or all of it.
-fn room_of(room: u64, most: usize) -> usize
-    ensures { result ≤ most }
+// A step in tables of which so many words of rows, versions, buckets and lists are held back.
+fn in_part<S: FnOnce(&mut Store) -> Answer>(store: &mut Store, back: [u64; 4], step: S) -> Answer
+    requires { S.IsAlwaysCallable step }
 {
-    if room < most as u64 {
-        return room as usize;
-    }
-    most
+    let mut part = Store {
+        rows: lent(store.rows, back[0]),
+        versions: lent(store.versions, back[1]),
+        buckets: lent(store.buckets, back[2]),
+        lists: lent(store.lists, back[3]),
+        machine: store.machine,
+    };
+    let answer = step(&mut part);
+    store.machine = part.machine;
+    answer
 }
 
-fn read_rows(
-    rows: &mut [u64; ROWS_LENT],
-    versions: &mut [u64; VERSIONS_LENT],
-    buckets: &mut [u64; BUCKETS_LENT],
-    lists: &mut [u64; LISTS_LENT],
-    found: &mut [u64],
-    m: Machine,
-    line: Line,
-) -> Called {
+// Whether a line's name is that of the first step.
+pub fn is_open(line: Line) -> bool {
+    matches!(&line.name.to_be_bytes(), b"\0\0\0\0open")
+}
+
+// Open, in tables of which some words may be held back.
+pub fn opened(store: &mut Store, line: Line) -> Answer {
     let n = line.numbers;
-    let lent = room_of(n[1], found.len());
-    toruxeng::rows(rows, versions, buckets, lists, &mut found[..lent], m, n[0])
-}
-
-// How much of a table is lent: all but the words that are held back.
-pub fn lent(most: usize, back: u64) -> usize
-    ensures { result ≤ most }
-{
-    if back < most as u64 {
-        return most - back as usize;
-    }
-    0
-}
-
-// Begin, in tables of which some words may be held back.
-fn begun(
-    rows: &mut [u64],
-    versions: &mut [u64],
-    buckets: &mut [u64],
-    lists: &mut [u64],
-    m: Machine,
-    line: Line,
-) -> Called {
-    let n = line.numbers;
-    let rows_lent = lent(rows.len(), n[0]);
-    let versions_lent = lent(versions.len(), n[1]);
-    let buckets_lent = lent(buckets.len(), n[2]);
-    let lists_lent = lent(lists.len(), n[3]);
-    begin(
-        &mut rows[..rows_lent],
-        &mut versions[..versions_lent],
-        &mut buckets[..buckets_lent],
-        &mut lists[..lists_lent],
-        m,
+    let sizes = Sizes {
+        rows: n[0],
+        versions: n[1],
+        buckets: n[2],
+    };
+    in_part(
+        store,
+        [n[4], n[5], n[6], n[7]],
+        |part| part.open(sizes, n[3]),
     )
 }
 
-// Begin to rows, and then the others.
-pub fn any_step(
-    rows: &mut [u64; ROWS_LENT],
-    versions: &mut [u64; VERSIONS_LENT],
-    buckets: &mut [u64; BUCKETS_LENT],
-    lists: &mut [u64; LISTS_LENT],
-    found: &mut [u64; MOST_FOUND],
-    m: Machine,
-    line: Line,
-) -> Called {
+// Begin, in tables of which some words may be held back.
+fn begun(store: &mut Store, line: Line) -> Answer {
     let n = line.numbers;
-    if line.name == BEGIN {
-        return begun(rows, versions, buckets, lists, m, line);
+    in_part(store, [n[0], n[1], n[2], n[3]], |part| part.begin())
+}
+
+// Rows, with so much of the list lent as the line names room for.
+fn read_rows(store: &mut Store, found: &mut [u64], line: Line) -> Answer {
+    let lent = found.len().min(line.numbers[1] as usize);
+    store.rows(&mut found[..lent], line.numbers[0])
+}
+
+// The step that a line names, but for open; none for another name.
+pub fn any_step(store: &mut Store, found: &mut [u64], line: Line) -> Option<Answer> {
+    let n = line.numbers;
+    match &line.name.to_be_bytes() {
+        b"\0\0\0begin" => Some(begun(store, line)),
+        b"\0capture" => Some(store.capture(n[0], n[1])),
+        b"\0collect" => Some(store.collect(n[0])),
+        b"\0\0\0\0rows" => Some(read_rows(store, found, line)),
+        b"\0\0\0\0\0put" => Some(store.put(n[0], n[1], n[2], n[3])),
+        b"\0\0\0erase" => Some(store.erase(n[0], n[1])),
+        b"validate" => Some(store.validate(n[0])),
+        b"\0prepare" => Some(store.prepare(n[0])),
+        b"\0install" => Some(store.install(n[0])),
+        b"\0\0\0\0\0end" => Some(store.end(n[0])),
+        b"\0publish" => Some(store.publish(n[0])),
+        b"\0\0\0abort" => Some(store.abort(n[0])),
+        _ => None,
     }
-    if line.name == CAPTURE {
-        return capture(rows, versions, buckets, lists, m, n[0], n[1]);
-    }
-    if line.name == COLLECT {
-        return collect(rows, versions, buckets, lists, m, n[0]);
-    }
-    if line.name == ROWS {
-        return read_rows(rows, versions, buckets, lists, found, m, line);
-    }
-    writing_step(rows, versions, buckets, lists, m, line)
 }

@@ -1,9 +1,0 @@
--- The loop of `run_sequences::expected`.
-use Rattle.std.proofs.Common.{◌-◌, ◌≤◌}
-use Rattle.run_sequences.proofs.expected.Given as goal
-
-abbrev pub invariant-loop-i : goal.invariant-loop-i
-invariant-loop-i l = l.i ≤ 8
-
-abbrev pub decreases-loop-i : goal.decreases-loop-i
-decreases-loop-i l = 8 - l.i

@@ -1,6 +1,0 @@
--- The loop of `run_sequences::play_all`.
-use Rattle.std.proofs.Common.{length, ◌-◌}
-use Rattle.run_sequences.proofs.play_all.Given as goal
-
-abbrev pub decreases-loop-at : goal.decreases-loop-at
-decreases-loop-at g l = length l.file - l.at
