@@ -60,29 +60,26 @@ refusal_told model.Conflict = why.Conflict
 refusal_told model.Malformed = why.Malformed
 refusal_told model.WrongShape = why.WrongShape
 
--- the refusal that is told
-abbrev pub refusal_view : Refusal → model.Refusal
-refusal_view why.WrongSize = model.WrongSize
-refusal_view why.NoNumbers = model.NoNumbers
-refusal_view why.Full = model.Full
-refusal_view why.NoSuch = model.NoSuch
-refusal_view why.WrongPhase = model.WrongPhase
-refusal_view why.NoRow = model.NoRow
-refusal_view why.Taken = model.Taken
-refusal_view why.Stale = model.Stale
-refusal_view why.Marked = model.Marked
-refusal_view why.ManyReads = model.ManyReads
-refusal_view why.NoRoom = model.NoRoom
-refusal_view why.ManyRecords = model.ManyRecords
-refusal_view why.ManyWrites = model.ManyWrites
-refusal_view why.NoVersions = model.NoVersions
-refusal_view why.Conflict = model.Conflict
-refusal_view why.Malformed = model.Malformed
-refusal_view why.WrongShape = model.WrongShape
-
--- document 01's number for a refusal as the code has it
+-- document 01's number for a refusal as the code has it; any other number is told as it is
 abbrev pub number_told : Refusal → ℕ
-number_told r = model.refusal_number (refusal_view r)
+number_told why.WrongSize = model.refusal_number model.WrongSize
+number_told why.NoNumbers = model.refusal_number model.NoNumbers
+number_told why.Full = model.refusal_number model.Full
+number_told why.NoSuch = model.refusal_number model.NoSuch
+number_told why.WrongPhase = model.refusal_number model.WrongPhase
+number_told why.NoRow = model.refusal_number model.NoRow
+number_told why.Taken = model.refusal_number model.Taken
+number_told why.Stale = model.refusal_number model.Stale
+number_told why.Marked = model.refusal_number model.Marked
+number_told why.ManyReads = model.refusal_number model.ManyReads
+number_told why.NoRoom = model.refusal_number model.NoRoom
+number_told why.ManyRecords = model.refusal_number model.ManyRecords
+number_told why.ManyWrites = model.refusal_number model.ManyWrites
+number_told why.NoVersions = model.refusal_number model.NoVersions
+number_told why.Conflict = model.refusal_number model.Conflict
+number_told why.Malformed = model.refusal_number model.Malformed
+number_told why.WrongShape = model.refusal_number model.WrongShape
+number_told (why.Other number) = number
 
 -- how an answer is told: of found rows how many they are
 abbrev pub told : machine.Answer → Answer

@@ -82,6 +82,7 @@ pub enum Verdict {
 }
 
 // Why a step is refused. `Stale` and `Marked` have one number.
+// No step answers `Other`: it is any number that a program tells as a refusal of its own.
 #[derive(Clone, Copy, PartialEq, Eq)]
 pub enum Refusal {
     WrongSize,
@@ -101,9 +102,10 @@ pub enum Refusal {
     Conflict,
     Malformed,
     WrongShape,
+    Other(u64),
 }
 
-// Document 01's number.
+// Document 01's number, and another one as it is.
 impl From<Refusal> for u64 {
     ghost from_gives = { λ why n. n ≡ number_told why };
 
@@ -126,6 +128,7 @@ impl From<Refusal> for u64 {
             Refusal::Conflict => 14,
             Refusal::Malformed => 15,
             Refusal::WrongShape => 16,
+            Refusal::Other(number) => number,
         }
     }
 }

@@ -136,7 +136,6 @@ impl Line {
 }
 
 // Where the line at a place ends: behind its `;`, or where the text ends.
-// Stays though no crate calls it now: docs/PROMISES.md names it.
 // Stays a `for`: with `position` it is no plainer. The text may end before the place, so it takes a `get(from..)` with a text for none, and a case for each.
 #[tactic(auto, using(crate::proofs::Reading::end_next, crate::proofs::Reading::end_past), unfolding(crate::specs::Script::step_end))]
 pub fn step_end(text: &[u8], from: usize) -> usize

@@ -6,7 +6,7 @@
 use anyhow::{Context, Result};
 use report_answers::{Numbers, numbers_of};
 use run_changes::{WordName, change, look};
-use run_script::{ANSWER, Line, Sign, line_of};
+use run_script::{ANSWER, Line, Sign, line_of, step_end};
 use std::alloc::Global;
 use std::io::{Read, Write};
 use std::rt::Files;
@@ -18,15 +18,11 @@ use toruxeng::{Store, closed};
 
 mod steps_by_name; // steps_by_name.rt: a method of the store for each step
 
-// What a line answers whose name is no step's.
-// Stays a number beside the answers: data/README.md says it to those who write sequences, and what the program prints may not change.
-const NO_STEP: u64 = 99;
-
 // The bytes of a file that are read.
 const MOST_FILE: usize = 65536;
 
 // A number with nothing after it.
-// Stays beside report_answers' `number_alone`: that tells an answer, and is private there; this tells a word or a bad name, neither of which is an answer.
+// Stays beside report_answers' `number_alone`: that tells an answer, and is private there; this tells a word, which is none.
 fn alone(number: u64) -> Numbers {
     Numbers {
         list: [number, 0, 0, 0, 0],
@@ -52,7 +48,7 @@ fn any_word(store: &mut Store, line: Line) -> Option<Numbers> {
 // A step, or a word.
 fn any_line(store: &mut Store, found: &mut [u64], line: Line) -> Option<Numbers> {
     match line.sign {
-        Some(Sign::Step) => Some(any_step(store, found, line).map_or(alone(NO_STEP), numbers_of)),
+        Some(Sign::Step) => Some(numbers_of(any_step(store, found, line))),
         _ => any_word(store, line),
     }
 }
@@ -92,21 +88,24 @@ fn play(rt: &impl Print, name: &[u8], text: &[u8]) -> io::Result<()> {
         machine: closed(),
     };
     let mut found = [7; MOST_FOUND];
-    let mut lines = text.split_inclusive(|byte| *byte == b';');
-    let first = line_of(text, 0, lines.next().map_or(0, |line| line.len()));
+    let mut at = step_end(text, 0);
+    let first = line_of(text, 0, at);
     let begun = numbers_of(opened(&mut store, first));
     io::writer(rt).write_all(name)?;
     if !is_open(first) || !expected(begun, &found, first) {
         return differed(rt, 1, Some(begun));
     }
     let mut step: u64 = 1;
-    for written in lines {
-        let line = line_of(written, 0, written.len());
+    // Stays a `while`: no index is counted, `step_end` says where each line ends.
+    while at < text.len() {
+        let end = step_end(text, at);
+        let line = line_of(text, at, end);
         let told = any_line(&mut store, &mut found, line);
         step = step.wrapping_add(1);
         if !told.is_some_and(|numbers| expected(numbers, &found, line)) {
             return differed(rt, step, told);
         }
+        at = end;
     }
     println!(rt; " ok")
 }

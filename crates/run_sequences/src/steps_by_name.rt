@@ -1,8 +1,8 @@
 // A step by its name: the method of the store that does it.
 use run_script::Line;
 use toruxeng::{
-    Answer, BUCKET_WORDS, MOST_BUCKETS, MOST_LIVE, MOST_ROWS, MOST_VERSIONS, ROW_WORDS, SLOT_WORDS,
-    Sizes, Store, VERSION_WORDS,
+    Answer, BUCKET_WORDS, MOST_BUCKETS, MOST_LIVE, MOST_ROWS, MOST_VERSIONS, ROW_WORDS, Refusal,
+    SLOT_WORDS, Sizes, Store, VERSION_WORDS,
 };
 
 // Words of the lent tables: an entry more than the largest sizes name, so that a size beyond is wrong by itself; and the room for rows.
@@ -15,6 +15,10 @@ pub const BUCKETS_LENT: usize = (MOST_BUCKETS + 1) * BUCKET_WORDS;
 pub const LISTS_LENT: usize = MOST_LIVE * SLOT_WORDS;
 
 pub const MOST_FOUND: usize = MOST_ROWS;
+
+// What a line is refused with whose name is no step's.
+// Stays a number: data/README.md says it to those who write sequences, and what the program prints may not change.
+const NO_STEP: u64 = 99;
 
 // A table without the words that are held back.
 fn lent(table: &mut [u64], back: u64) -> &mut [u64] {
@@ -70,22 +74,22 @@ fn read_rows(store: &mut Store, found: &mut [u64], line: Line) -> Answer {
     store.rows(&mut found[..lent], line.numbers[0])
 }
 
-// The step that a line names, but for open; none for another name.
-pub fn any_step(store: &mut Store, found: &mut [u64], line: Line) -> Option<Answer> {
+// The step that a line names, but for open; another name is refused.
+pub fn any_step(store: &mut Store, found: &mut [u64], line: Line) -> Answer {
     let n = line.numbers;
     match &line.name.to_be_bytes() {
-        b"\0\0\0begin" => Some(begun(store, line)),
-        b"\0capture" => Some(store.capture(n[0], n[1])),
-        b"\0collect" => Some(store.collect(n[0])),
-        b"\0\0\0\0rows" => Some(read_rows(store, found, line)),
-        b"\0\0\0\0\0put" => Some(store.put(n[0], n[1], n[2], n[3])),
-        b"\0\0\0erase" => Some(store.erase(n[0], n[1])),
-        b"validate" => Some(store.validate(n[0])),
-        b"\0prepare" => Some(store.prepare(n[0])),
-        b"\0install" => Some(store.install(n[0])),
-        b"\0\0\0\0\0end" => Some(store.end(n[0])),
-        b"\0publish" => Some(store.publish(n[0])),
-        b"\0\0\0abort" => Some(store.abort(n[0])),
-        _ => None,
+        b"\0\0\0begin" => begun(store, line),
+        b"\0capture" => store.capture(n[0], n[1]),
+        b"\0collect" => store.collect(n[0]),
+        b"\0\0\0\0rows" => read_rows(store, found, line),
+        b"\0\0\0\0\0put" => store.put(n[0], n[1], n[2], n[3]),
+        b"\0\0\0erase" => store.erase(n[0], n[1]),
+        b"validate" => store.validate(n[0]),
+        b"\0prepare" => store.prepare(n[0]),
+        b"\0install" => store.install(n[0]),
+        b"\0\0\0\0\0end" => store.end(n[0]),
+        b"\0publish" => store.publish(n[0]),
+        b"\0\0\0abort" => store.abort(n[0]),
+        _ => Answer::Refused(Refusal::Other(NO_STEP)),
     }
 }

@@ -26,6 +26,10 @@ tells refused found (tell.Refused r) = refused (number_told r)
 pub numbers-of-refusal-valued : Excludes held_of (tells (λ n. value_held n 0) (λ n. value_held n n))
 numbers-of-refusal-valued = apart (tell.Refused why.Taken) (λ (s : Numbers). get_or s.list 0 0) refl
 
+-- `numbers_of`: a number that is none of document 01's is told as 16
+pub numbers-of-other-as-16 : Excludes (λ (number : ℕ). held_of (tell.Refused (why.Other number))) (λ number. held_of (tell.Refused why.WrongShape))
+numbers-of-other-as-16 = apart 99 (λ (s : Numbers). get_or s.list 0 0) refl
+
 -- `numbers_of`: found rows are counted and not said
 pub numbers-of-rows-unsaid : Excludes held_of (tells number_held (λ n. value_held n 0))
 numbers-of-rows-unsaid = apart (tell.Rows 1) (λ (s : Numbers). s.rows) refl

@@ -8,12 +8,13 @@ use lib.Dec.{eqb, leb}
 use lib.ListN.{get_or}
 use Rattle.base_limits.specs.Limits.{most_rows}
 use Rattle.model.specs.Store.{rank, phase_holding, phase_prepared, phase_installed, bucket_in, key_in}
-use Rattle.model.specs.Refusals.{WrongPhase, Taken, Marked, ManyWrites}
+use Rattle.model.specs.Refusals.{WrongPhase, Taken, Marked, ManyWrites, WrongShape}
 use Rattle.base_protocol.specs.View.{refusal_told}
 use Rattle.table.specs.Fields.{first_of}
 use Rattle.table.specs.Lists.{writes}
 use Rattle.table_postings.specs.Postings.{list_for, follow, keyed_of, listed_with}
 use Rattle.base_protocol.specs.declared.Refusal.{Refusal}
+use Rattle.base_protocol.specs.declared.Refusal.TheVariants as refused
 use Rattle.txn.specs.declared.Phase.{Phase}
 use Rattle.txn.specs.declared.Phase.TheVariants as phase
 use Rattle.txn.specs.declared.Transaction.{Transaction}
@@ -122,6 +123,11 @@ refused-marks = apart (idle_of 0, refusal_told WrongPhase) (λ (a : Answered). b
 -- `refused`: always with number 5
 pub refused-always-5 : Excludes {A = Transaction × Refusal} (λ (t, why). refused_of t why) (λ (t, why). refused_of t (refusal_told WrongPhase))
 refused-always-5 = apart (idle_of 0, refusal_told Taken) (λ (a : Answered). number_in a.answer) refl
+
+-- `refused`: a number that is none of document 01's is told as 16
+pub refused-other-as-16 : Excludes {A = Transaction × ℕ} (λ (t, number). refused_of t (refused.Other number))
+    (λ (t, number). refused_of t (refusal_told WrongShape))
+refused-other-as-16 = apart (idle_of 0, 99) (λ (a : Answered). number_in a.answer) refl
 
 -- `with_phase`: the phase stays
 pub with-phase-stays : Excludes {A = Transaction × Phase} (λ (t, ph). with_phase t ph) (λ (t, ph). t)
