@@ -1,16 +1,17 @@
 -- The scans of the verdict at one place, and at the end.
 -- Assumes nothing.
-use Prim.Native.Nat.{ℕ, zero, suc, ◌+◌, ◌<◌, min}
+use Prim.Native.Nat.{ℕ, zero, suc, ◌+◌, ◌<◌, ◌≤◌, min}
 use mathlib.Core.Path.{◌≡◌, refl, sym, ◌∙◌}
 use mathlib.Core.Bool.{Bool, true, false, cond, not, ◌&&◌, ◌||◌, and-false, or_assoc, or-false}
+use mathlib.Core.Logic.{◌≢◌}
 use mathlib.Core.List.{List, map}
 use native.Mathlib.Numerals.{add-one}
 use native.Mathlib.Decide.{dec_lt}
 use native.Mathlib.Omega.{arith}
-use borrow.Author.Tests.{ltb-true}
+use borrow.Author.Tests.{ltb-true, eq-eqb, ne_eqb}
 use lib.Dec.{eqb, leb, ltb}
-use lib.ListN.{length, get_or, take}
-use lib.Seq.{take_all}
+use lib.ListN.{length, get_or, take, drop, drop_of_length-le}
+use lib.Seq.{take_all, drop-cons}
 use Rattle.std.specs.Prelude.{Option, Some, None}
 use Rattle.std.specs.List.{find, range_with_len}
 use Rattle.std.specs.Option.{option_map}
@@ -23,10 +24,11 @@ use Rattle.table.specs.Fields.{xmin_of, xmax_of}
 use Rattle.table.specs.declared.lists.ReadRecord.{ReadRecord}
 use Rattle.table_chain.specs.Chain.{active_of}
 use Rattle.table_chain.specs.declared.Snapshot.{Snapshot}
-use Rattle.txn.specs.View.{snapshot_view, record_view}
-use Rattle.table.specs.Lists.{Kind, start_of, entry_at, list_at}
-use Rattle.table.proofs.Spans.{list-map, list_length, list-at}
-use Rattle.write_verdict.specs.Judged.{versions_view, first_where, ended_by, outright, looked_for}
+use Rattle.txn.specs.View.{snapshot_view, record_view, records_in}
+use Rattle.txn.specs.declared.Transaction.{Transaction}
+use Rattle.table.specs.Lists.{Kind, records, record_of, start_of, entry_at, list_at, record_at}
+use Rattle.table.proofs.Spans.{list-map, list-drop, list_length, list-at}
+use Rattle.write_verdict.specs.Judged.{versions_view, first_where, bad_in, ended_by, outright, looked_for}
 
 -- the entries of a slot's list, each seen through `view`: how many there are, and which stands at a place
 module _ {A B : Type 0} (view : A → B) (f : List ℕ → A) (k : Kind) (xs : List ℕ) (s n : ℕ) where
@@ -35,6 +37,20 @@ module _ {A B : Type 0} (view : A → B) (f : List ℕ → A) (k : Kind) (xs : L
 
   pub entries_at : (i : ℕ) (d : B) → i < n → get_or (map view (list_at f k xs s n)) i d ≡ view (entry_at f k xs s i)
   entries_at i d h = rw (list-map view f k.w (start_of k s) xs n) (list-at (λ ws. view (f ws)) k.w (start_of k s) xs n i d h)
+
+-- a test on those entries, from place i on, where x is read there
+module _ {A B : Type 0} (test : B → Bool) (view : A → B) (f : List ℕ → A) (k : Kind) (xs : List ℕ) (s n i : ℕ) where
+  where_next : (x : A) → x ≡ entry_at f k xs s i → i < n
+      → first_where test i (drop i (map view (list_at f k xs s n)))
+      ≡ cond (test (view x)) (Some i) (first_where test (i + 1) (drop (i + 1) (map view (list_at f k xs s n))))
+  unfolding first_where
+  where_next x e h = rw (e, list-map view f k.w (start_of k s) xs n, list-drop (λ ws. view (f ws)) k.w (start_of k s) xs n i (view x) h, add-one)
+
+  where-end : n ≤ i → first_where test i (drop i (map view (list_at f k xs s n))) ≡ None
+  unfolding first_where
+  where-end h =
+      let l : length (map view (list_at f k xs s n)) ≤ i = omega (arith, entries-length view f k xs s n) in
+      rw (drop_of_length-le (map view (list_at f k xs s n)) l)
 
 -- the place of the first number at which a test of its entry holds, counted from k
 first_found : {B : Type 0} (test : B → Bool) (h : ℕ → B) (k n : ℕ)
@@ -82,3 +98,33 @@ module _ (versions : List ℕ) (n : ℕ) (s : Snapshot) (r : ReadRecord) (long :
       || member (ended_by versions r.ptr n) (take (looked_for (ended_by versions r.ptr n) s) s.active))
   unfolding bad_record
   bad-split = bad-by (xmax_of versions r.ptr) _ _ _ refl refl refl (not (eqb (xmin_of versions r.ptr) r.xmin))
+
+-- what the scan comes to from place i on
+abbrev pub records_from : List ℕ → List ℕ → Transaction → ℕ → Option ℕ
+records_from versions lists t i = first_where (bad_in versions t) i (drop i (records_in lists t))
+
+pub records-end : (versions lists : List ℕ) (t : Transaction) (i : ℕ) → t.records_n ≤ i → records_from versions lists t i ≡ None
+records-end versions lists t i h = where-end (bad_in versions t) record_view record_of records lists t.slot t.records_n i h
+
+-- the read record at place i, where x is read there and e ended its version: it has changed outright or by an active number, or those after it tell
+pub record-next : (versions lists : List ℕ) (t : Transaction) → length t.snapshot.active ≡ most_active → (i : ℕ) (x : ReadRecord) (e : ℕ)
+    → x ≡ record_at lists t.slot i → e ≡ ended_by versions x.ptr t.number → i < t.records_n
+    → (o : Bool) → outright versions x e t.snapshot.xmax ≡ o → records_from versions lists t i
+    ≡ cond (o || member e (take (looked_for e t.snapshot) t.snapshot.active)) (Some i) (records_from versions lists t (i + 1))
+record-next versions lists t long i x e ex ee h o eo =
+    where_next (bad_in versions t) record_view record_of records lists t.slot t.records_n i x ex h
+    ∙ rw (bad-split versions t.number t.snapshot x long, ← ee, eo)
+
+-- the number at place j of those that are looked at, and none left: spelled so that the check's own search finds them
+module _ (l : List ℕ) (j x : ℕ) where
+  pub active_here : j < length l → get_or l j 0 ≡ x → member x (drop j l) ≡ true
+  unfolding member
+  active_here h e = rw (drop-cons l j 0, eq-eqb _ _ (sym e))
+
+  pub active_past : j < length l → get_or l j 0 ≢ x → member x (drop j l) ≡ member x (drop (j + 1) l)
+  unfolding member
+  active_past h e = rw (add-one, drop-cons l j 0, ne_eqb x (get_or l j 0) (λ q. e (sym q)))
+
+  pub active_end : length l ≤ j → member x (drop j l) ≡ false
+  unfolding member
+  active_end h = rw (drop_of_length-le l h)

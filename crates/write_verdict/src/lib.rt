@@ -2,9 +2,9 @@
 #![tactic(auto)]
 
 ghost use Rattle.std.specs.Prelude.{◌≡◌};
-ghost use Rattle.txn.specs.View.{read_view, record_view, snapshot_view};
-ghost use Rattle.model.specs.Verdict.{bad_read, bad_record};
-ghost use Rattle.write_verdict.specs.Judged.{versions_view, stamps_view, changed_read, changed_record, bucket_told, row_told};
+ghost use Rattle.txn.specs.View.{read_view};
+ghost use Rattle.model.specs.Verdict.{bad_read};
+ghost use Rattle.write_verdict.specs.Judged.{stamps_view, changed_read, changed_record, bucket_told, row_told};
 ghost use Rattle.write_verdict.specs.Judged.{ended_by, outright, looked_for, verdict_of};
 
 use base_limits::MOST_ACTIVE;
@@ -13,7 +13,7 @@ use table::lists::{IndexRead, ReadRecord, read_at, record_at};
 use table::{stamp_at, xmax_at, xmin_at};
 use table_buckets::stamp_precedes_snapshot;
 use table_chain::Snapshot;
-use table_scans::{active_contains, least_of};
+use table_scans::least_of;
 use txn::Transaction;
 
 // Whether an index read's bucket has changed: its present stamp differs, or is not below the number.
@@ -59,23 +59,29 @@ fn looked_for(ended: u64, s: &Snapshot) -> usize
     }
 }
 
-// Whether a read record has changed: outright, or ended by a number that is active.
-fn record_changed(versions: &[u64], read: ReadRecord, number: u64, s: &Snapshot) -> bool
-    ensures { result ≡ bad_record (versions_view versions.now) number (snapshot_view s.now) (record_view read) }
-{
-    let ended = ended_by(versions, read.ptr, number);
-    changed_outright(versions, read, ended, s.xmax)
-        || active_contains(&s.active, looked_for(ended, s), ended)
-}
-
-// The place of the first read record that has changed, or none.
+// The place of the first read record that has changed, or none. A record has changed outright, or where one of the active numbers ended its version.
+// Stays a scan in a scan, left by a label: a rule of the project, the form that document 01 names (docs/DECISIONS.md).
+#[tactic(auto, using(crate::proofs::Laws::active_here, crate::proofs::Laws::active_past, crate::proofs::Laws::active_end))]
 pub fn has_serialization_conflict(versions: &[u64], lists: &[u64], t: Transaction) -> Option<u32>
     ensures { result ≡ changed_record versions.now lists.now t }
 {
-    (0..t.records_n).find(|i| {
-        let read = record_at(lists, t.slot, *i);
-        record_changed(versions, read, t.number, &t.snapshot)
-    })
+    let s = &t.snapshot;
+    let mut changed = None;
+    'records: for i in 0..t.records_n {
+        let read = record_at(lists, t.slot, i);
+        let ended = ended_by(versions, read.ptr, t.number);
+        if changed_outright(versions, read, ended, s.xmax) {
+            changed = Some(i);
+            break 'records;
+        }
+        for number in &s.active[..looked_for(ended, s)] {
+            if *number == ended {
+                changed = Some(i);
+                break 'records;
+            }
+        }
+    }
+    changed
 }
 
 // The verdict on a bucket, where index read i has changed.

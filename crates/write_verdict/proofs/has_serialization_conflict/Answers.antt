@@ -1,16 +1,26 @@
--- The first entry at which the test holds.
-use Rattle.std.proofs.Common.{arith, rules, tests}
-use Rattle.std.proofs.lemmas.Iterator.{YieldsList-from_range}
-use Rattle.std.proofs.lemmas.Iterator.Search.{find_from_yields_List}
-use Rattle.table.specs.Lists.{records, record_of, record_at}
-use Rattle.txn.specs.View.{record_view}
-use Rattle.write_verdict.specs.Judged.{bad_in}
-use Rattle.write_verdict.proofs.Laws.{found_where}
+-- A record that has changed outright, one that the active numbers are left to tell of, and none left.
+use Rattle.std.proofs.Common.{◌≡◌, ◌∙◌, true, false, sym, rules, length}
+use Rattle.base_limits.specs.Limits.{most_active}
+use Rattle.write_verdict.proofs.Laws.{record-next, records-end}
 use Rattle.write_verdict.proofs.has_serialization_conflict.Goals as goal
 
-pub returns : goal.returns
-returns c =
-    let t = c.args.t in
-    found_where (bad_in c.args.versions.now t) record_view record_of records c.args.lists.now t.slot t.records_n c.find.result
-    (find_from_yields_List (λ i. bad_in c.args.versions.now t (record_view (record_at c.args.lists.now t.slot i))) _ _ c.find.result
-    c.find.ensures.ran (YieldsList-from_range 0 t.records_n t.records_n (cc) (omega arith)) (λ x b q k. search (rules, tests)))
+pub returns-then-changed_outright : goal.returns-then-changed_outright
+returns-then-changed_outright c =
+    let a = c.args in
+    let long : length a.t.snapshot.active ≡ most_active = search rules in
+    let here = record-next a.versions.now a.lists.now a.t long c.records.i c.record_at-read.result c.ended_by-ended.result
+    c.record_at-read.ensures c.ended_by-ended.ensures c.records-test.true true (sym c.changed_outright.ensures ∙ c.if-changed_outright.true) in
+    sym (c.records.invariant.1 ∙ here)
+
+pub loop-number-init : goal.loop-number-init
+loop-number-init c =
+    let a = c.args in
+    let long : length a.t.snapshot.active ≡ most_active = search rules in
+    let here = record-next a.versions.now a.lists.now a.t long c.records.i c.record_at-read.result c.ended_by-ended.result
+    c.record_at-read.ensures c.ended_by-ended.ensures c.records-test.true false (sym c.changed_outright.ensures ∙ c.if-changed_outright.false) in
+    (c.records.invariant.0, c.records.invariant.1 ∙ rw (← c.looked_for.ensures) at here)
+
+pub returns-after-records : goal.returns-after-records
+returns-after-records c =
+    let a = c.args in
+    c.records.invariant.0 ∙ sym (c.records.invariant.1 ∙ records-end a.versions.now a.lists.now a.t c.records.i c.records-test.false)
