@@ -74,6 +74,8 @@ fn nexts_fall(versions: &[u64], used: u64) -> bool
 }
 
 // Whether used pointers, heads and nexts are in range.
+// A call of its own: put in line into a step, its loops load again at each turn what the step holds besides.
+#[inline(never)]
 pub fn chains_fit(rows: &[u64], versions: &[u64], sizes: Sizes, used: u64) -> bool
     ensures { result ≡ chains_fit rows.now versions.now sizes used }
 {

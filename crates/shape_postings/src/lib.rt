@@ -53,6 +53,8 @@ fn lists_end(rows: &[u64], row_count: u64, last: &[u16; MOST_ROWS]) -> bool
 }
 
 // Whether the lists tell the postings, over no more rows than their limit and a table that holds them.
+// A call of its own, as `shape_chains::chains_fit` is.
+#[inline(never)]
 pub fn lists_tell(rows: &[u64], row_count: u64) -> bool
     ensures { result ≡ told_within rows.now row_count }
 {
