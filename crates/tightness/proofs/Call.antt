@@ -24,6 +24,14 @@ use Rattle.tightness.proofs.Apart.{apart, number_in}
 use Rattle.tightness.proofs.Computes.{computes}
 use Rattle.tightness.proofs.Small.{Lent, over, sizes, lent, machine, shape}
 
+-- `closed`: of the sizes of a store
+pub closed-of-sizes : Excludes (λ (u : Unit {0}). closed_of) (λ u. fresh_of sizes 0)
+closed-of-sizes = apart tt (λ (m : Machine). m.sizes.rows) refl
+
+-- `closed`: its clock is 1 and not 0
+pub closed-clock-1 : Excludes (λ (u : Unit {0}). closed_of) (λ u. fresh_of closed_of.sizes 1)
+closed-clock-1 = apart tt (λ (m : Machine). m.clock) refl
+
 -- what open is given: the lent tables, the sizes and the clock
 abbrev Given : Type 0
 Given = List ℕ × List ℕ × List ℕ × List ℕ × Sizes × ℕ

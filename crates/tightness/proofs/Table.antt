@@ -15,6 +15,7 @@ use Rattle.table.specs.declared.lists.IndexRead.{IndexRead}
 use Rattle.table.specs.declared.lists.Write.{Write}
 use Rattle.table.specs.declared.lists.ReadRecord.{ReadRecord}
 use Rattle.table.proofs.Spans.{words-at}
+use Rattle.txn_needs.specs.Needs.{front}
 use Rattle.tightness.specs.Wrong.{Excludes}
 use Rattle.tightness.proofs.Apart.{apart, either_way, itself}
 use Rattle.tightness.proofs.Computes.{computes}
@@ -212,12 +213,20 @@ put-candidate-nothing = apart (room_for candidates, 0, 0, 1) (first_word candida
 pub put-candidate-place : Excludes put_candidate (λ (xs, s, i, row). put_candidate (xs, s, i, i))
 put-candidate-place = apart (room_for candidates, 0, 0, 1) (first_word candidates) refl
 
--- what the contracts of `set_stamps` and `set_holders` ask for
+-- what the contracts of `Listing::as_slice` (`txn_needs`), by which callers cut a list, and then of `set_stamps` or `set_holders` ask for together,
+-- of the first n words of the list
 abbrev sets_stamps : List ℕ × List ℕ × ℕ × ℕ → List ℕ
-sets_stamps (buckets, list, n, stamp) = set_stamps buckets stamp (take n list)
+sets_stamps (buckets, list, n, stamp) = set_stamps buckets stamp (front (record { out = list; n = n }))
 
 abbrev sets_holders : List ℕ × List ℕ × ℕ × ℕ → List ℕ
-sets_holders (buckets, list, n, number) = set_holders buckets number (take n list)
+sets_holders (buckets, list, n, number) = set_holders buckets number (front (record { out = list; n = n }))
+
+-- what the contracts of `set_stamps` and `set_holders` ask for by themselves, of a whole slice
+abbrev stamps_slice : List ℕ × List ℕ × ℕ → List ℕ
+stamps_slice (buckets, list, stamp) = set_stamps buckets stamp list
+
+abbrev holds_slice : List ℕ × List ℕ × ℕ → List ℕ
+holds_slice (buckets, list, number) = set_holders buckets number list
 
 -- two buckets, 0 free and 1 held by 5, and what stands in the first
 abbrev pub two : List ℕ
@@ -247,3 +256,22 @@ set-stamps-holds = either_way set-holders-stamps
 pub set-stamps-first : Excludes sets_stamps (λ (buckets, list, n, stamp). sets_stamps (buckets, list, min n 1, stamp))
 unfolding computes
 set-stamps-first = apart (two, 1 ∷ 0 ∷ [], 2, 6) stamp₀ refl
+
+-- `set_holders` of a slice: the number becomes the stamp
+pub set-holders-slice-stamps : Excludes holds_slice stamps_slice
+unfolding computes
+set-holders-slice-stamps = apart (two, 0 ∷ [], 6) holder₀ refl
+
+-- `set_holders` of a slice: only the first bucket
+pub set-holders-slice-first : Excludes holds_slice (λ (buckets, list, number). set_holders buckets number (take 1 list))
+unfolding computes
+set-holders-slice-first = apart (two, 1 ∷ 0 ∷ [], 6) holder₀ refl
+
+-- `set_stamps` of a slice: the stamp becomes the holder
+pub set-stamps-slice-holds : Excludes stamps_slice holds_slice
+set-stamps-slice-holds = either_way set-holders-slice-stamps
+
+-- `set_stamps` of a slice: only the first bucket
+pub set-stamps-slice-first : Excludes stamps_slice (λ (buckets, list, stamp). set_stamps buckets stamp (take 1 list))
+unfolding computes
+set-stamps-slice-first = apart (two, 1 ∷ 0 ∷ [], 6) stamp₀ refl

@@ -5,7 +5,7 @@ use mathlib.Core.Path.{refl}
 use mathlib.Core.Bool.{Bool, true, false, cond, not, ◌||◌}
 use mathlib.Core.List.{List, [], ◌∷◌, map}
 use lib.Dec.{eqb, leb}
-use lib.ListN.{get_or, set, take}
+use lib.ListN.{length, get_or, set, take, replicate}
 use Rattle.base_limits.specs.Limits.{most_writes}
 use Rattle.base_lists.specs.Lists.{some_of, all_of, join}
 use Rattle.model.specs.Store as model
@@ -20,7 +20,7 @@ use Rattle.txn.specs.declared.Transaction.{Transaction}
 use Rattle.txn_needs.specs.declared.Key.{Key}
 use Rattle.txn_needs.specs.Keys as keys
 use Rattle.txn_needs.specs.Keys.{key_of, no_key, version_key, old_key_of, written_at, new_key_of, gets_version_of, keys_of, same_keys, changed_keys}
-use Rattle.txn_needs.specs.Needs.{Listed, push_one, push_all, buckets_for, keys_need, reads_need, rows_written, written_by, writes_need, writes_change}
+use Rattle.txn_needs.specs.Needs.{Listed, push_one, push_all, front, buckets_for, keys_need, reads_need, rows_written, written_by, writes_need, writes_change}
 use Rattle.txn_needs.specs.Taken as spec
 use Rattle.tightness.specs.Wrong.{Excludes}
 use Rattle.tightness.proofs.Apart.{apart, bit, count}
@@ -134,6 +134,33 @@ pub gets-version-under-head : Excludes gets_version
 unfolding computes
 gets-version-under-head = apart (headed, keyed_by 3, erases, 0, 1, 0) bit refl
 
+-- what the contracts of `new` and `as_slice` of a listing ask for
+abbrev new : List ℕ → Listed
+new out = record { out = out; n = 0 }
+
+abbrev as_slice : Listed → List ℕ
+as_slice l = front l
+
+-- the first of some words
+abbrev word₀ : List ℕ → ℕ
+word₀ xs = get_or xs 0 0
+
+-- `new`: every word counts as listed
+pub new-all-listed : Excludes new (λ out. record { out = out; n = length out })
+new-all-listed = apart (7 ∷ []) count refl
+
+-- `new`: the lent words become 0
+pub new-words-cleared : Excludes new (λ out. record { out = replicate (length out) 0; n = 0 })
+new-words-cleared = apart (7 ∷ []) (λ (l : Listed). word₀ l.out) refl
+
+-- `as_slice`: every lent word, and not only those listed
+pub as-slice-all-words : Excludes as_slice (λ l. l.out)
+as-slice-all-words = apart (record { out = 7 ∷ []; n = 0 }) word₀ refl
+
+-- `as_slice`: the last that is listed is left out
+pub as-slice-last-missed : Excludes as_slice (λ l. front (record { out = l.out; n = l.n - 1 }))
+as-slice-last-missed = apart (record { out = 7 ∷ []; n = 1 }) word₀ refl
+
 -- numbers put behind the first n of a list
 abbrev pushed : List ℕ → ℕ → List ℕ → Listed
 pushed out n xs = push_all (record { out = out; n = n }) xs
@@ -235,19 +262,27 @@ pub push-changes-unmade-too : Excludes push_changes
 unfolding computes
 push-changes-unmade-too = apart (row, chain 6, erases, 4, writes 5 1 phase.Ended, room) count refl
 
--- what the contracts of the functions over the first n buckets of a list ask for
+-- what the contracts of `as_slice`, by which callers cut a list, and then of `any_taken` or `release_all` ask for together, of the first n words of the list
 abbrev any_taken : List ℕ × List ℕ × ℕ × ℕ → Bool
-any_taken (buckets, list, n, number) = spec.any_taken buckets (take n list) number
+any_taken (buckets, list, n, number) = spec.any_taken buckets (front (record { out = list; n = n })) number
 
 abbrev release_all : List ℕ × List ℕ × ℕ × ℕ → List ℕ
-release_all (buckets, list, n, number) = fields.clear_holders buckets number (take n list)
+release_all (buckets, list, n, number) = fields.clear_holders buckets number (front (record { out = list; n = n }))
+
+-- what the contracts of `any_taken` and `release_all` ask for by themselves, of a whole slice
+abbrev taken_slice : List ℕ × List ℕ × ℕ → Bool
+taken_slice (buckets, list, number) = spec.any_taken buckets list number
+
+abbrev release_slice : List ℕ × List ℕ × ℕ → List ℕ
+release_slice (buckets, list, number) = fields.clear_holders buckets number list
 
 -- who holds the second bucket
 abbrev holder₁ : List ℕ → ℕ
 holder₁ xs = get_or xs 3 0
 
 -- `any_taken`: the number's own buckets count
-pub any-taken-own : Excludes any_taken (λ (buckets, list, n, number). some_of (λ b. not (eqb (fields.holder_of buckets b) 0)) (take n list))
+pub any-taken-own : Excludes any_taken
+    (λ (buckets, list, n, number). some_of (λ b. not (eqb (fields.holder_of buckets b) 0)) (front (record { out = list; n = n })))
 unfolding computes
 any-taken-own = apart (two, 1 ∷ [], 1, 5) bit refl
 
@@ -257,7 +292,7 @@ unfolding computes
 any-taken-behind = apart (two, 0 ∷ 1 ∷ [], 1, 6) bit refl
 
 -- `release_all`: freed whoever holds them
-pub release-all-of-others : Excludes release_all (λ (buckets, list, n, number). fields.set_holders buckets 0 (take n list))
+pub release-all-of-others : Excludes release_all (λ (buckets, list, n, number). fields.set_holders buckets 0 (front (record { out = list; n = n })))
 unfolding computes
 release-all-of-others = apart (two, 1 ∷ [], 1, 6) holder₁ refl
 
@@ -265,6 +300,26 @@ release-all-of-others = apart (two, 1 ∷ [], 1, 6) holder₁ refl
 pub release-all-nothing : Excludes release_all (λ (buckets, list, n, number). buckets)
 unfolding computes
 release-all-nothing = apart (two, 1 ∷ [], 1, 5) holder₁ refl
+
+-- `any_taken` of a slice: the number's own buckets count
+pub any-taken-slice-own : Excludes taken_slice (λ (buckets, list, number). some_of (λ b. not (eqb (fields.holder_of buckets b) 0)) list)
+unfolding computes
+any-taken-slice-own = apart (two, 1 ∷ [], 5) bit refl
+
+-- `any_taken` of a slice: only the first bucket is looked at
+pub any-taken-slice-first : Excludes taken_slice (λ (buckets, list, number). spec.any_taken buckets (take 1 list) number)
+unfolding computes
+any-taken-slice-first = apart (two, 0 ∷ 1 ∷ [], 6) bit refl
+
+-- `release_all` of a slice: freed whoever holds them
+pub release-all-slice-of-others : Excludes release_slice (λ (buckets, list, number). fields.set_holders buckets 0 list)
+unfolding computes
+release-all-slice-of-others = apart (two, 1 ∷ [], 6) holder₁ refl
+
+-- `release_all` of a slice: only the first bucket is freed
+pub release-all-slice-first : Excludes release_slice (λ (buckets, list, number). fields.clear_holders buckets number (take 1 list))
+unfolding computes
+release-all-slice-first = apart (two, 0 ∷ 1 ∷ [], 5) holder₁ refl
 
 -- what the contracts of the functions over the pending rows ask for
 abbrev any_claimed : List ℕ × List ℕ × Transaction → Bool
