@@ -1,7 +1,6 @@
 // The vectors over lent tables: whatever stands in them the answer is the same, words past the sizes keep their contents, and a word too few is refused.
-use super::{ENDED, FILL, MOST_REPORT, Vector, long_at};
+use super::{ENDED, FILL, MOST_REPORT, Vector, WRONG_SHAPE, long_at};
 use base_limits::{MOST_BUCKETS, MOST_LIVE, MOST_ROWS, MOST_VERSIONS};
-use base_protocol::Refusal;
 use replay::toruxeng_replay_lent;
 use table::lists::SLOT_WORDS;
 use table::{BUCKET_WORDS, ROW_WORDS, VERSION_WORDS};
@@ -135,7 +134,7 @@ impl Vector<'_> {
         let refused = Vector {
             log: self.log,
             room: MOST_REPORT,
-            status: u64::from(Refusal::WrongShape),
+            status: WRONG_SHAPE,
             first: b"open 16\n",
             last: b"",
         };

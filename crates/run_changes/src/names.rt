@@ -6,7 +6,7 @@ ghost use Rattle.run_changes.specs.WordNames.{word_named};
 const NAMES_COUNT: usize = 43;
 
 // The names, in the order of the words.
-static NAMES: [[u8; 8]; NAMES_COUNT] = [
+const NAMES: [[u8; 8]; NAMES_COUNT] = [
     *b"\0\0\0\0head",
     *b"\0\0\0claim",
     *b"\0\0posted",
