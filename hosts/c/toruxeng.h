@@ -9,10 +9,10 @@
 #include <stddef.h>
 #include <stdint.h>
 
-#define TORUXENG_VERSION "0.6.1"
+#define TORUXENG_VERSION "0.6.2"
 #define TORUXENG_VERSION_MAJOR 0
 #define TORUXENG_VERSION_MINOR 6
-#define TORUXENG_VERSION_PATCH 1
+#define TORUXENG_VERSION_PATCH 2
 
 /* What a store can be opened with at most; room for more rows than it can have is room for all of them. */
 #define TORUXENG_MOST_ROWS 1024
